@@ -1,0 +1,24 @@
+//! Times, rows, changes and messages: the words that every other crate speaks in.
+//!
+//! `specs/` defines the canonical order of rows, bags of rows, what a change does to one, and which
+//! lists of messages are legal. `canonical_order` is the law of that order. A copy equals its source.
+#![tactic(auto)]
+
+mod change;
+mod field;
+mod memory;
+mod payload;
+mod row;
+mod text;
+mod time;
+
+pub use change::{Change, Message};
+pub use field::{Field, FieldType};
+pub use memory::OutOfMemory;
+pub use payload::Payload;
+pub use row::{Row, RowFault, canonical_order, sort_rows};
+pub use text::Text;
+pub use time::{FOREVER, Time, later};
+
+#[cfg(test)]
+mod tests;

@@ -1,0 +1,106 @@
+use super::*;
+use std::alloc::Global;
+use std::test::Fail;
+
+fn payload(alloc: Global, texts: &[&[u8]]) -> Result<Payload, OutOfMemory> {
+    let mut payload = Payload::new(alloc);
+    for text in texts {
+        payload.push(Field::Bytes(Text::from_slice(alloc, text)?))?;
+    }
+    Ok(payload)
+}
+
+#[test]
+fn later_ends_at_forever(rt: HostRuntime) {
+    assert_eq!(rt; later(5, 7), 12);
+    assert_eq!(rt; later(FOREVER - 1, 1), FOREVER);
+    assert_eq!(rt; later(FOREVER - 1, 1_099_511_627_776), FOREVER);
+    assert_eq!(rt; later(FOREVER, 0), 4_611_686_018_427_387_904);
+}
+
+#[test]
+fn a_row_has_times_in_range_and_lives(rt: HostRuntime) {
+    let alloc = rt.alloc();
+    for (begin, end, fault) in [
+        (FOREVER - 1, FOREVER, None),
+        (0, 1, None),
+        (FOREVER, FOREVER, Some(RowFault::BadTime)),
+        (9, FOREVER + 1, Some(RowFault::BadTime)),
+        (FOREVER, 3, Some(RowFault::BadTime)),
+        (9, 9, Some(RowFault::EmptyLife)),
+        (9, 8, Some(RowFault::EmptyLife)),
+    ] {
+        let found = Row::new(begin, end, Payload::new(alloc)).err();
+        assert_eq!(rt; found, fault, "begin {begin} end {end}");
+    }
+}
+
+/// One field: a number where there is one, else the text.
+fn one_field(alloc: Global, number: Option<i128>, text: &[u8]) -> Result<Payload, OutOfMemory> {
+    let mut payload = Payload::new(alloc);
+    let field = match number {
+        Some(number) => Field::Number(number),
+        None => Field::Bytes(Text::from_slice(alloc, text)?),
+    };
+    payload.push(field)?;
+    Ok(payload)
+}
+
+#[test]
+fn payloads_are_in_order(rt: HostRuntime) -> Result<(), Fail> {
+    let alloc = rt.alloc();
+    let mut payloads = vec![in alloc; Payload::new(alloc)]?;
+    for (number, text) in [
+        (Some(-3), b"".as_slice()),
+        (Some(10), b""),
+        (None, b""),
+        (None, b"a"),
+    ] {
+        payloads.push(one_field(alloc, number, text)?)?;
+    }
+    payloads.push(payload(alloc, &[b"a", b"a"])?)?;
+    for text in [b"ab".as_slice(), b"b", b"\xff"] {
+        payloads.push(payload(alloc, &[text])?)?;
+    }
+    for (i, low) in payloads.iter().enumerate() {
+        assert!(rt; *low == low.copy(alloc)?, "payload {i} and its copy");
+        for high in payloads.iter().skip(i + 1) {
+            assert!(rt; low < high, "payload {i} comes first");
+        }
+    }
+    Ok(())
+}
+
+#[test]
+fn payloads_are_joined_left_then_right(rt: HostRuntime) -> Result<(), Fail> {
+    let alloc = rt.alloc();
+    let joined = payload(alloc, &[b"a"])?.joined(alloc, &payload(alloc, &[b"b", b"c"])?)?;
+    assert!(rt; joined == payload(alloc, &[b"a", b"b", b"c"])?);
+    assert_eq!(rt; joined.fields().len(), 3);
+    let text = Text::from_slice(alloc, b"machine 7")?;
+    assert_eq!(rt; text.copy(alloc)?.bytes(), b"machine 7".as_slice());
+    Ok(())
+}
+
+#[test]
+fn rows_are_sorted(rt: HostRuntime) -> Result<(), Fail> {
+    let alloc = rt.alloc();
+    let mut rows = Vec::new(alloc);
+    for (begin, end, text) in [
+        (3, FOREVER, b"a"),
+        (1, 9, b"b"),
+        (1, 5, b"z"),
+        (1, 9, b"a"),
+        (0, 9, b"z"),
+    ] {
+        rows.push(Row::new(begin, end, payload(alloc, &[text])?)?)?;
+    }
+    sort_rows(&mut rows)?;
+    let mut times = Vec::new(alloc);
+    for row in &rows {
+        times.push((row.begin, row.end))?;
+    }
+    let wanted = [(1, 5), (0, 9), (1, 9), (1, 9), (3, FOREVER)];
+    assert_eq!(rt; times.as_slice(), wanted.as_slice());
+    Ok(())
+}
