@@ -1,0 +1,28 @@
+-- The forms of ids and times.
+use Rattle.std.specs.Prelude.{ℕ, ◌-◌, ◌^◌, ◌&&◌, Bool, false, nat_le, List, [], ◌∷◌, Option, None, Some, if◌then◌else◌, codes}
+use Rattle.std.specs.List.{list_all}
+use Rattle.std.specs.Char.{is_ascii_digit}
+use Rattle.std.specs.Str.{bytes_eq}
+use Rattle.std.specs.Str.Parse.{digits_value}
+use Rattle.cedr_base.specs.declared.time.TheConstants.{FOREVER}
+
+-- one digit or more
+abbrev pub is_numeral : List ℕ → Bool
+is_numeral [] = false
+is_numeral (c ∷ cs) = list_all is_ascii_digit (c ∷ cs)
+
+-- the number that the digits spell, where it is at most this one
+abbrev pub whole_number : ℕ → List ℕ → Option ℕ
+whole_number last text = if is_numeral text && nat_le (digits_value 10 text) last then Some (digits_value 10 text) else None
+
+-- an id has 64 bits
+abbrev pub id_value : List ℕ → Option ℕ
+id_value text = whole_number (2 ^ 64 - 1) text
+
+-- a finite time, as a begin has to be
+abbrev pub begin_value : List ℕ → Option ℕ
+begin_value text = whole_number (FOREVER - 1) text
+
+-- a finite time, or `inf`
+abbrev pub time_value : List ℕ → Option ℕ
+time_value text = if bytes_eq text (codes "inf") then Some FOREVER else whole_number (FOREVER - 1) text

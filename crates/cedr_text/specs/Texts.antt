@@ -1,0 +1,55 @@
+-- Times, fields and rows as text. Each row is one line.
+use Rattle.std.specs.Prelude.{ℕ, ◌==◌, ◌||◌, Bool, List, [], ◌∷◌, ◌++◌, codes, decimal, if◌then◌else◌}
+use Rattle.std.specs.Fmt.{signed_decimal}
+use Rattle.std.specs.List.{list_any, flat_map}
+use Rattle.cedr_base.specs.declared.time.TheConstants.{FOREVER}
+use Rattle.cedr_base.specs.declared.row.Row.{Row}
+use Rattle.cedr_base.specs.declared.field.Field.{Field}
+use Rattle.cedr_base.specs.declared.field.Field.TheVariants.{Number, Bytes}
+
+abbrev pub comma : ℕ
+comma = 44
+
+abbrev pub quote : ℕ
+quote = 34
+
+abbrev pub carriage_return : ℕ
+carriage_return = 13
+
+abbrev pub line_feed : ℕ
+line_feed = 10
+
+-- decimal digits without leading zeros, or `inf`
+abbrev pub time_text : ℕ → List ℕ
+time_text t = if t == FOREVER then codes "inf" else decimal t
+
+-- a byte that a bare field can't have
+abbrev pub is_special : ℕ → Bool
+is_special b = (b == comma) || (b == quote) || (b == carriage_return) || (b == line_feed)
+
+-- a quote inside a quoted field stands twice
+abbrev pub doubled : ℕ → List ℕ
+doubled b = if b == quote then quote ∷ quote ∷ [] else b ∷ []
+
+abbrev pub quoted : List ℕ → List ℕ
+quoted text = quote ∷ (flat_map doubled text ++ quote ∷ [])
+
+-- a text is quoted exactly where it has a special byte
+abbrev pub text_text : List ℕ → List ℕ
+text_text text = if list_any is_special text then quoted text else text
+
+abbrev pub field_text : Field → List ℕ
+field_text (Number n) = signed_decimal n
+field_text (Bytes text) = text_text text
+
+-- each field of a payload stands behind a comma
+abbrev pub payload_text : List Field → List ℕ
+payload_text fields = flat_map (λ field. comma ∷ field_text field) fields
+
+-- `BEGIN,END,FIELD..` and a line feed
+abbrev pub row_text : Row → List ℕ
+row_text row = time_text row.begin ++ comma ∷ (time_text row.end ++ (payload_text row.payload ++ line_feed ∷ []))
+
+-- rows one after the other
+abbrev pub rows_text : List Row → List ℕ
+rows_text rows = flat_map row_text rows

@@ -1,0 +1,150 @@
+use super::*;
+use cedr_base::{FOREVER, Field, OutOfMemory, Payload, Row, Text, Time};
+use std::alloc::Global;
+use std::test::Fail;
+
+/// The reading of a line of texts, or the number of its fault: 98 for a line that can't be read yet,
+/// 99 for want of memory.
+fn read(alloc: Global, line: &[u8]) -> Result<Option<EventLine>, u8> {
+    if has_quoting(line) {
+        return Err(98);
+    }
+    match read_line(alloc, line, &Shape::AnyText) {
+        Ok(event) => Ok(event),
+        Err(ReadLineFault::Line(fault)) => Err(fault.number()),
+        Err(ReadLineFault::OutOfMemory) => Err(99),
+    }
+}
+
+#[test]
+fn a_faulty_line_has_its_least_fault(rt: HostRuntime) -> Result<(), Fail> {
+    for (line, wanted) in [
+        (b"*,1,2,3".as_slice(), 2),
+        (b"+", 2),
+        (b" ", 2),
+        (b"+,1,2", 2),
+        (b"+,x,y,z,1,2,3,4,5,6,7,8,9,10,11,12,13,14,15,16,17", 2),
+        (b"-,1", 2),
+        (b"-,1,2,3", 2),
+        (b"=", 2),
+        (b"=,1,2", 2),
+        (b"++,1,2,3", 2),
+        (b"\xef\xbb\xbf+,1,2,3", 2),
+        (b"+,,1,2", 3),
+        (b"+,18446744073709551616,1,2", 3),
+        (b"+,1,4611686018427387904,inf", 3),
+        (b"+,1,inf,inf", 3),
+        (b"+,1,1,4611686018427387904", 3),
+        (b"+,+1,1,2", 3),
+        (b"+,1,-1,2", 3),
+        (b"+,x,9,1", 3),
+        (b"-,1,infinite", 3),
+        (b"=, 1", 3),
+        (b"+,1,9,9", 4),
+        (b"+,1,9,8", 4),
+    ] {
+        assert_eq!(rt; read(rt.alloc(), line).err(), Some(wanted));
+    }
+    Ok(())
+}
+
+/// The events' fields are printed as a text, so that a table can have the wanted ones.
+fn shown(alloc: Global, event: Option<EventLine>) -> Result<Vec<u8>, OutOfMemory> {
+    let mut out = Vec::new(alloc);
+    match event {
+        None => out.extend_from_slice(b"nothing")?,
+        Some(EventLine::Insert { id, row }) => {
+            write_time(id, &mut out)?;
+            out.push(b' ')?;
+            write_row(&row, &mut out)?;
+        }
+        Some(EventLine::Retract { id, end }) => {
+            write_time(id, &mut out)?;
+            out.extend_from_slice(b" ends at ")?;
+            write_time(end, &mut out)?;
+        }
+        Some(EventLine::Promise(time)) => {
+            out.extend_from_slice(b"from ")?;
+            write_time(time, &mut out)?;
+        }
+    }
+    Ok(out)
+}
+
+#[test]
+fn a_line_in_form_has_its_reading(rt: HostRuntime) -> Result<(), Fail> {
+    let alloc = rt.alloc();
+    for (line, wanted) in [
+        (b"".as_slice(), b"nothing".as_slice()),
+        (b"+,7,1,10", b"7 1,10\n"),
+        (b"+,7,1,10,", b"7 1,10,\n"),
+        (b"+,0,0,inf,a,,b c", b"0 0,inf,a,,b c\n"),
+        (
+            b"+,007,0001,4611686018427387903,=",
+            b"7 1,4611686018427387903,=\n",
+        ),
+        (
+            b"+,1,2,3,1,2,3,4,5,6,7,8,9,10,11,12,13,14,15,16",
+            b"1 2,3,1,2,3,4,5,6,7,8,9,10,11,12,13,14,15,16\n",
+        ),
+        (
+            b"-,18446744073709551615,0",
+            b"18446744073709551615 ends at 0",
+        ),
+        (b"-,3,inf", b"3 ends at inf"),
+        (b"=,0", b"from 0"),
+        (b"=,inf", b"from inf"),
+    ] {
+        let event = read(alloc, line).ok().ok_or("the line is in form")?;
+        assert_eq!(rt; shown(alloc, event)?.as_slice(), wanted);
+    }
+    Ok(())
+}
+
+#[test]
+fn a_text_is_quoted_exactly_where_it_has_to_be(rt: HostRuntime) -> Result<(), Fail> {
+    let alloc = rt.alloc();
+    let mut payload = Payload::new(alloc);
+    payload.push(Field::Number(-170141183460469231731687303715884105728))?;
+    payload.push(Field::Number(0))?;
+    for text in [
+        b"".as_slice(),
+        b"a b",
+        b"a,\"b",
+        b"\"",
+        b"x\r",
+        b"y\nz",
+        b"\xff",
+        b"'",
+    ] {
+        payload.push(Field::Bytes(Text::from_slice(alloc, text)?))?;
+    }
+    let row = Row::new(5, FOREVER, payload)?;
+    let mut out = Vec::from_slice(alloc, b"before:")?;
+    write_row(&row, &mut out)?;
+    let wanted =
+        b"before:5,inf,-170141183460469231731687303715884105728,0,,a b,\"a,\"\"b\",\"\"\"\",\"x\r\",\"y\nz\",\xff,'\n";
+    assert_eq!(rt; out.as_slice(), wanted.as_slice());
+    Ok(())
+}
+
+#[test]
+fn each_fault_has_its_number(rt: HostRuntime) {
+    let faults = [
+        LineFault::LineTooLong,
+        LineFault::BadForm,
+        LineFault::BadNumber,
+        LineFault::EmptyLife,
+        LineFault::BadField,
+        LineFault::KnownId,
+        LineFault::UnknownId,
+        LineFault::BadEnd { begin: 1, end: 2 },
+        LineFault::BeforeGuarantee { sync: 1, mark: 2 },
+        LineFault::TooLarge,
+    ];
+    let mut wanted = 0u8;
+    for fault in faults {
+        wanted = wanted.saturating_add(1);
+        assert_eq!(rt; fault.number(), wanted);
+    }
+}
