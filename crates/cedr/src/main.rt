@@ -1,0 +1,68 @@
+//! The program `cedr`: real files and streams around the top call.
+#![tactic(auto)]
+
+use cedr_io::{DiskFiles, OpenGate, OutsideFault, StdSink, write_all};
+use cedr_run::{Status, run};
+use std::io::ErrorKind;
+use std::process::ExitCode;
+use std::{env, io};
+
+const HELP: &str = "usage: cedr history FILE
+
+Writes the canonical history of an event file to standard output: for each event its
+valid interval and payload as the file's retractions leave them, one row a line, by
+end, then by begin, then by payload. Events whose valid interval is empty are left out.
+
+cedr --help and cedr --version print this text and the version.
+
+Exit status: 0 done, 1 the command line matches no command, 3 the events have a fault,
+4 a read fault, 5 a write fault, 6 out of memory.
+";
+
+const VERSION: &str = "cedr 0.1.0\n";
+
+fn main(rt: HostRuntime) -> ExitCode {
+    let status = match words(&rt) {
+        Ok(words) => answer(&rt, &words),
+        Err(error) if error.kind() == ErrorKind::OutOfMemory => Status::OutOfMemory,
+        // A word that is no text matches no command, as no word does.
+        Err(_) => answer(&rt, &[]),
+    };
+    ExitCode::from(status.code())
+}
+
+/// The words behind the program's name.
+fn words(rt: &HostRuntime) -> io::Result<Vec<String>> {
+    let words = env::args(rt)?.skip(1).collect(rt.alloc())?;
+    Ok(words)
+}
+
+fn answer(rt: &HostRuntime, words: &[String]) -> Status {
+    let mut out = StdSink::out(rt);
+    if let [word] = words {
+        match word.as_str() {
+            "--help" => return print(&mut out, HELP),
+            "--version" => return print(&mut out, VERSION),
+            _ => {}
+        }
+    }
+    let mut files = DiskFiles::new(rt);
+    let mut err = StdSink::err(rt);
+    run(
+        rt,
+        rt.alloc(),
+        words,
+        &mut files,
+        &mut out,
+        &mut err,
+        &OpenGate,
+    )
+}
+
+fn print(out: &mut StdSink, text: &str) -> Status {
+    match write_all(out, text.as_bytes()) {
+        Ok(()) => Status::Done,
+        Err(OutsideFault::Failed) => Status::Write,
+        Err(OutsideFault::OutOfMemory) => Status::OutOfMemory,
+    }
+}

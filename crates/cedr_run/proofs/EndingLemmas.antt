@@ -1,0 +1,171 @@
+-- How a call that ran `history` ends, from how that went.
+use Rattle.std.proofs.Common.{◌≡◌, ◌≢◌, ℕ, ◌⊎◌, inl, inr, List, [], ◌∷◌, length, Option, None, Some, refl, sym, ◌∙◌, subst, arith}
+use Rattle.std.specs.Prelude.{IfSome}
+use Rattle.std.specs.Io.KnownBytes.{Appends, Keeps}
+use Rattle.std.proofs.lemmas.List.{take_all, append-nil}
+use Rattle.cedr_io.specs.Asked.{AppendsFront}
+use Rattle.cedr_run.specs.declared.answer.Answer.{Answer}
+use Rattle.cedr_run.specs.declared.answer.Answer.TheVariants.{Rows, Faulty, NotBuilt}
+use Rattle.cedr_run.specs.declared.outcome.Outcome.{Outcome}
+use Rattle.cedr_run.specs.declared.outcome.Outcome.TheVariants as outcome
+use Rattle.cedr_run.specs.declared.status.Status.{Status}
+use Rattle.cedr_run.specs.declared.status.Status.TheVariants as status
+use Rattle.cedr_run.specs.Answers.{answer_text}
+use Rattle.cedr_run.specs.Files.{AsksFirst}
+use Rattle.cedr_run.specs.Ending.{FilesSeen, SinkSeen, NoneRose, Writes, Completes, IsRefusal, Tells, Ends, known_answer, refused_text}
+use Rattle.cedr_run.specs.Outcomes.{status_of, told_text, HistoryEnds}
+
+-- ---- what was written is a front of the answer's text
+
+nothing_is_front : (old new : Option (List ℕ)) (text : List ℕ) → Keeps old new → AppendsFront old new text
+nothing_is_front None new text keeps = record { count = 0; grows = tt }
+nothing_is_front (Some xs) None text keeps = absurd keeps
+nothing_is_front (Some xs) (Some ys) text keeps = record { count = 0; grows = keeps ∙ sym (append-nil xs) }
+
+all_is_front : (old new : Option (List ℕ)) (answer : Answer) → Writes old new answer → AppendsFront old new (answer_text answer)
+all_is_front old new (Rows text) writes = record { count = length text; grows = subst (Appends old new) (sym (take_all (length text) text (omega arith))) writes }
+all_is_front old new Faulty writes = absurd writes
+all_is_front old new NotBuilt writes = absurd writes
+
+weaker : {P Q : Answer → Type 0} (answer : Option Answer) → ((a : Answer) → P a → Q a) → IfSome answer P → IfSome answer Q
+weaker None f h = tt
+weaker (Some a) f h = f a h
+
+always : {P : Answer → Type 0} (answer : Option Answer) → ((a : Answer) → P a) → IfSome answer P
+always None f = tt
+always (Some a) f = f a
+
+front_of : (answer : Option Answer) (files files' : FilesSeen) (out out' : SinkSeen) (o : Outcome) → HistoryEnds answer files files' out out' o
+    → IfSome answer (λ a. AppendsFront out.written out'.written (answer_text a))
+front_of answer files files' out out' outcome.Done h = weaker answer (all_is_front out.written out'.written) h.1
+front_of answer files files' out out' outcome.Usage h = absurd h
+front_of answer files files' out out' outcome.Faulty h = always answer (λ a. nothing_is_front out.written out'.written (answer_text a) h.1)
+front_of answer files files' out out' outcome.NotBuilt h = always answer (λ a. nothing_is_front out.written out'.written (answer_text a) h.1)
+front_of answer files files' out out' outcome.Read h = always answer (λ a. nothing_is_front out.written out'.written (answer_text a) h.1)
+front_of answer files files' out out' outcome.Write h = h.1
+front_of answer files files' out out' outcome.OutOfMemory h = h
+
+completes_lacking : (a : Answer) → Completes a status.OutOfMemory
+completes_lacking (Rows text) = inr refl
+completes_lacking Faulty = inr refl
+completes_lacking NotBuilt = inr refl
+
+-- ---- the two ways in which the call ends
+
+pub ends_lacking : (file : List ℕ) (files files' : FilesSeen) (out out' err err' : SinkSeen) (o : Outcome)
+    → HistoryEnds (known_answer files (Some file)) files files' out out' o
+    → AsksFirst files.asked files'.asked (file ∷ []) → ((name : List ℕ) → files'.content name ≡ files.content name)
+    → Ends (Some file) files files' out out' err err' status.OutOfMemory
+ends_lacking file files files' out out' err err' o h asked contents = record {
+  usage = λ e. cc;
+  no_command = λ e. cc;
+  done = λ e. cc;
+  rows = λ e. cc;
+  events = λ e. cc;
+  refusal = λ e. cc;
+  read = λ e. cc;
+  write = λ e. cc;
+  complete = λ none. always (known_answer files (Some file)) completes_lacking;
+  nothing = λ e. absurd e;
+  front = λ e. front_of (known_answer files (Some file)) files files' out out' o h;
+  no_answer = λ e. cc;
+  told = tt;
+  asked = asked;
+  contents = contents;
+}
+
+-- what is said of a file that gave no rows
+told_faulty : (file : List ℕ) (err err' : SinkSeen) (answer : Option Answer) → IfSome answer (λ a. a ≡ Faulty) → Tells err err' (told_text outcome.Faulty file) → IfSome (refused_text (Some file) answer) (Tells err err')
+told_faulty file err err' None is told = tt
+told_faulty file err err' (Some (Rows text)) is told = cc
+told_faulty file err err' (Some Faulty) is told = told
+told_faulty file err err' (Some NotBuilt) is told = cc
+
+told_not_built : (file : List ℕ) (err err' : SinkSeen) (answer : Option Answer) → IfSome answer (λ a. a ≡ NotBuilt) → Tells err err' (told_text outcome.NotBuilt file) → IfSome (refused_text (Some file) answer) (Tells err err')
+told_not_built file err err' None is told = tt
+told_not_built file err err' (Some (Rows text)) is told = cc
+told_not_built file err err' (Some Faulty) is told = cc
+told_not_built file err err' (Some NotBuilt) is told = told
+
+completes_faulty : (a : Answer) → a ≡ Faulty → Completes a status.Events
+completes_faulty (Rows text) is = cc
+completes_faulty Faulty is = inl refl
+completes_faulty NotBuilt is = cc
+
+completes_not_built : (a : Answer) → a ≡ NotBuilt → Completes a status.Events
+completes_not_built (Rows text) is = cc
+completes_not_built Faulty is = cc
+completes_not_built NotBuilt is = inl refl
+
+refusal_faulty : (a : Answer) → a ≡ Faulty → IsRefusal a
+refusal_faulty (Rows text) is = cc
+refusal_faulty Faulty is = tt
+refusal_faulty NotBuilt is = cc
+
+refusal_not_built : (a : Answer) → a ≡ NotBuilt → IsRefusal a
+refusal_not_built (Rows text) is = cc
+refusal_not_built Faulty is = cc
+refusal_not_built NotBuilt is = tt
+
+completes_done : (old new : Option (List ℕ)) (a : Answer) → Writes old new a → Completes a status.Done
+completes_done old new (Rows text) writes = inl refl
+completes_done old new Faulty writes = absurd writes
+completes_done old new NotBuilt writes = absurd writes
+
+ends_refused : (file : List ℕ) (files files' : FilesSeen) (out out' err err' : SinkSeen) → NoneRose files files' out out' → Keeps out.written out'.written
+    → IfSome (known_answer files (Some file)) IsRefusal → IfSome (known_answer files (Some file)) (λ a. Completes a status.Events) → IfSome (refused_text (Some file) (known_answer files (Some file))) (Tells err err')
+    → AsksFirst files.asked files'.asked (file ∷ []) → ((name : List ℕ) → files'.content name ≡ files.content name)
+    → Ends (Some file) files files' out out' err err' status.Events
+ends_refused file files files' out out' err err' none keeps refusal complete told asked contents = record {
+  usage = λ e. cc;
+  no_command = λ e. cc;
+  done = λ e. cc;
+  rows = λ e. cc;
+  events = λ e. none;
+  refusal = λ e. refusal;
+  read = λ e. cc;
+  write = λ e. cc;
+  complete = λ none. complete;
+  nothing = λ e. keeps;
+  front = λ e. absurd e;
+  no_answer = λ e. cc;
+  told = told;
+  asked = asked;
+  contents = contents;
+}
+
+-- the status is the outcome's
+pub ends_told : (file : List ℕ) (files files' : FilesSeen) (out out' err err' : SinkSeen) (o : Outcome)
+    → HistoryEnds (known_answer files (Some file)) files files' out out' o
+    → AsksFirst files.asked files'.asked (file ∷ []) → ((name : List ℕ) → files'.content name ≡ files.content name)
+    → (status_of o ≢ status.OutOfMemory → Tells err err' (told_text o file))
+    → Ends (Some file) files files' out out' err err' (status_of o)
+ends_told file files files' out out' err err' outcome.Done h asked contents told =
+    let complete = weaker (known_answer files (Some file)) (completes_done out.written out'.written) h.1 in
+    let said = told (λ e. cc) in
+    grind arith
+ends_told file files files' out out' err err' outcome.Usage h asked contents told = absurd h
+ends_told file files files' out out' err err' outcome.Faulty h asked contents told =
+    let answer = known_answer files (Some file) in
+    ends_refused file files files' out out' err err' h.0 h.1 (weaker answer refusal_faulty h.2) (weaker answer completes_faulty h.2) (told_faulty file err err' answer h.2 (told (λ e. cc))) asked contents
+ends_told file files files' out out' err err' outcome.NotBuilt h asked contents told =
+    let answer = known_answer files (Some file) in
+    ends_refused file files files' out out' err err' h.0 h.1 (weaker answer refusal_not_built h.2) (weaker answer completes_not_built h.2) (told_not_built file err err' answer h.2 (told (λ e. cc))) asked contents
+ends_told file files files' out out' err err' outcome.Read h asked contents told =
+    let said = told (λ e. cc) in
+    grind arith
+ends_told file files files' out out' err err' outcome.Write h asked contents told =
+    let said = told (λ e. cc) in
+    grind arith
+ends_told file files files' out out' err err' outcome.OutOfMemory h asked contents told = ends_lacking file files files' out out' err err' outcome.OutOfMemory h asked contents
+
+-- either it is, or memory ran out
+pub ends_history : (file : List ℕ) (files files' : FilesSeen) (out out' err err' : SinkSeen) (o : Outcome) (s : Status)
+    → HistoryEnds (known_answer files (Some file)) files files' out out' o
+    → AsksFirst files.asked files'.asked (file ∷ []) → ((name : List ℕ) → files'.content name ≡ files.content name)
+    → (s ≡ status_of o) ⊎ (s ≡ status.OutOfMemory) → (s ≢ status.OutOfMemory → Tells err err' (told_text o file))
+    → Ends (Some file) files files' out out' err err' s
+ends_history file files files' out out' err err' o s h asked contents (inl is) told =
+    subst (Ends (Some file) files files' out out' err err') (sym is) (ends_told file files files' out out' err err' o h asked contents (λ e. told (λ lacks. e (sym is ∙ lacks))))
+ends_history file files files' out out' err err' o s h asked contents (inr lacks) told =
+    subst (Ends (Some file) files files' out out' err err') (sym lacks) (ends_lacking file files files' out out' err err' o h asked contents)

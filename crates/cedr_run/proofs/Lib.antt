@@ -1,0 +1,4 @@
+pub mod EventLemmas
+pub mod StandingLemmas
+pub mod FileLemmas
+pub mod EndingLemmas

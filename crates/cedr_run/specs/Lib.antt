@@ -1,0 +1,9 @@
+pub mod Judging
+pub mod History
+pub mod Standing
+pub mod Answers
+pub mod Files
+pub mod Ending
+pub mod Codes
+pub mod Outcomes
+pub mod Messages

@@ -1,0 +1,43 @@
+-- The parts of the top call: how `history` went, and what is said of it.
+use Rattle.std.specs.Prelude.{ℕ, ◌≡◌, ◌<◌, ◌++◌, List, [], codes, Option, IfSome}
+use Rattle.std.specs.Io.KnownBytes.{Keeps}
+use Rattle.cedr_io.specs.Asked.{AppendsFront}
+use Rattle.cedr_run.specs.declared.answer.Answer.{Answer}
+use Rattle.cedr_run.specs.declared.answer.Answer.TheVariants.{Faulty, NotBuilt}
+use Rattle.cedr_run.specs.declared.outcome.Outcome.{Outcome}
+use Rattle.cedr_run.specs.declared.outcome.Outcome.TheVariants as outcome
+use Rattle.cedr_run.specs.declared.status.Status.{Status}
+use Rattle.cedr_run.specs.declared.status.Status.TheVariants as status
+use Rattle.cedr_run.specs.Answers.{answer_text}
+use Rattle.cedr_run.specs.Ending.{FilesSeen, SinkSeen, NoneRose, Writes, usage_text, faulty_text, not_built_text, read_text, write_text}
+use Rattle.cedr_text.specs.Parts.{line_feed}
+use Rattle.std.specs.Prelude.{◌∷◌}
+
+abbrev pub status_of : Outcome → Status
+status_of outcome.Done = status.Done
+status_of outcome.Usage = status.Usage
+status_of outcome.Faulty = status.Events
+status_of outcome.NotBuilt = status.Events
+status_of outcome.Read = status.Read
+status_of outcome.Write = status.Write
+status_of outcome.OutOfMemory = status.OutOfMemory
+
+-- what standard error is told
+abbrev pub told_text : Outcome → List ℕ → List ℕ
+told_text outcome.Done file = []
+told_text outcome.Usage file = usage_text
+told_text outcome.Faulty file = faulty_text file
+told_text outcome.NotBuilt file = not_built_text
+told_text outcome.Read file = read_text
+told_text outcome.Write file = write_text
+told_text outcome.OutOfMemory file = codes "out of memory" ++ line_feed ∷ []
+
+-- `history` for a file whose answer is known or not: which counts rose, and what out gained
+abbrev pub HistoryEnds : Option Answer → FilesSeen → FilesSeen → SinkSeen → SinkSeen → Outcome → Type 0
+HistoryEnds answer files files' out out' outcome.Done = NoneRose files files' out out' × IfSome answer (Writes out.written out'.written)
+HistoryEnds answer files files' out out' outcome.Usage = ⊥
+HistoryEnds answer files files' out out' outcome.Faulty = NoneRose files files' out out' × Keeps out.written out'.written × IfSome answer (λ a. a ≡ Faulty)
+HistoryEnds answer files files' out out' outcome.NotBuilt = NoneRose files files' out out' × Keeps out.written out'.written × IfSome answer (λ a. a ≡ NotBuilt)
+HistoryEnds answer files files' out out' outcome.Read = (files.faults < files'.faults) × Keeps out.written out'.written
+HistoryEnds answer files files' out out' outcome.Write = (out.faults < out'.faults) × IfSome answer (λ a. AppendsFront out.written out'.written (answer_text a))
+HistoryEnds answer files files' out out' outcome.OutOfMemory = IfSome answer (λ a. AppendsFront out.written out'.written (answer_text a))

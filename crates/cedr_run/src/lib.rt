@@ -1,0 +1,22 @@
+//! The top call: from the words of a command line to what is written and the exit status.
+//!
+//! `run` and `run_alone` end as the record `Ends` in `specs/Ending.antt` says: which status may come when,
+//! what the output and the error stream gained, and which files were asked for. What `history` writes
+//! is the text of the canonical history in `specs/History.antt`, over the lines that `specs/Judging.antt`
+//! accepts.
+#![tactic(auto)]
+
+mod answer;
+mod command;
+mod file;
+mod history;
+mod judge;
+mod outcome;
+mod status;
+mod top;
+
+pub use status::Status;
+pub use top::{run, run_alone};
+
+#[cfg(test)]
+mod tests;

@@ -1,0 +1,78 @@
+ghost use Rattle.std.specs.Prelude.{◌≡◌, ◌≢◌, ◌⊎◌, IfOk};
+ghost use Rattle.cedr_run.specs.declared.status.Status.TheVariants as status;
+ghost use Rattle.cedr_run.specs.Ending.{Tells, seen_sink};
+ghost use Rattle.cedr_run.specs.Outcomes.{status_of, told_text};
+
+use crate::status::Status;
+use cedr_base::OutOfMemory;
+use cedr_io::{OutsideFault, Sink, write_all};
+use std::alloc::Global;
+
+/// How a command went.
+#[derive(Clone, Copy)]
+pub(crate) enum Outcome {
+    Done,
+    /// The words match no command.
+    Usage,
+    /// Some line of the file has a fault.
+    Faulty,
+    /// The file is one that isn't read yet.
+    NotBuilt,
+    Read,
+    Write,
+    OutOfMemory,
+}
+
+impl Outcome {
+    fn status(self) -> Status
+        ensures { result ≡ status_of self }
+    {
+        match self {
+            Outcome::Done => Status::Done,
+            Outcome::Usage => Status::Usage,
+            Outcome::Faulty | Outcome::NotBuilt => Status::Events,
+            Outcome::Read => Status::Read,
+            Outcome::Write => Status::Write,
+            Outcome::OutOfMemory => Status::OutOfMemory,
+        }
+    }
+
+    /// What standard error is told of it.
+    fn text(self, alloc: Global, file: &[u8]) -> Result<Vec<u8>, OutOfMemory>
+        ensures { IfOk result (λ text. text.items ≡ told_text self file.now) }
+    {
+        let mut text = Vec::new(alloc);
+        match self {
+            Outcome::Done => {}
+            Outcome::Usage => text.extend_from_slice(
+                b"usage: cedr history FILE | check PLAN | serial PLAN | run PLAN | stream PLAN | audit PLAN | live PLAN SCRIPT | make N\n",
+            )?,
+            Outcome::Faulty => {
+                text.extend_from_slice(b"events ")?;
+                text.extend_from_slice(file)?;
+                text.push(b'\n')?;
+            }
+            Outcome::NotBuilt => text.extend_from_slice(b"not built yet\n")?,
+            Outcome::Read => text.extend_from_slice(b"read fault\n")?,
+            Outcome::Write => text.extend_from_slice(b"write fault\n")?,
+            Outcome::OutOfMemory => text.extend_from_slice(b"out of memory\n")?,
+        }
+        Ok(text)
+    }
+
+    /// Tells standard error of it, and answers its status, or want of memory where the text found none.
+    pub(crate) fn report<E: Sink>(self, alloc: Global, file: &[u8], err: &mut E) -> Status
+        ensures status { (result ≡ status_of self) ⊎ (result ≡ status.OutOfMemory) }
+        ensures told { result ≢ status.OutOfMemory
+            → Tells (seen_sink E.written E.faults err.old) (seen_sink E.written E.faults err.new) (told_text self file.now) }
+    {
+        let Ok(text) = self.text(alloc, file) else {
+            let _ = write_all(err, b"out of memory\n");
+            return Status::OutOfMemory;
+        };
+        match write_all(err, &text) {
+            Err(OutsideFault::OutOfMemory) => Status::OutOfMemory,
+            Ok(()) | Err(OutsideFault::Failed) => self.status(),
+        }
+    }
+}

@@ -1,0 +1,207 @@
+use super::*;
+use crate::command::is_alone;
+use cedr_base::OutOfMemory;
+use cedr_io::{MemFiles, MemSink, OpenGate};
+use std::alloc::Global;
+use std::test::Fail;
+
+const USAGE: &str =
+    "usage: cedr history FILE | check PLAN | serial PLAN | run PLAN | stream PLAN | audit PLAN | live PLAN SCRIPT | make N\n";
+
+const EVENTS: &[u8] = b"+,1,1,10,a\n-,1,5\n+,2,3,inf,b\n=,4\n";
+
+fn words(alloc: Global, texts: &[&str]) -> Result<Vec<String>, OutOfMemory> {
+    let mut words = Vec::new(alloc);
+    for text in texts {
+        words.push(String::from_str(alloc, text)?)?;
+    }
+    Ok(words)
+}
+
+/// What `history e.csv` answers and writes for a file of these bytes.
+fn history(rt: &HostRuntime, bytes: &[u8]) -> Result<(u8, Vec<u8>, Vec<u8>), OutOfMemory> {
+    let alloc = rt.alloc();
+    let mut files = MemFiles::new(alloc);
+    files.add("e.csv", bytes)?;
+    let (mut out, mut err) = (MemSink::new(alloc), MemSink::new(alloc));
+    let words = words(alloc, &["history", "e.csv"])?;
+    let status = run(rt, alloc, &words, &mut files, &mut out, &mut err, &OpenGate);
+    let written = Vec::from_slice(alloc, out.written())?;
+    Ok((
+        status.code(),
+        written,
+        Vec::from_slice(alloc, err.written())?,
+    ))
+}
+
+#[test]
+fn a_file_gives_its_canonical_history_or_is_refused(rt: HostRuntime) -> Result<(), Fail> {
+    for (bytes, status, rows, told) in [
+        (b"".as_slice(), 0, "", ""),
+        (EVENTS, 0, "1,5,a\n3,inf,b\n", ""),
+        (b"+,1,2,9,a\n-,1,2\n", 0, "", ""),
+        (b"+,1,2,9,a\n-,1,2\n-,1,2\n", 3, "", "events e.csv\n"),
+        (b"=,10\n+,1,9,12,a\n", 3, "", "events e.csv\n"),
+        (b"+,1,1,20,a\n=,10\n-,1,10\n", 0, "1,10,a\n", ""),
+        (b"+,1,1,20,a\n=,10\n-,1,9\n", 3, "", "events e.csv\n"),
+        (
+            b"+,1,4611686018427387903,inf,a\n",
+            0,
+            "4611686018427387903,inf,a\n",
+            "",
+        ),
+        (b"+,1,4611686018427387904,inf,a\n", 3, "", "events e.csv\n"),
+        (b"+,1,1,2,a", 0, "1,2,a\n", ""),
+        (b"\n\n+,1,1,2,a\n\n", 0, "1,2,a\n", ""),
+        (b"+,1,1,2,a\n+,1,3,4,b\n", 3, "", "events e.csv\n"),
+        (b"-,1,2\n", 3, "", "events e.csv\n"),
+        (
+            b"+,3,1,9,c\n+,1,1,9,b\n+,2,0,9,a\n+,4,5,7,d\n+,5,1,9,b\n",
+            0,
+            "5,7,d\n0,9,a\n1,9,b\n1,9,b\n1,9,c\n",
+            "",
+        ),
+        (b"+,1,1,9,a\n-,1,7\n-,1,4\n-,1,5\n", 3, "", "events e.csv\n"),
+        (b"+,1,1,2,\"a\"\n", 3, "", "not built yet\n"),
+        (b"+,1,1,2,a\r\n", 3, "", "not built yet\n"),
+    ] {
+        let (code, out, err) = history(&rt, bytes)?;
+        assert_eq!(rt; code, status, "{:?}", out);
+        assert_eq!(rt; out.as_slice(), rows.as_bytes());
+        assert_eq!(rt; err.as_slice(), told.as_bytes());
+    }
+    Ok(())
+}
+
+#[test]
+fn a_file_may_have_65536_bytes(rt: HostRuntime) -> Result<(), Fail> {
+    let mut bytes = Vec::from_slice(rt.alloc(), b"+,1,1,2,")?;
+    bytes.resize(65_535, b'a')?;
+    bytes.push(b'\n')?;
+    let (code, out, _) = history(&rt, &bytes)?;
+    assert_eq!(rt; (code, out.len()), (0, 65_532));
+    bytes.push(b'\n')?;
+    let (code, out, err) = history(&rt, &bytes)?;
+    assert_eq!(rt; (code, out.len()), (3, 0));
+    assert_eq!(rt; err.as_slice(), b"not built yet\n".as_slice());
+    Ok(())
+}
+
+#[test]
+fn words_that_match_no_command_are_told_the_usage(rt: HostRuntime) -> Result<(), Fail> {
+    let alloc = rt.alloc();
+    for texts in [
+        [].as_slice(),
+        &["history"],
+        &["history", "a", "b"],
+        &["History", "a"],
+        &["run", "p.json"],
+        &["stream", "p.json"],
+        &["check", "p.json"],
+        &["make", "1"],
+    ] {
+        let mut files = MemFiles::new(alloc);
+        let (mut out, mut err) = (MemSink::new(alloc), MemSink::new(alloc));
+        let words = words(alloc, texts)?;
+        let status = run(
+            &rt, alloc, &words, &mut files, &mut out, &mut err, &OpenGate,
+        );
+        assert_eq!(rt; status.code(), 1);
+        assert_eq!(rt; err.written(), USAGE.as_bytes());
+        assert_eq!(rt; out.written().len() + files.asked().len(), 0);
+    }
+    Ok(())
+}
+
+#[test]
+fn run_alone_answers_as_run_does(rt: HostRuntime) -> Result<(), Fail> {
+    let alloc = rt.alloc();
+    for (file, status) in [("e.csv", Status::Done), ("f.csv", Status::Read)] {
+        let mut files = MemFiles::new(alloc);
+        files.add("e.csv", EVENTS)?;
+        let (mut out, mut err) = (MemSink::new(alloc), MemSink::new(alloc));
+        let words = words(alloc, &["history", file])?;
+        assert!(rt; is_alone(&words));
+        let ended = run_alone(alloc, &words, &mut files, &mut out, &mut err);
+        assert_eq!(rt; ended, status);
+    }
+    Ok(())
+}
+
+#[test]
+fn what_the_outside_refuses_is_told(rt: HostRuntime) -> Result<(), Fail> {
+    let alloc = rt.alloc();
+    let words = words(alloc, &["history", "e.csv"])?;
+    // No find is refused, and then the first; of the reads, of up to 8 bytes, none or that of a number.
+    for (find, read, status, told) in [
+        (0, 0, Status::Done, ""),
+        (1, 0, Status::Read, "read fault\n"),
+        (0, 1, Status::Read, "read fault\n"),
+        (0, 5, Status::Read, "read fault\n"),
+        (0, 6, Status::Read, "read fault\n"),
+        (0, 7, Status::Done, ""),
+    ] {
+        let mut files = MemFiles::new(alloc);
+        files.add("e.csv", EVENTS)?;
+        files.set_piece(8);
+        files.fail_find(find)?;
+        files.fail_read("e.csv", read)?;
+        let (mut out, mut err) = (MemSink::new(alloc), MemSink::new(alloc));
+        let ended = run(
+            &rt, alloc, &words, &mut files, &mut out, &mut err, &OpenGate,
+        );
+        assert_eq!(rt; ended, status);
+        assert_eq!(rt; err.written(), told.as_bytes());
+        assert_eq!(rt; files.asked().len(), 1);
+        assert_eq!(rt; out.written().is_empty(), status == Status::Read);
+    }
+    Ok(())
+}
+
+#[test]
+fn rows_are_written_in_parts_up_to_a_refused_write(rt: HostRuntime) -> Result<(), Fail> {
+    let alloc = rt.alloc();
+    let words = words(alloc, &["history", "e.csv"])?;
+    let rows = b"1,5,a\n3,inf,b\n";
+    for piece in 1..6usize {
+        for refused in 0..16u64 {
+            let mut files = MemFiles::new(alloc);
+            files.add("e.csv", EVENTS)?;
+            let (mut out, mut err) = (MemSink::new(alloc), MemSink::new(alloc));
+            out.set_piece(piece);
+            out.fail_write(refused)?;
+            let ended = run(
+                &rt, alloc, &words, &mut files, &mut out, &mut err, &OpenGate,
+            );
+            let taken = usize::try_from(refused)?
+                .saturating_sub(1)
+                .saturating_mul(piece);
+            if refused == 0 || taken >= rows.len() {
+                assert_eq!(rt; ended, Status::Done);
+                assert_eq!(rt; out.written(), rows.as_slice());
+            } else {
+                assert_eq!(rt; ended, Status::Write, "piece {piece}, write {refused}");
+                assert_eq!(rt; out.written(), &rows[..taken]);
+                assert_eq!(rt; err.written(), b"write fault\n".as_slice());
+            }
+        }
+    }
+    Ok(())
+}
+
+#[test]
+fn a_refused_error_text_leaves_the_status(rt: HostRuntime) -> Result<(), Fail> {
+    let alloc = rt.alloc();
+    let mut files = MemFiles::new(alloc);
+    files.add("e.csv", b"-,1,2\n")?;
+    let (mut out, mut err) = (MemSink::new(alloc), MemSink::new(alloc));
+    err.set_piece(3);
+    err.fail_write(2)?;
+    let words = words(alloc, &["history", "e.csv"])?;
+    let ended = run(
+        &rt, alloc, &words, &mut files, &mut out, &mut err, &OpenGate,
+    );
+    assert_eq!(rt; ended, Status::Events);
+    assert_eq!(rt; err.written(), b"eve".as_slice());
+    Ok(())
+}
