@@ -11,6 +11,7 @@ use Rattle.cedr_run.specs.declared.status.Status.{Status}
 use Rattle.cedr_run.specs.declared.status.Status.TheVariants as status
 use Rattle.cedr_run.specs.Answers.{answer_of, answer_text}
 use Rattle.cedr_run.specs.Files.{AsksFirst}
+use Rattle.cedr_run.specs.Refusals.{refusal_text}
 
 -- ---- the words
 
@@ -56,9 +57,6 @@ known_answer files (Some file) = option_map answer_of (files.content file)
 abbrev pub usage_text : List ℕ
 usage_text = codes "usage: cedr history FILE | check PLAN | serial PLAN | run PLAN | stream PLAN | audit PLAN | live PLAN SCRIPT | make N" ++ line_feed ∷ []
 
-abbrev pub faulty_text : List ℕ → List ℕ
-faulty_text file = codes "events " ++ (file ++ line_feed ∷ [])
-
 abbrev pub not_built_text : List ℕ
 not_built_text = codes "not built yet" ++ line_feed ∷ []
 
@@ -70,7 +68,7 @@ write_text = codes "write fault" ++ line_feed ∷ []
 
 -- why a file gave no rows
 abbrev pub refused_text : Option (List ℕ) → Option Answer → Option (List ℕ)
-refused_text (Some file) (Some Faulty) = Some (faulty_text file)
+refused_text (Some file) (Some (Faulty refusal)) = Some (refusal_text file refusal)
 refused_text file (Some NotBuilt) = Some not_built_text
 refused_text file answer = None
 
@@ -97,13 +95,13 @@ pub record NoneRose (files files' : FilesSeen) (out out' : SinkSeen) : Type 0 wh
 -- the answer's status, unless memory ran out
 abbrev pub Completes : Answer → Status → Type 0
 Completes (Rows text) s = (s ≡ status.Done) ⊎ (s ≡ status.OutOfMemory)
-Completes Faulty s = (s ≡ status.Events) ⊎ (s ≡ status.OutOfMemory)
+Completes (Faulty refusal) s = (s ≡ status.Events) ⊎ (s ≡ status.OutOfMemory)
 Completes NotBuilt s = (s ≡ status.Events) ⊎ (s ≡ status.OutOfMemory)
 
 -- no rows are written
 abbrev pub IsRefusal : Answer → Type 0
 IsRefusal (Rows text) = ⊥
-IsRefusal Faulty = Unit {0}
+IsRefusal (Faulty refusal) = Unit {0}
 IsRefusal NotBuilt = Unit {0}
 
 -- the statuses at which nothing is written, and those at which a part may be
@@ -126,7 +124,7 @@ IsPartial status.OutOfMemory = Unit {0}
 -- out gained this answer's text
 abbrev pub Writes : Option (List ℕ) → Option (List ℕ) → Answer → Type 0
 Writes old new (Rows text) = Appends old new text
-Writes old new Faulty = ⊥
+Writes old new (Faulty refusal) = ⊥
 Writes old new NotBuilt = ⊥
 
 -- a call whose words name this file for `history`, or match no command

@@ -1,23 +1,15 @@
 -- The lines of an event file, judged against the lines before them.
-use Rattle.std.specs.Prelude.{ℕ, ◌==◌, ◌&&◌, List, [], ◌∷◌, ◌++◌, length, min, max, nat_le, nat_lt, if◌then◌else◌, Option, None, Some, is_some, Result, Ok, Err}
+use Rattle.std.specs.Prelude.{ℕ, ◌==◌, ◌+◌, ◌&&◌, List, [], ◌∷◌, ◌++◌, length, min, max, nat_le, nat_lt, if◌then◌else◌, Option, None, Some, is_some, Result, Ok, Err}
 use Rattle.cedr_base.specs.declared.row.Row.{Row}
 use Rattle.cedr_text.specs.declared.event_line.EventLine.{EventLine}
 use Rattle.cedr_text.specs.declared.event_line.EventLine.TheVariants.{Insert, Retract, Promise}
 use Rattle.cedr_text.specs.declared.fault.LineFault.{LineFault}
-use Rattle.cedr_text.specs.declared.fault.LineFault.TheVariants.{KnownId, UnknownId, BadEnd, BeforeGuarantee}
-use Rattle.cedr_text.specs.Parts.{parts_of, line_feed}
+use Rattle.cedr_text.specs.declared.fault.LineFault.TheVariants.{LineTooLong, KnownId, UnknownId, BadEnd, BeforeGuarantee}
+use Rattle.cedr_text.specs.declared.event_line.Shape.TheVariants.{AnyText}
+use Rattle.cedr_text.specs.declared.lines.TheConstants.{LINE_LIMIT}
+use Rattle.cedr_text.specs.Lines.{raw_lines, without_return}
 use Rattle.cedr_text.specs.Reading.{reading}
-
--- ---- the lines of a file
-
-abbrev pub without_empty_last : List (List ℕ) → List (List ℕ)
-without_empty_last [] = []
-without_empty_last (line ∷ []) = if length line == 0 then [] else line ∷ []
-without_empty_last (line ∷ next ∷ lines) = line ∷ without_empty_last (next ∷ lines)
-
--- what stands between the line feeds, and what stands behind the last one, if anything does
-abbrev pub lines_of : List ℕ → List (List ℕ)
-lines_of bytes = without_empty_last (parts_of line_feed bytes)
+use Rattle.cedr_run.specs.declared.refusal.Refusal.{Refusal}
 
 -- ---- what lines say together
 
@@ -83,19 +75,23 @@ with_reading before (Err fault) = Err fault
 with_reading before (Ok None) = Ok before
 with_reading before (Ok (Some event)) = with_event before event (fault_behind before event)
 
--- the accepted lines, which stand before the first line that has a fault, and that fault
+-- what a line of a file says, whose fields are texts, where it isn't too long
+abbrev pub line_reading : List ℕ → Result (Option EventLine) LineFault
+line_reading line = if nat_lt LINE_LIMIT (length line) then Err LineTooLong else reading AnyText (without_return line)
+
+-- the accepted lines, which stand before the first line that has a fault, and that line's number and fault
 pub record Judged : Type 0 where
   pub good : List EventLine
-  pub fault : Option LineFault
+  pub fault : Option Refusal
 
-abbrev pub go_on : List EventLine → Result (List EventLine) LineFault → (List EventLine → Judged) → Judged
-go_on before (Ok now) rest = rest now
-go_on before (Err fault) rest = record { good = before; fault = Some fault }
+abbrev pub go_on : ℕ → List EventLine → Result (List EventLine) LineFault → (List EventLine → Judged) → Judged
+go_on number before (Ok now) rest = rest now
+go_on number before (Err fault) rest = record { good = before; fault = Some (record { line = number; fault = fault }) }
 
--- each line is judged behind those before it
-abbrev pub judged_behind : List EventLine → List (List ℕ) → Judged
-judged_behind before [] = record { good = before; fault = None }
-judged_behind before (line ∷ lines) = go_on before (with_reading before (reading line)) (λ now. judged_behind now lines)
+-- each line is judged behind those before it, of which so many were
+abbrev pub judged_behind : ℕ → List EventLine → List (List ℕ) → Judged
+judged_behind count before [] = record { good = before; fault = None }
+judged_behind count before (line ∷ lines) = go_on (count + 1) before (with_reading before (line_reading line)) (λ now. judged_behind (count + 1) now lines)
 
 abbrev pub judged : List ℕ → Judged
-judged bytes = judged_behind [] (lines_of bytes)
+judged bytes = judged_behind 0 [] (raw_lines bytes)

@@ -6,7 +6,7 @@ use Rattle.cedr_base.specs.declared.change.Message.{Message}
 use Rattle.cedr_base.specs.declared.change.Message.TheVariants as message
 use Rattle.cedr_text.specs.declared.event_line.EventLine.{EventLine}
 use Rattle.cedr_text.specs.declared.event_line.EventLine.TheVariants.{Insert, Retract, Promise}
-use Rattle.cedr_text.specs.declared.fault.LineFault.{LineFault}
+use Rattle.cedr_run.specs.declared.refusal.Refusal.{Refusal}
 use Rattle.cedr_run.specs.Judging.{judged, guarantee_of, event_of}
 
 -- a retraction cuts its event's row as that is then
@@ -25,9 +25,9 @@ messages_behind before [] = []
 messages_behind before (line ∷ lines) = message_of before line ++ messages_behind (before ++ line ∷ []) lines
 
 -- the end follows where all lines were accepted
-abbrev pub ending : Option LineFault → List Message
+abbrev pub ending : Option Refusal → List Message
 ending None = message.End ∷ []
-ending (Some fault) = []
+ending (Some refusal) = []
 
 abbrev pub messages_of : List ℕ → List Message
 messages_of bytes = messages_behind [] (judged bytes).good ++ ending (judged bytes).fault

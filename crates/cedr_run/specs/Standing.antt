@@ -8,6 +8,8 @@ use Rattle.cedr_text.specs.declared.fault.LineFault.{LineFault}
 use Rattle.cedr_text.specs.declared.fault.ReadLineFault.{ReadLineFault}
 use Rattle.cedr_text.specs.declared.fault.ReadLineFault.TheVariants as read_fault
 use Rattle.cedr_run.specs.declared.judge.Judge.{Judge}
+use Rattle.cedr_run.specs.declared.refusal.JudgeFault.{JudgeFault}
+use Rattle.cedr_run.specs.declared.refusal.JudgeFault.TheVariants as judge_fault
 use Rattle.cedr_run.specs.Judging.{guarantee_of, ends_of, Judged}
 use Rattle.cedr_run.specs.History.{rows_among}
 
@@ -40,11 +42,11 @@ Judges (Ok done) fault = fault ≡ None
 Judges (Err (read_fault.Line line)) fault = fault ≡ Some line
 Judges (Err read_fault.OutOfMemory) fault = Unit {0}
 
--- the same for a file: a judge that stands for its lines, or the fault of the first line that has one
-abbrev pub JudgesFile : Result Judge ReadLineFault → Judged → Type 0
+-- the same for a file: a judge that stands for its lines, or the first line that has a fault
+abbrev pub JudgesFile : Result Judge JudgeFault → Judged → Type 0
 JudgesFile (Ok judge) file = (file.fault ≡ None) × StandsFor judge file.good
-JudgesFile (Err (read_fault.Line line)) file = file.fault ≡ Some line
-JudgesFile (Err read_fault.OutOfMemory) file = Unit {0}
+JudgesFile (Err (judge_fault.Refused refusal)) file = file.fault ≡ Some refusal
+JudgesFile (Err judge_fault.OutOfMemory) file = Unit {0}
 
 -- the same for one more line of a file behind accepted ones
 abbrev pub TakesLine : Result (Unit {0}) ReadLineFault → Judge → Result (List EventLine) LineFault → Type 0

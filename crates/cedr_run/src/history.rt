@@ -36,7 +36,7 @@ pub(crate) fn write_history<F: Files, K: Sink>(
     };
     let text = match answer {
         Answer::Rows(text) => text,
-        Answer::Faulty => return Outcome::Faulty,
+        Answer::Faulty(refusal) => return Outcome::Faulty(refusal),
         Answer::NotBuilt => return Outcome::NotBuilt,
     };
     match write_all(out, text.bytes()) {

@@ -12,6 +12,7 @@ mod file;
 mod history;
 mod judge;
 mod outcome;
+mod refusal;
 mod status;
 mod top;
 

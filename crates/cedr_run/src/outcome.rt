@@ -3,6 +3,7 @@ ghost use Rattle.cedr_run.specs.declared.status.Status.TheVariants as status;
 ghost use Rattle.cedr_run.specs.Ending.{Tells, seen_sink};
 ghost use Rattle.cedr_run.specs.Outcomes.{status_of, told_text};
 
+use crate::refusal::{Refusal, write_refusal};
 use crate::status::Status;
 use cedr_base::OutOfMemory;
 use cedr_io::{OutsideFault, Sink, write_all};
@@ -15,7 +16,7 @@ pub(crate) enum Outcome {
     /// The words match no command.
     Usage,
     /// Some line of the file has a fault.
-    Faulty,
+    Faulty(Refusal),
     /// The file is one that isn't read yet.
     NotBuilt,
     Read,
@@ -30,7 +31,7 @@ impl Outcome {
         match self {
             Outcome::Done => Status::Done,
             Outcome::Usage => Status::Usage,
-            Outcome::Faulty | Outcome::NotBuilt => Status::Events,
+            Outcome::Faulty(_) | Outcome::NotBuilt => Status::Events,
             Outcome::Read => Status::Read,
             Outcome::Write => Status::Write,
             Outcome::OutOfMemory => Status::OutOfMemory,
@@ -47,11 +48,7 @@ impl Outcome {
             Outcome::Usage => text.extend_from_slice(
                 b"usage: cedr history FILE | check PLAN | serial PLAN | run PLAN | stream PLAN | audit PLAN | live PLAN SCRIPT | make N\n",
             )?,
-            Outcome::Faulty => {
-                text.extend_from_slice(b"events ")?;
-                text.extend_from_slice(file)?;
-                text.push(b'\n')?;
-            }
+            Outcome::Faulty(refusal) => write_refusal(file, &refusal, &mut text)?,
             Outcome::NotBuilt => text.extend_from_slice(b"not built yet\n")?,
             Outcome::Read => text.extend_from_slice(b"read fault\n")?,
             Outcome::Write => text.extend_from_slice(b"write fault\n")?,

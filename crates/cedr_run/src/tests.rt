@@ -40,30 +40,69 @@ fn a_file_gives_its_canonical_history_or_is_refused(rt: HostRuntime) -> Result<(
         (b"".as_slice(), 0, "", ""),
         (EVENTS, 0, "1,5,a\n3,inf,b\n", ""),
         (b"+,1,2,9,a\n-,1,2\n", 0, "", ""),
-        (b"+,1,2,9,a\n-,1,2\n-,1,2\n", 3, "", "events e.csv\n"),
-        (b"=,10\n+,1,9,12,a\n", 3, "", "events e.csv\n"),
+        (
+            b"+,1,2,9,a\n-,1,2\n-,1,2\n",
+            3,
+            "",
+            "events e.csv line 3 fault 8 begin 2 end 2\n",
+        ),
+        (
+            b"=,10\n+,1,9,12,a\n",
+            3,
+            "",
+            "events e.csv line 2 fault 9 sync 9 mark 10\n",
+        ),
         (b"+,1,1,20,a\n=,10\n-,1,10\n", 0, "1,10,a\n", ""),
-        (b"+,1,1,20,a\n=,10\n-,1,9\n", 3, "", "events e.csv\n"),
+        (
+            b"+,1,1,20,a\n=,10\n-,1,9\n",
+            3,
+            "",
+            "events e.csv line 3 fault 9 sync 9 mark 10\n",
+        ),
         (
             b"+,1,4611686018427387903,inf,a\n",
             0,
             "4611686018427387903,inf,a\n",
             "",
         ),
-        (b"+,1,4611686018427387904,inf,a\n", 3, "", "events e.csv\n"),
+        (
+            b"+,1,4611686018427387904,inf,a\n",
+            3,
+            "",
+            "events e.csv line 1 fault 3\n",
+        ),
         (b"+,1,1,2,a", 0, "1,2,a\n", ""),
         (b"\n\n+,1,1,2,a\n\n", 0, "1,2,a\n", ""),
-        (b"+,1,1,2,a\n+,1,3,4,b\n", 3, "", "events e.csv\n"),
-        (b"-,1,2\n", 3, "", "events e.csv\n"),
+        (
+            b"+,1,1,2,a\n+,1,3,4,b\n",
+            3,
+            "",
+            "events e.csv line 2 fault 6\n",
+        ),
+        (b"-,1,2\n", 3, "", "events e.csv line 1 fault 7\n"),
+        (b"\n\n+,1,5,5\n*\n", 3, "", "events e.csv line 3 fault 4\n"),
+        (
+            b"+,1,5,inf\n-,1,4",
+            3,
+            "",
+            "events e.csv line 2 fault 8 begin 5 end inf\n",
+        ),
         (
             b"+,3,1,9,c\n+,1,1,9,b\n+,2,0,9,a\n+,4,5,7,d\n+,5,1,9,b\n",
             0,
             "5,7,d\n0,9,a\n1,9,b\n1,9,b\n1,9,c\n",
             "",
         ),
-        (b"+,1,1,9,a\n-,1,7\n-,1,4\n-,1,5\n", 3, "", "events e.csv\n"),
+        (
+            b"+,1,1,9,a\n-,1,7\n-,1,4\n-,1,5\n",
+            3,
+            "",
+            "events e.csv line 4 fault 8 begin 1 end 4\n",
+        ),
         (b"+,1,1,2,\"a\"\n", 3, "", "not built yet\n"),
-        (b"+,1,1,2,a\r\n", 3, "", "not built yet\n"),
+        (b"+,1,1,2,a\r\n\r\n+,2,3,4,b\r", 0, "1,2,a\n3,4,b\n", ""),
+        (b"+,1,1,2,a\r\r\n", 3, "", "events e.csv line 1 fault 2\n"),
+        (b"+,1,1,2,a\rb\n", 3, "", "events e.csv line 1 fault 2\n"),
     ] {
         let (code, out, err) = history(&rt, bytes)?;
         assert_eq!(rt; code, status, "{:?}", out);
@@ -74,16 +113,16 @@ fn a_file_gives_its_canonical_history_or_is_refused(rt: HostRuntime) -> Result<(
 }
 
 #[test]
-fn a_file_may_have_65536_bytes(rt: HostRuntime) -> Result<(), Fail> {
-    let mut bytes = Vec::from_slice(rt.alloc(), b"+,1,1,2,")?;
-    bytes.resize(65_535, b'a')?;
+fn a_line_may_have_65536_bytes(rt: HostRuntime) -> Result<(), Fail> {
+    let mut bytes = Vec::from_slice(rt.alloc(), b"\n+,1,1,2,")?;
+    bytes.resize(65_537, b'a')?;
     bytes.push(b'\n')?;
     let (code, out, _) = history(&rt, &bytes)?;
-    assert_eq!(rt; (code, out.len()), (0, 65_532));
-    bytes.push(b'\n')?;
+    assert_eq!(rt; (code, out.len()), (0, 65_533));
+    bytes.insert(9, b'a')?;
     let (code, out, err) = history(&rt, &bytes)?;
     assert_eq!(rt; (code, out.len()), (3, 0));
-    assert_eq!(rt; err.as_slice(), b"not built yet\n".as_slice());
+    assert_eq!(rt; err.as_slice(), b"events e.csv line 2 fault 1\n".as_slice());
     Ok(())
 }
 

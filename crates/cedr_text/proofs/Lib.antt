@@ -1,3 +1,4 @@
 pub mod Cuts
+pub mod LineLemmas
 pub mod Numerals
 pub mod Quotes

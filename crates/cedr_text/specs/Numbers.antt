@@ -1,5 +1,5 @@
 -- The forms of ids and times.
-use Rattle.std.specs.Prelude.{ℕ, ◌-◌, ◌^◌, ◌&&◌, Bool, false, nat_le, List, [], ◌∷◌, Option, None, Some, if◌then◌else◌, codes}
+use Rattle.std.specs.Prelude.{ℕ, ℤ, pos, neg_ℤ, option_map, ◌==◌, ◌-◌, ◌^◌, ◌&&◌, Bool, false, nat_le, List, [], ◌∷◌, Option, None, Some, if◌then◌else◌, codes}
 use Rattle.std.specs.List.{list_all}
 use Rattle.std.specs.Char.{is_ascii_digit}
 use Rattle.std.specs.Str.{bytes_eq}
@@ -26,3 +26,11 @@ begin_value text = whole_number (FOREVER - 1) text
 -- a finite time, or `inf`
 abbrev pub time_value : List ℕ → Option ℕ
 time_value text = if bytes_eq text (codes "inf") then Some FOREVER else whole_number (FOREVER - 1) text
+
+abbrev pub negated : ℕ → ℤ
+negated n = neg_ℤ (pos n)
+
+-- a number of 64 bits with sign, whose `-` stands before its digits
+abbrev pub int_value : List ℕ → Option ℤ
+int_value [] = None
+int_value (c ∷ digits) = if c == 45 then option_map negated (whole_number (2 ^ 63) digits) else option_map pos (whole_number (2 ^ 63 - 1) (c ∷ digits))

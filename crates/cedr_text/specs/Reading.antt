@@ -1,35 +1,66 @@
--- The grammar of an event line, whose payload fields are all texts.
-use Rattle.std.specs.Prelude.{ℕ, ◌≡◌, ◌==◌, ◌||◌, Bool, List, [], ◌∷◌, length, map, nat_le, nat_lt, codes, if◌then◌else◌, Option, None, Some, Result, Ok, Err}
+-- The grammar of an event line without quotes.
+use Rattle.std.specs.Prelude.{ℕ, ◌≡◌, ◌==◌, Bool, List, [], ◌∷◌, ◌++◌, length, map, nat_le, nat_lt, codes, if◌then◌else◌, option_map, Option, None, Some, Result, Ok, Err}
 use Rattle.std.specs.List.{list_any}
 use Rattle.std.specs.Str.{bytes_eq}
 use Rattle.cedr_base.specs.declared.field.Field.{Field}
-use Rattle.cedr_base.specs.declared.field.Field.TheVariants.{Bytes}
+use Rattle.cedr_base.specs.declared.field.Field.TheVariants.{Number, Bytes}
+use Rattle.cedr_base.specs.declared.field.FieldType.{FieldType}
+use Rattle.cedr_base.specs.declared.field.FieldType.TheVariants as types
 use Rattle.cedr_text.specs.declared.event_line.EventLine.{EventLine}
 use Rattle.cedr_text.specs.declared.event_line.EventLine.TheVariants.{Insert, Retract, Promise}
+use Rattle.cedr_text.specs.declared.event_line.Shape.{Shape}
+use Rattle.cedr_text.specs.declared.event_line.Shape.TheVariants.{AnyText, Fields}
 use Rattle.cedr_text.specs.declared.fault.LineFault.{LineFault}
-use Rattle.cedr_text.specs.declared.fault.LineFault.TheVariants.{BadForm, BadNumber, EmptyLife}
+use Rattle.cedr_text.specs.declared.fault.LineFault.TheVariants.{BadForm, BadNumber, EmptyLife, BadField}
 use Rattle.cedr_text.specs.declared.fault.ReadLineFault.{ReadLineFault}
 use Rattle.cedr_text.specs.declared.fault.ReadLineFault.TheVariants as read_fault
 use Rattle.cedr_text.specs.Parts.{fields_of}
-use Rattle.cedr_text.specs.Numbers.{id_value, begin_value, time_value}
+use Rattle.cedr_text.specs.Numbers.{id_value, begin_value, time_value, int_value}
 
--- some byte is a quote or a carriage return
-abbrev pub has_quoting : List ℕ → Bool
-has_quoting bytes = list_any (λ b. (b == 34) || (b == 13)) bytes
+-- some byte is a quote
+abbrev pub has_quote : List ℕ → Bool
+has_quote bytes = list_any (λ b. b == 34) bytes
 
--- behind `+`: an id, a begin, an end, and from 0 to 16 fields
-abbrev pub inserted : Option ℕ → Option ℕ → Option ℕ → List (List ℕ) → Result EventLine LineFault
-inserted (Some id) (Some begin) (Some end) payload =
-    if nat_lt begin end then Ok (Insert id (record { end = end; begin = begin; payload = map (λ text. Bytes text) payload })) else Err EmptyLife
-inserted id begin end payload = Err BadNumber
+-- some byte is a carriage return
+abbrev pub has_return : List ℕ → Bool
+has_return bytes = list_any (λ b. b == 13) bytes
 
-abbrev pub insertion : List (List ℕ) → Result EventLine LineFault
-insertion (id ∷ begin ∷ end ∷ payload) = if nat_le (length payload) 16 then inserted (id_value id) (begin_value begin) (time_value end) payload else Err BadForm
-insertion fields = Err BadForm
+-- the value of a field that has to be of this type
+abbrev pub field_value : FieldType → List ℕ → Option Field
+field_value types.Number text = option_map (λ n. Number n) (int_value text)
+field_value types.Bytes text = Some (Bytes text)
 
--- a payload of texts, of which there are at most 16
-abbrev pub texts_of : List (List ℕ) → Result (List Field) LineFault
-texts_of fields = if nat_le (length fields) 16 then Ok (map (λ text. Bytes text) fields) else Err BadForm
+-- one field more in front, where it and all behind it are in their form
+abbrev pub with_field : Option Field → Result (Option (List Field)) LineFault → Result (Option (List Field)) LineFault
+with_field field (Err fault) = Err fault
+with_field (Some field) (Ok (Some fields)) = Ok (Some (field ∷ fields))
+with_field field (Ok fields) = Ok None
+
+-- one field for each type, or nothing where one isn't in its form
+abbrev pub typed_payload : List FieldType → List (List ℕ) → Result (Option (List Field)) LineFault
+typed_payload [] [] = Ok (Some [])
+typed_payload [] (text ∷ texts) = Err BadForm
+typed_payload (type ∷ types) [] = Err BadForm
+typed_payload (type ∷ types) (text ∷ texts) = with_field (field_value type text) (typed_payload types texts)
+
+-- the fields of an insertion: as many as the shape says, or nothing where one isn't in its form
+abbrev pub payload_of : Shape → List (List ℕ) → Result (Option (List Field)) LineFault
+payload_of AnyText texts = if nat_le (length texts) 16 then Ok (Some (map (λ text. Bytes text) texts)) else Err BadForm
+payload_of (Fields types) texts = typed_payload types.items texts
+
+-- behind `+`: an id, a begin, an end and a payload
+abbrev pub event : ℕ → ℕ → ℕ → Option (List Field) → Result EventLine LineFault
+event id begin end None = Err BadField
+event id begin end (Some payload) = Ok (Insert id (record { end = end; begin = begin; payload = payload }))
+
+abbrev pub inserted : Option ℕ → Option ℕ → Option ℕ → Result (Option (List Field)) LineFault → Result EventLine LineFault
+inserted id begin end (Err fault) = Err fault
+inserted (Some id) (Some begin) (Some end) (Ok payload) = if nat_lt begin end then event id begin end payload else Err EmptyLife
+inserted id begin end (Ok payload) = Err BadNumber
+
+abbrev pub insertion : Shape → List (List ℕ) → Result EventLine LineFault
+insertion shape (id ∷ begin ∷ end ∷ texts) = inserted (id_value id) (begin_value begin) (time_value end) (payload_of shape texts)
+insertion shape fields = Err BadForm
 
 -- behind `-`: an id and the new end
 abbrev pub retracted : Option ℕ → Option ℕ → Result EventLine LineFault
@@ -50,10 +81,10 @@ guarantee (time ∷ []) = promised (time_value time)
 guarantee fields = Err BadForm
 
 -- the first field says which kind of line it is
-abbrev pub event_of : List (List ℕ) → Result EventLine LineFault
-event_of [] = Err BadForm
-event_of (kind ∷ fields) =
-    if bytes_eq kind (codes "+") then insertion fields
+abbrev pub event_of : Shape → List (List ℕ) → Result EventLine LineFault
+event_of shape [] = Err BadForm
+event_of shape (kind ∷ fields) =
+    if bytes_eq kind (codes "+") then insertion shape fields
     else if bytes_eq kind (codes "-") then retraction fields
     else if bytes_eq kind (codes "=") then guarantee fields
     else Err BadForm
@@ -63,12 +94,23 @@ as_some (Ok event) = Ok (Some event)
 as_some (Err fault) = Err fault
 
 -- what a line says, or its least fault; an empty line says nothing
-abbrev pub reading : List ℕ → Result (Option EventLine) LineFault
-reading [] = Ok None
-reading (b ∷ bs) = as_some (event_of (fields_of (b ∷ bs)))
+abbrev pub reading : Shape → List ℕ → Result (Option EventLine) LineFault
+reading shape [] = Ok None
+reading shape (b ∷ bs) = if has_return (b ∷ bs) then Err BadForm else as_some (event_of shape (fields_of (b ∷ bs)))
 
 -- what the code answers is the reading, unless memory ran out
 abbrev pub Reads : {X : Type 0} → Result X ReadLineFault → Result X LineFault → Type 0
 Reads (Ok x) read = read ≡ Ok x
 Reads (Err (read_fault.Line fault)) read = read ≡ Err fault
 Reads (Err read_fault.OutOfMemory) read = Unit {0}
+
+-- a payload that has this front, where all behind it is in its form
+abbrev pub onto : Option (List Field) → Result (Option (List Field)) LineFault → Result (Option (List Field)) LineFault
+onto front (Err fault) = Err fault
+onto (Some front) (Ok (Some fields)) = Ok (Some (front ++ fields))
+onto front (Ok fields) = Ok None
+
+-- a payload with one field more at its end, where both are in their form
+abbrev pub pushed : Option (List Field) → Option Field → Option (List Field)
+pushed (Some fields) (Some field) = Some (fields ++ field ∷ [])
+pushed fields field = None

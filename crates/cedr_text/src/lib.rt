@@ -7,6 +7,7 @@
 
 mod event_line;
 mod fault;
+mod lines;
 mod number;
 mod parts;
 mod read;
@@ -14,9 +15,10 @@ mod write;
 
 pub use event_line::{EventLine, Shape};
 pub use fault::{LineFault, ReadLineFault};
+pub use lines::{LINE_LIMIT, LineStep, Lines, without_return};
 pub use parts::Parts;
-pub use read::{has_quoting, read_line};
-pub use write::{write_row, write_rows, write_time};
+pub use read::{has_quote, read_line};
+pub use write::{write_number, write_row, write_rows, write_time};
 
 #[cfg(test)]
 mod tests;

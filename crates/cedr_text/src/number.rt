@@ -1,7 +1,7 @@
 ghost use Rattle.std.specs.Prelude.{◌≡◌, ◌<◌, ◌+◌, ◌-◌, ◌*◌, ◌^◌};
 ghost use Rattle.std.specs.Option.{SomeIff};
 ghost use Rattle.std.specs.Int.{IsInRange};
-ghost use Rattle.cedr_text.specs.Numbers.{whole_number, id_value, begin_value, time_value};
+ghost use Rattle.cedr_text.specs.Numbers.{whole_number, id_value, begin_value, time_value, int_value};
 
 use cedr_base::{FOREVER, Time};
 
@@ -49,5 +49,15 @@ pub(crate) fn read_time(text: &[u8]) -> Option<Time>
     match text {
         b"inf" => Some(FOREVER),
         _ => read_number(text, FOREVER - 1),
+    }
+}
+
+/// A number of 64 bits with sign, whose `-` stands before its digits.
+pub(crate) fn read_int(text: &[u8]) -> Option<i128>
+    ensures { result ≡ int_value text.now }
+{
+    match text {
+        [b'-', digits @ ..] => Some(-i128::from(read_number(digits, 1 << 63)?)),
+        _ => Some(i128::from(read_number(text, (1 << 63) - 1)?)),
     }
 }

@@ -1,15 +1,17 @@
+ghost use Rattle.std.specs.Prelude.{◌≡◌};
+
 use super::*;
-use cedr_base::{FOREVER, Field, OutOfMemory, Payload, Row, Text, Time};
+use cedr_base::{FOREVER, Field, FieldType, OutOfMemory, Payload, Row, Text, Time};
 use std::alloc::Global;
 use std::test::Fail;
 
-/// The reading of a line of texts, or the number of its fault: 98 for a line that can't be read yet,
-/// 99 for want of memory.
-fn read(alloc: Global, line: &[u8]) -> Result<Option<EventLine>, u8> {
-    if has_quoting(line) {
+/// The reading of a line, or the number of its fault: 98 for a line that can't be read yet, 99 for want of
+/// memory.
+fn read(alloc: Global, line: &[u8], shape: &Shape) -> Result<Option<EventLine>, u8> {
+    if has_quote(line) {
         return Err(98);
     }
-    match read_line(alloc, line, &Shape::AnyText) {
+    match read_line(alloc, line, shape) {
         Ok(event) => Ok(event),
         Err(ReadLineFault::Line(fault)) => Err(fault.number()),
         Err(ReadLineFault::OutOfMemory) => Err(99),
@@ -42,8 +44,52 @@ fn a_faulty_line_has_its_least_fault(rt: HostRuntime) -> Result<(), Fail> {
         (b"=, 1", 3),
         (b"+,1,9,9", 4),
         (b"+,1,9,8", 4),
+        (b"+,1,1,2\r", 2),
+        (b"+,x,\r,2", 2),
+        (b"\r", 2),
     ] {
-        assert_eq!(rt; read(rt.alloc(), line).err(), Some(wanted));
+        assert_eq!(rt; read(rt.alloc(), line, &Shape::AnyText).err(), Some(wanted));
+    }
+    Ok(())
+}
+
+#[test]
+fn a_typed_line_has_its_reading_or_its_least_fault(rt: HostRuntime) -> Result<(), Fail> {
+    let alloc = rt.alloc();
+    let mut types = Vec::new(alloc);
+    types.push(FieldType::Number)?;
+    types.push(FieldType::Bytes)?;
+    let shape = Shape::Fields(types);
+    for (line, wanted) in [
+        (b"+,1,1,2".as_slice(), 2),
+        (b"+,1,1,2,3", 2),
+        (b"+,1,1,2,3,a,b", 2),
+        (b"+,x,2,1,y", 2),
+        (b"+,x,2,1,y,z", 3),
+        (b"+,1,2,1,y,z", 4),
+        (b"+,1,1,2,,a", 5),
+        (b"+,1,1,2,-,a", 5),
+        (b"+,1,1,2,+1,a", 5),
+        (b"+,1,1,2, 1,a", 5),
+        (b"+,1,1,2,9223372036854775808,a", 5),
+        (b"+,1,1,2,-9223372036854775809,a", 5),
+    ] {
+        assert_eq!(rt; read(alloc, line, &shape).err(), Some(wanted));
+    }
+    for (line, wanted) in [
+        (
+            b"+,1,1,2,-9223372036854775808,".as_slice(),
+            b"1 1,2,-9223372036854775808,\n".as_slice(),
+        ),
+        (
+            b"+,1,1,2,009223372036854775807,7",
+            b"1 1,2,9223372036854775807,7\n",
+        ),
+        (b"+,1,1,2,-0,-0", b"1 1,2,0,-0\n"),
+        (b"-,1,2", b"1 ends at 2"),
+    ] {
+        let event = read(alloc, line, &shape).ok().ok_or("the line is in form")?;
+        assert_eq!(rt; shown(alloc, event)?.as_slice(), wanted);
     }
     Ok(())
 }
@@ -95,7 +141,9 @@ fn a_line_in_form_has_its_reading(rt: HostRuntime) -> Result<(), Fail> {
         (b"=,0", b"from 0"),
         (b"=,inf", b"from inf"),
     ] {
-        let event = read(alloc, line).ok().ok_or("the line is in form")?;
+        let event = read(alloc, line, &Shape::AnyText)
+            .ok()
+            .ok_or("the line is in form")?;
         assert_eq!(rt; shown(alloc, event)?.as_slice(), wanted);
     }
     Ok(())
@@ -147,4 +195,83 @@ fn each_fault_has_its_number(rt: HostRuntime) {
         wanted = wanted.saturating_add(1);
         assert_eq!(rt; fault.number(), wanted);
     }
+}
+
+/// The lines of some bytes that are fed as two pieces, each between brackets, and then the last step.
+fn cut_into_lines(alloc: Global, first: &[u8], second: &[u8]) -> Result<Vec<u8>, OutOfMemory> {
+    let mut lines = Lines::new(alloc);
+    let mut out = Vec::new(alloc);
+    lines.feed(first)?;
+    take_lines(alloc, &mut lines, &mut out)?;
+    lines.feed(second)?;
+    lines.finish();
+    take_lines(alloc, &mut lines, &mut out)?;
+    Ok(out)
+}
+
+fn take_lines(alloc: Global, lines: &mut Lines, out: &mut Vec<u8>) -> Result<(), OutOfMemory>
+    ensures { lines.new.finished ≡ lines.old.finished }
+{
+    let mut line = Vec::new(alloc);
+    for _ in 0..20 {
+        let step = lines.next_line(&mut line)?;
+        match step {
+            LineStep::Line => {
+                out.push(b'[')?;
+                out.extend_from_slice(&line)?;
+                out.push(b']')?;
+            }
+            LineStep::TooLong => {
+                out.extend_from_slice(b"too long")?;
+                return Ok(());
+            }
+            LineStep::NotYet => return Ok(()),
+            LineStep::Finished => {
+                out.push(b'.')?;
+                return Ok(());
+            }
+        }
+    }
+    Ok(())
+}
+
+#[test]
+fn lines_are_the_same_wherever_the_pieces_end(rt: HostRuntime) -> Result<(), Fail> {
+    let alloc = rt.alloc();
+    for (bytes, wanted) in [
+        (b"".as_slice(), b".".as_slice()),
+        (b"\n", b"[]."),
+        (b"a", b"[a]."),
+        (b"a\r\nbc\r\r\n\r\nd\re\n\n\r", b"[a][bc\r][][d\re][][]."),
+        (b"+,1,2,3\n=,4", b"[+,1,2,3][=,4]."),
+    ] {
+        for end in 0..=bytes.len() {
+            let (first, second) = bytes.split_at(end);
+            let lines = cut_into_lines(alloc, first, second)?;
+            assert_eq!(rt; lines.as_slice(), wanted);
+        }
+    }
+    Ok(())
+}
+
+#[test]
+fn a_line_may_have_65536_bytes_and_not_one_more(rt: HostRuntime) -> Result<(), Fail> {
+    let alloc = rt.alloc();
+    let mut bytes = Vec::new(alloc);
+    bytes.resize(65_536, b'x')?;
+    let mut lines = Lines::new(alloc);
+    let mut line = Vec::new(alloc);
+    lines.feed(&bytes)?;
+    assert_eq!(rt; lines.next_line(&mut line)?, LineStep::NotYet);
+    lines.feed(b"\nshort\n")?;
+    assert_eq!(rt; lines.next_line(&mut line)?, LineStep::Line);
+    assert_eq!(rt; line.len(), 65_536);
+    assert_eq!(rt; lines.next_line(&mut line)?, LineStep::Line);
+    assert_eq!(rt; line.as_slice(), b"short".as_slice());
+    lines.feed(&bytes)?;
+    lines.feed(b"x")?;
+    assert_eq!(rt; lines.next_line(&mut line)?, LineStep::TooLong);
+    lines.feed(b"\n")?;
+    assert_eq!(rt; lines.next_line(&mut line)?, LineStep::TooLong);
+    Ok(())
 }

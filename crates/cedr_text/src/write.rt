@@ -85,7 +85,9 @@ fn append_field(field: &Field, out: &mut Vec<u8>) -> Result<(), OutOfMemory>
     }
 }
 
-fn write_number<N: Integer>(number: N, out: &mut Vec<u8>) -> Result<(), OutOfMemory>
+/// Appends the number in decimal digits, behind a `-` where it is below zero. Where memory runs out `out` is as
+/// before.
+pub fn write_number<N: Integer>(number: N, out: &mut Vec<u8>) -> Result<(), OutOfMemory>
     ensures ok { OnOk result (out.new.items ≡ out.old.items ++ N.text number) }
     ensures err { OnErr result (out.new.items ≡ out.old.items) }
 {

@@ -1,7 +1,9 @@
-use Rattle.std.proofs.Common.{◌≡◌, [], ◌∷◌, Err, ap, sym, ◌∙◌, subst}
-use Rattle.std.proofs.lemmas.Result.{err_from_is_err_and}
+use Rattle.std.proofs.Common.{◌≡◌, ◌==◌, ◌+◌, [], ◌∷◌, length, Err, ap, sym, ◌∙◌, subst, arith}
+use Rattle.std.proofs.lemmas.List.Splits.{length-slice_split}
+use Rattle.std.proofs.lemmas.List.Sums.{count_by-le-length}
 use Rattle.cedr_text.specs.Parts.{parts_of, line_feed}
 use Rattle.cedr_run.specs.Judging.{judged_behind, judged, Judged}
+use Rattle.cedr_run.specs.Refusals.{fault_at}
 use Rattle.cedr_run.specs.Standing.{StandsFor, JudgesFile}
 use Rattle.cedr_run.proofs.FileLemmas.{ArePlain, parts_plain, judged_parts, refused}
 use Rattle.cedr_run.proofs.answer.judge_file.Goals as goal
@@ -12,25 +14,25 @@ loop-line-init c =
     record {
       can_next = tt;
       is_finite = tt;
-      plain = subst ArePlain (sym parts) (parts_plain line_feed c.args.bytes.now c.requires);
+      plain = subst ArePlain (sym parts) (parts_plain line_feed c.args.bytes.now c.requires.plain);
       good = [];
       stands = c.new-judge.ensures;
-      rest = ap (judged_behind []) parts;
+      counted = omega (arith, ap length parts, length-slice_split (λ b. b == line_feed) c.args.bytes.now, count_by-le-length (λ b. b == line_feed) c.args.bytes.now, c.requires.short);
+      rest = ap (judged_behind 0 []) parts;
     }
 
-pub returns-in_err-judge_line : goal.returns-in_err-judge_line
-returns-in_err-judge_line c =
+pub returns-in-Err : goal.returns-in-Err
+returns-in-Err c =
     let good = c.loop-line.invariant.good in
-    let all = c.args.bytes.now in
-    let file : judged_behind good (c.in-Some.line.now ∷ c.next.new.self) ≡ judged c.args.bytes.now =
-    ap (judged_behind c.loop-line.invariant.good) (sym c.in-Some.ensures.steps) ∙ (c.loop-line.invariant.rest ∙ sym (judged_parts [] (parts_of line_feed c.args.bytes.now))) in
-    let fault = refused c.judge_line.new.judge good c.in-Some.line.now c.next.new.self c.in_err-judge_line.field-0.0 (c.in_err-judge_line.ensures good c.loop-line.invariant.stands) in
-    let p = err_from_is_err_and c.from_residual.result c.from_residual.ensures.1 in
-    rw (p.1, p.2) (subst (JudgesFile (Err c.in_err-judge_line.field-0.0)) file fault)
+    let number = c.loop-line.number in
+    let file : judged_behind number good (c.in-Some.line.now ∷ c.next.new.self) ≡ judged c.args.bytes.now =
+    ap (judged_behind number good) (sym c.in-Some.ensures.steps) ∙ (c.loop-line.invariant.rest ∙ sym (judged_parts 0 [] (parts_of line_feed c.args.bytes.now))) in
+    let fault = refused c.judge_line.new.judge number good c.in-Some.line.now c.next.new.self c.in-Err.fault (c.in-Err.ensures good c.loop-line.invariant.stands) in
+    rw c.at.ensures (subst (JudgesFile (Err (fault_at (number + 1) c.in-Err.fault))) file fault)
 
 pub returns : goal.returns
 returns c =
     let good = c.loop-line.invariant.good in
-    let file : judged_behind c.loop-line.invariant.good [] ≡ judged c.args.bytes.now =
-    ap (judged_behind c.loop-line.invariant.good) (sym c.in-None.ensures.steps.0) ∙ (c.loop-line.invariant.rest ∙ sym (judged_parts [] (parts_of line_feed c.args.bytes.now))) in
+    let file : judged_behind c.loop-line.number c.loop-line.invariant.good [] ≡ judged c.args.bytes.now =
+    ap (judged_behind c.loop-line.number c.loop-line.invariant.good) (sym c.in-None.ensures.steps.0) ∙ (c.loop-line.invariant.rest ∙ sym (judged_parts 0 [] (parts_of line_feed c.args.bytes.now))) in
     (ap (λ (j : Judged). j.fault) (sym file), subst (λ (j : Judged). StandsFor c.loop-line.judge j.good) file c.loop-line.invariant.stands)

@@ -1,6 +1,7 @@
-use Rattle.std.proofs.Common.{◌≡◌, [], List}
+use Rattle.std.proofs.Common.{◌≡◌, ◌≤◌, ◌+◌, [], List, length}
 use Rattle.cedr_text.specs.declared.event_line.EventLine.{EventLine}
 use Rattle.cedr_text.specs.Parts.{parts_of, line_feed}
+use Rattle.cedr_run.specs.declared.answer.TheConstants.{FILE_LIMIT}
 use Rattle.cedr_run.specs.Judging.{judged_behind}
 use Rattle.cedr_run.specs.Standing.{StandsFor}
 use Rattle.cedr_run.proofs.FileLemmas.{ArePlain}
@@ -13,5 +14,6 @@ invariant-loop-line l = record {
   plain : ArePlain l.line-iterator;
   good : List EventLine;
   stands : StandsFor l.judge good;
-  rest : judged_behind good l.line-iterator ≡ judged_behind [] (parts_of line_feed l.bytes);
+  counted : l.number + length l.line-iterator ≤ FILE_LIMIT + 1;
+  rest : judged_behind l.number good l.line-iterator ≡ judged_behind 0 [] (parts_of line_feed l.bytes);
 }

@@ -1,4 +1,5 @@
-use Rattle.std.proofs.Common.{◌≡◌, ◌-◌, vec_len}
+use Rattle.std.proofs.Common.{◌≡◌, ◌+◌, ◌-◌, vec_len}
+use Rattle.cedr_run.specs.declared.answer.TheConstants.{FILE_LIMIT}
 use Rattle.std.specs.Io.KnownBytes.{Consumes}
 use Rattle.cedr_run.proofs.file.read_all.Given as goal
 
@@ -9,4 +10,4 @@ invariant-loop-block g l = record {
 }
 
 abbrev pub decreases-loop-block : goal.decreases-loop-block
-decreases-loop-block g l = 65537 - vec_len l.bytes
+decreases-loop-block g l = FILE_LIMIT + 1 - vec_len l.bytes
