@@ -7,7 +7,8 @@ use Rattle.std.proofs.lemmas.Cmp.{tied_itself}
 use Rattle.std.proofs.lemmas.List.Sums.{sum_by-cons, sum_by-append}
 use Rattle.cedr_base.specs.declared.row.Row.{Row}
 use Rattle.cedr_base.specs.Rows.{row_cmp, same_row, one_if_same, count_of}
-use Rattle.cedr_base.proofs.RowLemmas.{row_total, exact_rows}
+use Rattle.cedr_base.specs.RowLaws.{row_total}
+use Rattle.cedr_base.proofs.RowLemmas.{exact_rows}
 
 from_is_eq : (o : Ordering) → is_eq o ≡ true → o ≡ Equal
 from_is_eq Less h = cc

@@ -3,19 +3,11 @@ use Rattle.std.proofs.Common.{◌≡◌, [], ◌∷◌, refl, ap}
 use Rattle.std.specs.declared.cmp.Ordering.{Ordering}
 use Rattle.std.specs.declared.cmp.Ordering.TheVariants.{Less, Equal, Greater}
 use Rattle.std.specs.Ordering.{ordering_then, nat_cmp}
-use Rattle.std.specs.Cmp.{IsTotalOrder}
 use Rattle.std.specs.Cmp.Lexicographic.{slice_cmp}
-use Rattle.std.proofs.lemmas.Cmp.{nat_cmp_total, on_total, then_total}
 use Rattle.std.proofs.lemmas.Map.Lookups.{CmpEqualImpliesEq, exact_unsigned, exact_signed, exact_bytes}
-use Rattle.cedr_base.specs.declared.row.Row.{Row}
 use Rattle.cedr_base.specs.declared.field.Field.TheVariants.{Number, Bytes}
 use Rattle.cedr_base.specs.Order.{field_cmp}
-use Rattle.cedr_base.specs.OrderLaws.{payload_total}
 use Rattle.cedr_base.specs.Rows.{row_cmp}
-
--- an order of parts, each of them total, is total
-pub row_total : IsTotalOrder row_cmp
-row_total = then_total (on_total (λ (r : Row). r.end) nat_cmp_total) (then_total (on_total (λ (r : Row). r.begin) nat_cmp_total) (on_total (λ (r : Row). r.payload) payload_total))
 
 -- where two comparisons one after the other find nothing, each finds nothing
 both_equal : (o p : Ordering) → ordering_then o p ≡ Equal → (o ≡ Equal) × (p ≡ Equal)

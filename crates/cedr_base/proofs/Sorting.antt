@@ -9,7 +9,8 @@ use Rattle.std.proofs.lemmas.List.Sorted.{sum_by-IsPermutation}
 use Rattle.std.proofs.lemmas.Bool.{cases_lt}
 use Rattle.cedr_base.specs.declared.row.Row.{Row}
 use Rattle.cedr_base.specs.Rows.{row_cmp, one_if_same, count_of, SameRows, put_in_order, in_order}
-use Rattle.cedr_base.proofs.RowLemmas.{row_total, exact_rows}
+use Rattle.cedr_base.specs.RowLaws.{row_total}
+use Rattle.cedr_base.proofs.RowLemmas.{exact_rows}
 use Rattle.cedr_base.proofs.Bags.{count_of-cons, one_of_itself, one_if_same_exact}
 
 -- a row doesn't come behind another

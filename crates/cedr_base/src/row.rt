@@ -1,5 +1,6 @@
-ghost use Rattle.std.specs.Prelude.{◌≡◌, ◌≤◌, ◌<◌, ◌↔◌, ◌⊎◌, IfOk, IsErrOf, OnOk, OnErr};
+ghost use Rattle.std.specs.Prelude.{◌≡◌, ◌≤◌, ◌<◌, ◌↔◌, ◌⊎◌, List, IfOk, IsErrOf, OnOk, OnErr};
 ghost use Rattle.std.specs.Cmp.{IsTotalOrder};
+ghost use Rattle.std.specs.List.Sorted.{IsSorted, IsPermutation};
 ghost use Rattle.std.specs.declared.cmp.Ordering.TheVariants.{Equal};
 ghost use Rattle.cedr_base.specs.Rows.{IsRow, row_cmp, in_order};
 ghost use Rattle.cedr_base.specs.declared.row.Row.{Row};
@@ -65,12 +66,13 @@ impl Row {
     }
 }
 
-/// The law of the canonical order: it is total, it is what `Row` compares by, and rows that compare
-/// as equal are equal in every field.
+/// The law of the canonical order: it is total, it is what `Row` compares by, rows that compare as equal
+/// are equal in every field, and whatever sorts the rows of a bag by it puts them into canonical order.
 pub fn canonical_order()
     ensures total { IsTotalOrder row_cmp }
     ensures compared { (a b : Row) → ⟦<Row as Ord>⟧.cmp a b ≡ row_cmp a b }
     ensures exact { (a b : Row) → row_cmp a b ≡ Equal → a ≡ b }
+    ensures sorted { (rows after : List Row) → IsPermutation rows after → IsSorted row_cmp after → after ≡ in_order rows }
 {}
 
 /// Puts rows into canonical order, equal ones beside each other. O(n log n) comparisons. Where memory

@@ -5,12 +5,12 @@ use Rattle.std.specs.Io.KnownBytes.{Appends, Keeps}
 use Rattle.std.proofs.lemmas.List.{take_all, append-nil}
 use Rattle.cedr_io.specs.Asked.{AppendsFront}
 use Rattle.cedr_run.specs.declared.answer.Answer.{Answer}
-use Rattle.cedr_run.specs.declared.answer.Answer.TheVariants.{Rows, Faulty, NotBuilt}
+use Rattle.cedr_run.specs.declared.answer.Answer.TheVariants.{Rows, Faulty}
 use Rattle.cedr_run.specs.declared.outcome.Outcome.{Outcome}
 use Rattle.cedr_run.specs.declared.outcome.Outcome.TheVariants as outcome
 use Rattle.cedr_run.specs.declared.status.Status.{Status}
 use Rattle.cedr_run.specs.declared.status.Status.TheVariants as status
-use Rattle.cedr_run.specs.declared.refusal.Refusal.{Refusal}
+use Rattle.cedr_guard.specs.declared.refusal.Refusal.{Refusal}
 use Rattle.cedr_run.specs.Answers.{answer_text}
 use Rattle.cedr_run.specs.Files.{AsksFirst}
 use Rattle.cedr_run.specs.Ending.{FilesSeen, SinkSeen, NoneRose, Writes, Completes, IsRefusal, Tells, Ends, known_answer, refused_text}
@@ -18,7 +18,7 @@ use Rattle.cedr_run.specs.Outcomes.{status_of, told_text, HistoryEnds}
 
 -- ---- what was written is a front of the answer's text
 
-nothing_is_front : (old new : Option (List ℕ)) (text : List ℕ) → Keeps old new → AppendsFront old new text
+pub nothing_is_front : (old new : Option (List ℕ)) (text : List ℕ) → Keeps old new → AppendsFront old new text
 nothing_is_front None new text keeps = record { count = 0; grows = tt }
 nothing_is_front (Some xs) None text keeps = absurd keeps
 nothing_is_front (Some xs) (Some ys) text keeps = record { count = 0; grows = keeps ∙ sym (append-nil xs) }
@@ -26,13 +26,13 @@ nothing_is_front (Some xs) (Some ys) text keeps = record { count = 0; grows = ke
 all_is_front : (old new : Option (List ℕ)) (answer : Answer) → Writes old new answer → AppendsFront old new (answer_text answer)
 all_is_front old new (Rows text) writes = record { count = length text; grows = subst (Appends old new) (sym (take_all (length text) text (omega arith))) writes }
 all_is_front old new (Faulty refusal) writes = absurd writes
-all_is_front old new NotBuilt writes = absurd writes
 
 weaker : {P Q : Answer → Type 0} (answer : Option Answer) → ((a : Answer) → P a → Q a) → IfSome answer P → IfSome answer Q
 weaker None f h = tt
 weaker (Some a) f h = f a h
 
-always : {P : Answer → Type 0} (answer : Option Answer) → ((a : Answer) → P a) → IfSome answer P
+-- what holds of each answer holds of a known one
+pub always : {P : Answer → Type 0} (answer : Option Answer) → ((a : Answer) → P a) → IfSome answer P
 always None f = tt
 always (Some a) f = f a
 
@@ -41,15 +41,25 @@ front_of : (answer : Option Answer) (files files' : FilesSeen) (out out' : SinkS
 front_of answer files files' out out' outcome.Done h = weaker answer (all_is_front out.written out'.written) h.1
 front_of answer files files' out out' outcome.Usage h = absurd h
 front_of answer files files' out out' (outcome.Faulty refusal) h = always answer (λ a. nothing_is_front out.written out'.written (answer_text a) h.1)
-front_of answer files files' out out' outcome.NotBuilt h = always answer (λ a. nothing_is_front out.written out'.written (answer_text a) h.1)
 front_of answer files files' out out' outcome.Read h = always answer (λ a. nothing_is_front out.written out'.written (answer_text a) h.1)
 front_of answer files files' out out' outcome.Write h = h.1
 front_of answer files files' out out' outcome.OutOfMemory h = h
 
+pub kept_itself : (old : Option (List ℕ)) → Keeps old old
+kept_itself None = tt
+kept_itself (Some bytes) = refl
+
+-- where nothing was written that is a front of each text
+pub wrote_nothing : (old : Option (List ℕ)) (known : Option Answer) → IfSome known (λ a. AppendsFront old old (answer_text a))
+wrote_nothing old known = always known (λ a. nothing_is_front old old (answer_text a) (kept_itself old))
+
+-- what holds of the answer that was found holds of the known one
+pub found_answer : (P : Answer → Type 0) (known : Option Answer) (found answer : Answer) → IfSome known (λ a. a ≡ found) → found ≡ answer → P answer → IfSome known P
+found_answer P known found answer same is holds = weaker known (λ a other. subst P (sym (other ∙ is)) holds) same
+
 completes_lacking : (a : Answer) → Completes a status.OutOfMemory
 completes_lacking (Rows text) = inr refl
 completes_lacking (Faulty refusal) = inr refl
-completes_lacking NotBuilt = inr refl
 
 -- ---- the two ways in which the call ends
 
@@ -80,36 +90,17 @@ told_faulty : (file : List ℕ) (err err' : SinkSeen) (refusal : Refusal) (answe
 told_faulty file err err' refusal None is told = tt
 told_faulty file err err' refusal (Some answer) is told = subst (λ a. IfSome (refused_text (Some file) (Some a)) (Tells err err')) (sym is) told
 
-told_not_built : (file : List ℕ) (err err' : SinkSeen) (answer : Option Answer) → IfSome answer (λ a. a ≡ NotBuilt) → Tells err err' (told_text outcome.NotBuilt file) → IfSome (refused_text (Some file) answer) (Tells err err')
-told_not_built file err err' None is told = tt
-told_not_built file err err' (Some (Rows text)) is told = cc
-told_not_built file err err' (Some (Faulty refusal)) is told = cc
-told_not_built file err err' (Some NotBuilt) is told = told
-
 completes_faulty : (refusal : Refusal) (a : Answer) → a ≡ Faulty refusal → Completes a status.Events
 completes_faulty refusal (Rows text) is = cc
 completes_faulty refusal (Faulty other) is = inl refl
-completes_faulty refusal NotBuilt is = cc
-
-completes_not_built : (a : Answer) → a ≡ NotBuilt → Completes a status.Events
-completes_not_built (Rows text) is = cc
-completes_not_built (Faulty refusal) is = cc
-completes_not_built NotBuilt is = inl refl
 
 refusal_faulty : (refusal : Refusal) (a : Answer) → a ≡ Faulty refusal → IsRefusal a
 refusal_faulty refusal (Rows text) is = cc
 refusal_faulty refusal (Faulty other) is = tt
-refusal_faulty refusal NotBuilt is = cc
-
-refusal_not_built : (a : Answer) → a ≡ NotBuilt → IsRefusal a
-refusal_not_built (Rows text) is = cc
-refusal_not_built (Faulty refusal) is = cc
-refusal_not_built NotBuilt is = tt
 
 completes_done : (old new : Option (List ℕ)) (a : Answer) → Writes old new a → Completes a status.Done
 completes_done old new (Rows text) writes = inl refl
 completes_done old new (Faulty refusal) writes = absurd writes
-completes_done old new NotBuilt writes = absurd writes
 
 ends_refused : (file : List ℕ) (files files' : FilesSeen) (out out' err err' : SinkSeen) → NoneRose files files' out out' → Keeps out.written out'.written
     → IfSome (known_answer files (Some file)) IsRefusal → IfSome (known_answer files (Some file)) (λ a. Completes a status.Events) → IfSome (refused_text (Some file) (known_answer files (Some file))) (Tells err err')
@@ -147,9 +138,6 @@ ends_told file files files' out out' err err' outcome.Usage h asked contents tol
 ends_told file files files' out out' err err' (outcome.Faulty refusal) h asked contents told =
     let answer = known_answer files (Some file) in
     ends_refused file files files' out out' err err' h.0 h.1 (weaker answer (refusal_faulty refusal) h.2) (weaker answer (completes_faulty refusal) h.2) (told_faulty file err err' refusal answer h.2 (told (λ e. cc))) asked contents
-ends_told file files files' out out' err err' outcome.NotBuilt h asked contents told =
-    let answer = known_answer files (Some file) in
-    ends_refused file files files' out out' err err' h.0 h.1 (weaker answer refusal_not_built h.2) (weaker answer completes_not_built h.2) (told_not_built file err err' answer h.2 (told (λ e. cc))) asked contents
 ends_told file files files' out out' err err' outcome.Read h asked contents told =
     let said = told (λ e. cc) in
     grind arith

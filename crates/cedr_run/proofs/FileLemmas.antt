@@ -1,73 +1,131 @@
 -- The lines of a file, one after the other.
-use Rattle.std.proofs.Common.{◌≡◌, ℕ, ◌+◌, List, [], ◌∷◌, Bool, true, false, cond, eqb, Result, Ok, Err, refl, ap}
-use Rattle.std.specs.List.{onto_first}
-use Rattle.std.proofs.lemmas.Bool.{or_from, or_parts}
-use Rattle.cedr_text.specs.Parts.{parts_of}
-use Rattle.cedr_text.specs.Lines.{without_empty_end, without_return}
-use Rattle.cedr_text.specs.Reading.{has_quote}
+use Rattle.std.proofs.Common.{◌≡◌, ◌≢◌, ℕ, ◌+◌, ◌<◌, ◌≤◌, List, [], ◌∷◌, ◌++◌, Bool, true, false, cond, length, take, Option, Some, Result, Ok, Err, refl, ap, sym, ◌∙◌, arith}
+use Rattle.std.specs.Prelude.{nat_lt}
+use Rattle.std.specs.List.{slice_split, onto_first}
+use Rattle.std.proofs.lemmas.Bool.{ltb-true, ltb-false, lt-ltb, le-ltb}
+use Rattle.std.proofs.lemmas.List.{append-nil, take-append-le, length-append}
+use Rattle.cedr_text.specs.Parts.{line_feed, parts_of}
+use Rattle.cedr_text.specs.Lines.{without_empty_end, raw_lines}
 use Rattle.cedr_text.specs.declared.event_line.EventLine.{EventLine}
+use Rattle.cedr_text.specs.declared.event_line.Shape.TheVariants.{AnyText}
 use Rattle.cedr_text.specs.declared.fault.LineFault.{LineFault}
-use Rattle.cedr_text.specs.declared.fault.ReadLineFault.{ReadLineFault}
-use Rattle.cedr_text.specs.declared.fault.ReadLineFault.TheVariants as read_fault
-use Rattle.cedr_run.specs.declared.judge.Judge.{Judge}
-use Rattle.cedr_run.specs.Judging.{with_reading, line_reading, Judged, go_on, judged_behind}
+use Rattle.cedr_guard.specs.declared.fault.GuardFault.{GuardFault}
+use Rattle.cedr_guard.specs.declared.fault.GuardFault.TheVariants as guard_fault
+use Rattle.cedr_guard.specs.declared.refusal.Refusal.{Refusal}
+use Rattle.cedr_guard.specs.declared.refusal.TheConstants.{FILE_LIMIT}
+use Rattle.cedr_guard.specs.Sources.{with_reading, line_reading, Judged, go_on, judged_behind, judged_lines, judged_front, whole_lines, unfinished_line, first_fault, limit_fault, judged}
+use Rattle.cedr_run.specs.declared.events.Events.{Events}
+use Rattle.cedr_run.specs.Answers.{answer_to, answer_of}
+use Rattle.cedr_run.specs.Files.{IsFileFront}
 use Rattle.cedr_run.specs.Refusals.{fault_at}
-use Rattle.cedr_run.specs.Standing.{StandsFor, JudgesFile, TakesLine}
+use Rattle.cedr_run.specs.Events.{AreEventsOf, TakesLine, JudgesFile, parts_behind}
 
--- ---- no part of a file without quotes has one
+-- ---- the parts of a file
 
-abbrev pub ArePlain : List (List ℕ) → Type 0
-ArePlain [] = Unit {0}
-ArePlain (line ∷ lines) = (has_quote line ≡ false) × ArePlain lines
+onto_some : (b : ℕ) (parts : List (List ℕ)) → onto_first b parts ≡ [] → ⊥
+onto_some b [] none = cc
+onto_some b (part ∷ parts) none = cc
 
-plain_onto : (b : ℕ) (parts : List (List ℕ)) → (eqb b 34) ≡ false → ArePlain parts → ArePlain (onto_first b parts)
-plain_onto b [] h plain = (or_from (eqb b 34) false h refl, tt)
-plain_onto b (part ∷ parts) h plain = (or_from (eqb b 34) (has_quote part) h plain.0, plain.1)
+cut_some : (cut : Bool) (b : ℕ) (parts : List (List ℕ)) → cond cut ([] ∷ parts) (onto_first b parts) ≡ [] → ⊥
+cut_some true b parts none = cc
+cut_some false b parts none = onto_some b parts none
 
-plain_at : (cut : Bool) (b : ℕ) (parts : List (List ℕ)) → (eqb b 34) ≡ false → ArePlain parts → ArePlain (cond cut ([] ∷ parts) (onto_first b parts))
-plain_at true b parts h plain = (refl, plain)
-plain_at false b parts h plain = plain_onto b parts h plain
+-- there is always one
+pub some_part : (p : ℕ → Bool) (text : List ℕ) → slice_split p text ≡ [] → ⊥
+some_part p [] none = cc
+some_part p (b ∷ text) none = cut_some (p b) b (slice_split p text) none
 
-pub parts_plain : (separator : ℕ) (bytes : List ℕ) → has_quote bytes ≡ false → ArePlain (parts_of separator bytes)
-parts_plain separator [] h = (refl, tt)
-parts_plain separator (b ∷ bs) h =
-    let none = or_parts (eqb b 34) (has_quote bs) h in
-    plain_at (eqb b separator) b (parts_of separator bs) none.0 (parts_plain separator bs none.1)
+-- ---- a line that is there or not
 
-at_last : (b : ℕ) (drops : Bool) → has_quote (b ∷ []) ≡ false → has_quote (cond drops [] (b ∷ [])) ≡ false
-at_last b true none = refl
-at_last b false none = none
+go_on-alike : (number : ℕ) (good : List EventLine) (r : Result (List EventLine) LineFault) (f g : List EventLine → Judged) → ((now : List EventLine) → f now ≡ g now) → go_on number good r f ≡ go_on number good r g
+go_on-alike number good (Ok now) f g same = same now
+go_on-alike number good (Err fault) f g same = refl
 
--- a line without its carriage return has no quote either
-pub return_plain : (line : List ℕ) → has_quote line ≡ false → has_quote (without_return line) ≡ false
-return_plain [] none = refl
-return_plain (b ∷ []) none = at_last b (eqb b 13) none
-return_plain (b ∷ c ∷ bs) none =
-    let parts = or_parts (eqb b 34) (has_quote (c ∷ bs)) none in
-    or_from (eqb b 34) (has_quote (without_return (c ∷ bs))) parts.0 (return_plain (c ∷ bs) parts.1)
-
--- ---- an empty part behind the last line feed says nothing
-
-go_on-alike : (count : ℕ) (good : List EventLine) (lines : Result (List EventLine) LineFault) (f g : List EventLine → Judged) → ((now : List EventLine) → f now ≡ g now) → go_on count good lines f ≡ go_on count good lines g
-go_on-alike count good (Ok now) f g same = same now
-go_on-alike count good (Err fault) f g same = refl
-
-pub judged_parts : (count : ℕ) (good : List EventLine) (parts : List (List ℕ)) → judged_behind count good (without_empty_end parts) ≡ judged_behind count good parts
+-- an empty last line says nothing
+pub judged_parts : (count : ℕ) (good : List EventLine) (parts : List (List ℕ)) → judged_behind AnyText count good (without_empty_end parts) ≡ judged_behind AnyText count good parts
 judged_parts count good [] = refl
 judged_parts count good ([] ∷ []) = refl
 judged_parts count good ((b ∷ bs) ∷ []) = refl
 judged_parts count good ([] ∷ next ∷ lines) = judged_parts (count + 1) good (next ∷ lines)
-judged_parts count good ((b ∷ bs) ∷ next ∷ lines) = go_on-alike (count + 1) good (with_reading good (line_reading (b ∷ bs))) _ _ (λ now. judged_parts (count + 1) now (next ∷ lines))
+judged_parts count good ((b ∷ bs) ∷ next ∷ lines) = go_on-alike (count + 1) good (with_reading good (line_reading AnyText (b ∷ bs))) _ _ (λ now. judged_parts (count + 1) now (next ∷ lines))
 
 -- ---- one line of a file
 
--- a line that the judge takes goes on
-pub taken : (judge : Judge) (count : ℕ) (good : List EventLine) (line : List ℕ) (lines : List (List ℕ)) (done : Unit {0}) → TakesLine (Ok done) judge (with_reading good (line_reading line))
-    → (now : List EventLine) × StandsFor judge now × (judged_behind count good (line ∷ lines) ≡ judged_behind (count + 1) now lines)
-taken judge count good line lines done takes = (takes.0, takes.2, ap (λ r. go_on (count + 1) good r (λ now. judged_behind (count + 1) now lines)) takes.1)
+behind_more : (count : ℕ) (good now : List EventLine) (line : List ℕ) (lines : List (List ℕ)) → with_reading good (line_reading AnyText line) ≡ Ok now → judged_behind AnyText count good (line ∷ lines) ≡ judged_behind AnyText (count + 1) now lines
+behind_more count good now line lines reads = ap (λ r. go_on (count + 1) good r (λ then. judged_behind AnyText (count + 1) then lines)) reads
+
+behind_fault : (count : ℕ) (good : List EventLine) (line : List ℕ) (lines : List (List ℕ)) (fault : LineFault) → with_reading good (line_reading AnyText line) ≡ Err fault
+    → judged_behind AnyText count good (line ∷ lines) ≡ record { good = good; fault = Some (record { line = count + 1; fault = fault }) }
+behind_fault count good line lines fault reads = ap (λ r. go_on (count + 1) good r (λ then. judged_behind AnyText (count + 1) then lines)) reads
+
+abbrev at_limit : Judged → ℕ → LineFault → Judged
+at_limit file line fault = record { good = file.good; fault = Some (first_fault file.fault (record { line = line; fault = fault })) }
+
+-- a line that is taken goes on; over the limit it isn't the last part
+pub taken : (over : Bool) (count : ℕ) (good now : List EventLine) (line : List ℕ) (lines : List (List ℕ)) → (over ≡ true → lines ≢ []) → with_reading good (line_reading AnyText line) ≡ Ok now
+    → parts_behind over count good (line ∷ lines) ≡ parts_behind over (count + 1) now lines
+taken false count good now line lines more reads = behind_more count good now line lines reads
+taken true count good now line [] more reads = absurd (more refl refl)
+taken true count good now line (next ∷ lines) more reads =
+    let place : count + length (line ∷ whole_lines (next ∷ lines)) + 1 ≡ (count + 1) + length (whole_lines (next ∷ lines)) + 1 = omega arith in
+    ap (λ file. at_limit file (count + length (line ∷ whole_lines (next ∷ lines)) + 1) (limit_fault (unfinished_line (next ∷ lines)))) (behind_more count good now line (whole_lines (next ∷ lines)) reads)
+    ∙ ap (λ n. at_limit (judged_behind AnyText (count + 1) now (whole_lines (next ∷ lines))) n (limit_fault (unfinished_line (next ∷ lines)))) place
 
 -- a line with a fault is the file's first
-pub refused : (judge : Judge) (count : ℕ) (good : List EventLine) (line : List ℕ) (lines : List (List ℕ)) (fault : ReadLineFault) → TakesLine (Err fault) judge (with_reading good (line_reading line))
-    → JudgesFile (Err (fault_at (count + 1) fault)) (judged_behind count good (line ∷ lines))
-refused judge count good line lines (read_fault.Line f) takes = ap (λ r. (go_on (count + 1) good r (λ now. judged_behind (count + 1) now lines)).fault) takes
-refused judge count good line lines read_fault.OutOfMemory takes = tt
+pub refused : (over : Bool) (count : ℕ) (good : List EventLine) (line : List ℕ) (lines : List (List ℕ)) (fault : LineFault) → (over ≡ true → lines ≢ []) → with_reading good (line_reading AnyText line) ≡ Err fault
+    → (parts_behind over count good (line ∷ lines)).fault ≡ Some (record { line = count + 1; fault = fault })
+refused false count good line lines fault more reads = ap (λ (file : Judged). file.fault) (behind_fault count good line lines fault reads)
+refused true count good line [] fault more reads = absurd (more refl refl)
+refused true count good line (next ∷ lines) fault more reads =
+    ap (λ (file : Judged). Some (first_fault file.fault (record { line = count + length (line ∷ whole_lines (next ∷ lines)) + 1; fault = limit_fault (unfinished_line (next ∷ lines)) }))) (behind_fault count good line (whole_lines (next ∷ lines)) fault reads)
+
+-- the last part over the limit is the line that isn't finished
+pub unfinished : (count : ℕ) (good : List EventLine) (line : List ℕ) → (parts_behind true count good (line ∷ [])).fault ≡ Some (record { line = count + 1; fault = limit_fault line })
+unfinished count good line = ap {B = Option Refusal} (λ n. Some (record { line = n; fault = limit_fault line })) (omega arith)
+
+-- a line that isn't taken is the file's answer
+pub refused_file : (over : Bool) (count : ℕ) (good : List EventLine) (line : List ℕ) (lines : List (List ℕ)) (fault : GuardFault) (events : Events) → (over ≡ true → lines ≢ []) → TakesLine (Err fault) events (with_reading good (line_reading AnyText line))
+    → JudgesFile (Err (fault_at (count + 1) fault)) (parts_behind over count good (line ∷ lines))
+refused_file over count good line lines (guard_fault.Line fault) events more takes = refused over count good line lines fault more takes
+refused_file over count good line lines guard_fault.OutOfMemory events more takes = tt
+
+-- at the end all lines were taken
+pub finished : (over : Bool) (count : ℕ) (good : List EventLine) (events : Events) → (over ≡ true → ◌≡◌ {A = List (List ℕ)} [] [] → ⊥) → AreEventsOf events good → JudgesFile (Ok events) (parts_behind over count good [])
+finished false count good events more are = (refl, are)
+finished true count good events more are = absurd (more refl refl)
+
+-- ---- the whole file
+
+-- a file up to the limit
+pub judged_small : (bytes : List ℕ) → length bytes ≤ FILE_LIMIT → parts_behind false 0 [] (parts_of line_feed bytes) ≡ judged AnyText bytes
+judged_small bytes short =
+    sym (judged_parts 0 [] (parts_of line_feed bytes))
+    ∙ sym (ap (λ long. cond long (judged_front AnyText (parts_of line_feed (take FILE_LIMIT bytes))) (judged_lines AnyText (raw_lines bytes))) (le-ltb FILE_LIMIT (length bytes) short))
+
+-- a file over it
+pub judged_large : (bytes : List ℕ) → FILE_LIMIT < length bytes → parts_behind true 0 [] (parts_of line_feed (take FILE_LIMIT bytes)) ≡ judged AnyText bytes
+judged_large bytes long =
+    let parts = parts_of line_feed (take FILE_LIMIT bytes) in
+    ap (λ n. at_limit (judged_lines AnyText (whole_lines parts)) n (limit_fault (unfinished_line parts))) (omega arith)
+    ∙ sym (ap (λ over. cond over (judged_front AnyText (parts_of line_feed (take FILE_LIMIT bytes))) (judged_lines AnyText (raw_lines bytes))) (lt-ltb FILE_LIMIT (length bytes) long))
+
+-- what was read of a file over the limit is judged as the file is
+front_at : (all front : List ℕ) (long_front long_all : Bool) → nat_lt FILE_LIMIT (length front) ≡ long_front → nat_lt FILE_LIMIT (length all) ≡ long_all → IsFileFront all front
+    → judged AnyText front ≡ judged AnyText all
+front_at all front false long_all is_front is_all read =
+    let nothing = read.whole (ltb-false FILE_LIMIT (length front) is_front) in
+    ap (judged AnyText) (sym (read.begins ∙ (ap (λ rest. front ++ rest) nothing ∙ append-nil front)))
+front_at all front true true is_front is_all read =
+    let same = take-append-le FILE_LIMIT front read.rest (omega (arith, ltb-true FILE_LIMIT (length front) is_front)) in
+    ap (λ long. cond long (judged_front AnyText (parts_of line_feed (take FILE_LIMIT front))) (judged_lines AnyText (raw_lines front))) is_front
+    ∙ (ap (λ bytes. judged_front AnyText (parts_of line_feed bytes)) (sym same ∙ ap (take FILE_LIMIT) (sym read.begins))
+    ∙ sym (ap (λ long. cond long (judged_front AnyText (parts_of line_feed (take FILE_LIMIT all))) (judged_lines AnyText (raw_lines all))) is_all))
+front_at all front true false is_front is_all read =
+    absurd (omega (arith, ltb-true FILE_LIMIT (length front) is_front, ltb-false FILE_LIMIT (length all) is_all, ap length read.begins, length-append front read.rest))
+
+pub front_judged : (all front : List ℕ) → IsFileFront all front → judged AnyText front ≡ judged AnyText all
+front_judged all front read = front_at all front (nat_lt FILE_LIMIT (length front)) (nat_lt FILE_LIMIT (length all)) refl refl read
+
+-- so it has the same answer
+pub front_answer : (all front : List ℕ) → IsFileFront all front → answer_of all ≡ answer_of front
+front_answer all front read = ap (λ (file : Judged). answer_to file.good file.fault) (sym (front_judged all front read))

@@ -1,4 +1,3 @@
 pub mod EventLemmas
-pub mod StandingLemmas
 pub mod FileLemmas
 pub mod EndingLemmas

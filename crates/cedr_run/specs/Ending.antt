@@ -6,7 +6,7 @@ use Rattle.cedr_io.specs.Counts.{Rose}
 use Rattle.cedr_io.specs.Asked.{AppendsFront}
 use Rattle.cedr_text.specs.Texts.{line_feed}
 use Rattle.cedr_run.specs.declared.answer.Answer.{Answer}
-use Rattle.cedr_run.specs.declared.answer.Answer.TheVariants.{Rows, Faulty, NotBuilt}
+use Rattle.cedr_run.specs.declared.answer.Answer.TheVariants.{Rows, Faulty}
 use Rattle.cedr_run.specs.declared.status.Status.{Status}
 use Rattle.cedr_run.specs.declared.status.Status.TheVariants as status
 use Rattle.cedr_run.specs.Answers.{answer_of, answer_text}
@@ -57,9 +57,6 @@ known_answer files (Some file) = option_map answer_of (files.content file)
 abbrev pub usage_text : List ℕ
 usage_text = codes "usage: cedr history FILE | check PLAN | serial PLAN | run PLAN | stream PLAN | audit PLAN | live PLAN SCRIPT | make N" ++ line_feed ∷ []
 
-abbrev pub not_built_text : List ℕ
-not_built_text = codes "not built yet" ++ line_feed ∷ []
-
 abbrev pub read_text : List ℕ
 read_text = codes "read fault" ++ line_feed ∷ []
 
@@ -69,7 +66,6 @@ write_text = codes "write fault" ++ line_feed ∷ []
 -- why a file gave no rows
 abbrev pub refused_text : Option (List ℕ) → Option Answer → Option (List ℕ)
 refused_text (Some file) (Some (Faulty refusal)) = Some (refusal_text file refusal)
-refused_text file (Some NotBuilt) = Some not_built_text
 refused_text file answer = None
 
 -- the text of a status, where it is known
@@ -96,13 +92,11 @@ pub record NoneRose (files files' : FilesSeen) (out out' : SinkSeen) : Type 0 wh
 abbrev pub Completes : Answer → Status → Type 0
 Completes (Rows text) s = (s ≡ status.Done) ⊎ (s ≡ status.OutOfMemory)
 Completes (Faulty refusal) s = (s ≡ status.Events) ⊎ (s ≡ status.OutOfMemory)
-Completes NotBuilt s = (s ≡ status.Events) ⊎ (s ≡ status.OutOfMemory)
 
 -- no rows are written
 abbrev pub IsRefusal : Answer → Type 0
 IsRefusal (Rows text) = ⊥
 IsRefusal (Faulty refusal) = Unit {0}
-IsRefusal NotBuilt = Unit {0}
 
 -- the statuses at which nothing is written, and those at which a part may be
 abbrev pub IsSilent : Status → Type 0
@@ -125,7 +119,6 @@ IsPartial status.OutOfMemory = Unit {0}
 abbrev pub Writes : Option (List ℕ) → Option (List ℕ) → Answer → Type 0
 Writes old new (Rows text) = Appends old new text
 Writes old new (Faulty refusal) = ⊥
-Writes old new NotBuilt = ⊥
 
 -- a call whose words name this file for `history`, or match no command
 pub record Ends (file : Option (List ℕ)) (files files' : FilesSeen) (out out' err err' : SinkSeen) (s : Status) : Type 0 where

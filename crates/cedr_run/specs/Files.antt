@@ -1,6 +1,6 @@
 -- What was read of a file.
 use Rattle.std.specs.Prelude.{ℕ, ◌≡◌, ◌≤◌, List, ◌++◌, [], length, take}
-use Rattle.cedr_run.specs.declared.answer.TheConstants.{FILE_LIMIT}
+use Rattle.cedr_guard.specs.declared.refusal.TheConstants.{FILE_LIMIT}
 
 -- the front of the bytes, and all of them unless it passes the limit
 pub record IsFileFront (all front : List ℕ) : Type 0 where

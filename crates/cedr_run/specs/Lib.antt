@@ -1,10 +1,7 @@
 pub mod Refusals
-pub mod Judging
-pub mod History
-pub mod Standing
+pub mod Events
 pub mod Answers
 pub mod Files
 pub mod Ending
 pub mod Codes
 pub mod Outcomes
-pub mod Messages

@@ -2,12 +2,12 @@
 use Rattle.std.specs.Prelude.{ℕ, List, [], ◌∷◌, ◌++◌, codes, decimal}
 use Rattle.cedr_text.specs.declared.fault.LineFault.{LineFault}
 use Rattle.cedr_text.specs.declared.fault.LineFault.TheVariants.{LineTooLong, BadForm, BadNumber, EmptyLife, BadField, KnownId, UnknownId, BadEnd, BeforeGuarantee, TooLarge}
-use Rattle.cedr_text.specs.declared.fault.ReadLineFault.{ReadLineFault}
-use Rattle.cedr_text.specs.declared.fault.ReadLineFault.TheVariants as read_fault
+use Rattle.cedr_guard.specs.declared.fault.GuardFault.{GuardFault}
+use Rattle.cedr_guard.specs.declared.fault.GuardFault.TheVariants as guard_fault
 use Rattle.cedr_text.specs.Faults.{number_of}
 use Rattle.cedr_text.specs.Parts.{line_feed}
 use Rattle.cedr_text.specs.Texts.{time_text}
-use Rattle.cedr_run.specs.declared.refusal.Refusal.{Refusal}
+use Rattle.cedr_guard.specs.declared.refusal.Refusal.{Refusal}
 use Rattle.cedr_run.specs.declared.refusal.JudgeFault.{JudgeFault}
 use Rattle.cedr_run.specs.declared.refusal.JudgeFault.TheVariants as judge_fault
 
@@ -30,6 +30,6 @@ refusal_text file refusal =
     codes "events " ++ (file ++ (codes " line " ++ (decimal refusal.line ++ (codes " fault " ++ (decimal (number_of refusal.fault) ++ (kept_text refusal.fault ++ line_feed ∷ []))))))
 
 -- the fault of the line with this number
-abbrev pub fault_at : ℕ → ReadLineFault → JudgeFault
-fault_at line (read_fault.Line fault) = judge_fault.Refused (record { line = line; fault = fault })
-fault_at line read_fault.OutOfMemory = judge_fault.OutOfMemory
+abbrev pub fault_at : ℕ → GuardFault → JudgeFault
+fault_at line (guard_fault.Line fault) = judge_fault.Refused (record { line = line; fault = fault })
+fault_at line guard_fault.OutOfMemory = judge_fault.OutOfMemory

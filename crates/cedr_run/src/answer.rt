@@ -1,86 +1,108 @@
-ghost use Rattle.std.specs.Prelude.{◌≡◌, ◌≤◌, length, false, [], List, IfOk};
-ghost use Rattle.cedr_text.specs.declared.event_line.EventLine.{EventLine};
-ghost use Rattle.cedr_text.specs.Reading.{has_quote};
+ghost use Rattle.std.specs.Prelude.{◌≡◌, ◌≤◌, length, [], Bool, List, IfOk};
+ghost use Rattle.cedr_text.specs.Parts.{line_feed, parts_of};
 ghost use Rattle.cedr_text.specs.Texts.{rows_text};
+ghost use Rattle.cedr_text.specs.declared.event_line.EventLine.{EventLine};
+ghost use Rattle.cedr_text.specs.declared.event_line.Shape.TheVariants.{AnyText};
+ghost use Rattle.cedr_guard.specs.History.{history_of};
+ghost use Rattle.cedr_guard.specs.Sources.{judged, with_reading, line_reading, limit_fault};
 ghost use Rattle.cedr_run.specs.declared.answer.Answer.TheVariants.{Rows};
-ghost use Rattle.cedr_run.specs.Judging.{judged, with_reading, line_reading};
-ghost use Rattle.cedr_run.specs.History.{history_of};
-ghost use Rattle.cedr_run.specs.Standing.{StandsFor, JudgesFile, TakesLine};
+ghost use Rattle.cedr_run.specs.Events.{AreEventsOf, TakesLine, JudgesFile, parts_behind};
 ghost use Rattle.cedr_run.specs.Answers.{answer_of};
 
-use crate::judge::Judge;
-use crate::refusal::{JudgeFault, Refusal};
+use crate::events::Events;
+use crate::refusal::JudgeFault;
 use cedr_base::{OutOfMemory, Text};
+use cedr_guard::{FILE_LIMIT, GuardFault, Refusal};
 use cedr_text::{
-    LINE_LIMIT, LineFault, Parts, ReadLineFault, Shape, has_quote, read_line, without_return,
-    write_rows,
+    LINE_LIMIT, LineFault, Parts, read_text_line, sort_text_rows, without_return, write_text_rows,
 };
 use std::alloc::Global;
-
-/// How many bytes a file may have that is read today.
-pub(crate) const FILE_LIMIT: usize = 67_108_864;
 
 /// What `history` answers for a file.
 #[derive(Drop)]
 pub(crate) enum Answer {
     /// The text of its canonical history.
     Rows(Text),
-    /// Some line has a fault.
+    /// Some line has a fault, or the file is too large.
     Faulty(Refusal),
-    /// The file is over the limit, or has a quote.
-    NotBuilt,
 }
 
 /// The answer for a file of these bytes. O(n log n) in its events.
 pub(crate) fn answer_file(alloc: Global, bytes: &[u8]) -> Result<Answer, OutOfMemory>
     ensures { IfOk result (λ answer. answer ≡ answer_of bytes.now) }
 {
-    if bytes.len() > FILE_LIMIT || has_quote(bytes) {
-        return Ok(Answer::NotBuilt);
-    }
     match judge_file(alloc, bytes) {
-        Ok(judge) => rows_answer(alloc, judge),
+        Ok(events) => rows_answer(alloc, events),
         Err(JudgeFault::Refused(refusal)) => Ok(Answer::Faulty(refusal)),
         Err(JudgeFault::OutOfMemory) => Err(OutOfMemory),
     }
 }
 
-fn rows_answer(alloc: Global, judge: Judge) -> Result<Answer, OutOfMemory>
-    ensures { IfOk result (λ answer. (lines : List EventLine) → StandsFor judge lines → answer ≡ Rows (rows_text (history_of lines))) }
+fn rows_answer(alloc: Global, events: Events<'_>) -> Result<Answer, OutOfMemory>
+    ensures { IfOk result (λ answer. (lines : List EventLine) → AreEventsOf events.entry lines → answer ≡ Rows (rows_text (history_of lines))) }
 {
-    let rows = judge.into_history()?;
+    let mut rows = events.into_rows(alloc)?;
+    sort_text_rows(&mut rows);
     let mut text = Vec::new(alloc);
-    write_rows(&rows, &mut text)?;
+    write_text_rows(&rows, &mut text)?;
     Ok(Answer::Rows(Text::from(text)))
 }
 
-/// Judges each line of a file behind those before it, up to the first fault.
-fn judge_file(alloc: Global, bytes: &[u8]) -> Result<Judge, JudgeFault>
-    requires short { length bytes.now ≤ FILE_LIMIT }
-    requires plain { has_quote bytes.now ≡ false }
-    ensures { JudgesFile result (judged bytes.now) }
+/// Judges the lines of a file, or those of its first bytes where it is over the limit.
+fn judge_file(alloc: Global, bytes: &[u8]) -> Result<Events<'_>, JudgeFault>
+    ensures { JudgesFile result (judged AnyText bytes.now) }
 {
-    let mut judge = Judge::new(alloc);
+    if bytes.len() > FILE_LIMIT {
+        judge_lines(alloc, &bytes[..FILE_LIMIT], true)
+    } else {
+        judge_lines(alloc, bytes, false)
+    }
+}
+
+/// Judges each line behind those before it, up to the first fault. Of a file over the limit these are the
+/// first bytes: the line that they don't finish has no other fault than that.
+fn judge_lines(alloc: Global, bytes: &[u8], over_limit: bool) -> Result<Events<'_>, JudgeFault>
+    requires { length bytes.now ≤ FILE_LIMIT }
+    ensures { JudgesFile result (parts_behind over_limit 0 [] (parts_of line_feed bytes.now)) }
+{
+    let mut events = Events::new(alloc);
     let mut number = 0u64;
-    for line in Parts::new(bytes, b'\n') {
+    let mut lines = Parts::new(bytes, b'\n');
+    while let Some(line) = lines.next() {
         number += 1;
-        if let Err(fault) = judge_line(alloc, &mut judge, line) {
+        if over_limit && lines.is_empty() {
+            return Err(JudgeFault::Refused(Refusal {
+                line: number,
+                fault: limit_fault(line),
+            }));
+        }
+        if let Err(fault) = judge_line(alloc, &mut events, line) {
             return Err(JudgeFault::at(number, fault));
         }
     }
-    Ok(judge)
+    Ok(events)
 }
 
-fn judge_line(alloc: Global, judge: &mut Judge, line: &[u8]) -> Result<(), ReadLineFault>
-    requires plain { has_quote line.now ≡ false }
-    requires stands { (before : List EventLine) × StandsFor judge.old before }
-    ensures { (before : List EventLine) → StandsFor judge.old before → TakesLine result judge.new (with_reading before (line_reading line.now)) }
+/// The fault of the line that the first bytes of a file over the limit don't finish.
+fn limit_fault(line: &[u8]) -> LineFault
+    ensures { result ≡ limit_fault line.now }
 {
     if line.len() > LINE_LIMIT {
-        return Err(ReadLineFault::Line(LineFault::LineTooLong));
+        LineFault::LineTooLong
+    } else {
+        LineFault::TooLarge
     }
-    match read_line(alloc, without_return(line), &Shape::AnyText)? {
-        None => Ok(()),
-        Some(event) => judge.accept(event),
+}
+
+fn judge_line<'a>(alloc: Global, events: &mut Events<'a>, line: &'a [u8]) -> Result<(), GuardFault>
+    ensures { (before : List EventLine) → AreEventsOf events.old before → TakesLine result events.new (with_reading before (line_reading AnyText line.now)) }
+{
+    if line.len() > LINE_LIMIT {
+        return Err(GuardFault::Line(LineFault::LineTooLong));
+    }
+    match read_text_line(alloc, without_return(line)) {
+        Ok(Some(event)) => events.take(event),
+        Ok(None) => Ok(()),
+        Err(fault) => Err(GuardFault::from(fault)),
     }
 }

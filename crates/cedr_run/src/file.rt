@@ -1,19 +1,20 @@
-ghost use Rattle.std.specs.Prelude.{◌≡◌, ◌<◌, ◌∷◌, [], ℕ, List, IfOk, IfSome};
+ghost use Rattle.std.specs.Prelude.{◌≡◌, ◌<◌, ◌∷◌, [], ℕ, List, IfOk, IfSome, option_map};
 ghost use Rattle.cedr_io.specs.Counts.{Counts, last_count};
+ghost use Rattle.cedr_run.specs.Answers.{answer_of};
 ghost use Rattle.cedr_run.specs.Files.{IsFileFront, AsksFirst};
 
-use crate::answer::FILE_LIMIT;
+use cedr_guard::FILE_LIMIT;
 use cedr_io::{Files, OutsideFault, Source};
 use std::alloc::Global;
 
-/// The bytes of a file, or its first ones where these pass the limit.
+/// The bytes of a file, or its first ones where these pass the limit, which have the same answer.
 pub(crate) fn read_file<F: Files>(
     alloc: Global,
     files: &mut F,
     name: &[u8],
 ) -> Result<Vec<u8>, OutsideFault>
     requires { F.faults files.old < last_count }
-    ensures bytes { IfOk result (λ bytes. IfSome (F.content files.old name.now) (λ all. IsFileFront all bytes.items)) }
+    ensures bytes { IfOk result (λ bytes. IfSome (option_map answer_of (F.content files.old name.now)) (λ answer. answer ≡ answer_of bytes.items)) }
     ensures counted { Counts result (F.faults files.old) (F.faults files.new) }
     ensures asked { AsksFirst (F.asked files.old) (F.asked files.new) (name.now ∷ []) }
     ensures contents { (n : List ℕ) → F.content files.new n ≡ F.content files.old n }

@@ -37,7 +37,6 @@ pub(crate) fn write_history<F: Files, K: Sink>(
     let text = match answer {
         Answer::Rows(text) => text,
         Answer::Faulty(refusal) => return Outcome::Faulty(refusal),
-        Answer::NotBuilt => return Outcome::NotBuilt,
     };
     match write_all(out, text.bytes()) {
         Ok(()) => Outcome::Done,

@@ -2,15 +2,14 @@
 //!
 //! `run` and `run_alone` end as the record `Ends` in `specs/Ending.antt` says: which status may come when,
 //! what the output and the error stream gained, and which files were asked for. What `history` writes
-//! is the text of the canonical history in `specs/History.antt`, over the lines that `specs/Judging.antt`
-//! accepts.
+//! is the text of the canonical history of the file's lines, as the crate `cedr_guard` defines it.
 #![tactic(auto)]
 
 mod answer;
 mod command;
+mod events;
 mod file;
 mod history;
-mod judge;
 mod outcome;
 mod refusal;
 mod status;

@@ -3,9 +3,10 @@ ghost use Rattle.cedr_run.specs.declared.status.Status.TheVariants as status;
 ghost use Rattle.cedr_run.specs.Ending.{Tells, seen_sink};
 ghost use Rattle.cedr_run.specs.Outcomes.{status_of, told_text};
 
-use crate::refusal::{Refusal, write_refusal};
+use crate::refusal::write_refusal;
 use crate::status::Status;
 use cedr_base::OutOfMemory;
+use cedr_guard::Refusal;
 use cedr_io::{OutsideFault, Sink, write_all};
 use std::alloc::Global;
 
@@ -15,10 +16,8 @@ pub(crate) enum Outcome {
     Done,
     /// The words match no command.
     Usage,
-    /// Some line of the file has a fault.
+    /// Some line of the file has a fault, or the file is too large.
     Faulty(Refusal),
-    /// The file is one that isn't read yet.
-    NotBuilt,
     Read,
     Write,
     OutOfMemory,
@@ -31,7 +30,7 @@ impl Outcome {
         match self {
             Outcome::Done => Status::Done,
             Outcome::Usage => Status::Usage,
-            Outcome::Faulty(_) | Outcome::NotBuilt => Status::Events,
+            Outcome::Faulty(_) => Status::Events,
             Outcome::Read => Status::Read,
             Outcome::Write => Status::Write,
             Outcome::OutOfMemory => Status::OutOfMemory,
@@ -49,7 +48,6 @@ impl Outcome {
                 b"usage: cedr history FILE | check PLAN | serial PLAN | run PLAN | stream PLAN | audit PLAN | live PLAN SCRIPT | make N\n",
             )?,
             Outcome::Faulty(refusal) => write_refusal(file, &refusal, &mut text)?,
-            Outcome::NotBuilt => text.extend_from_slice(b"not built yet\n")?,
             Outcome::Read => text.extend_from_slice(b"read fault\n")?,
             Outcome::Write => text.extend_from_slice(b"write fault\n")?,
             Outcome::OutOfMemory => text.extend_from_slice(b"out of memory\n")?,

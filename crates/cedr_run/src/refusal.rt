@@ -2,17 +2,10 @@ ghost use Rattle.std.specs.Prelude.{◌≡◌, ◌++◌, OnOk};
 ghost use Rattle.cedr_run.specs.Refusals.{kept_text, refusal_text, fault_at};
 
 use cedr_base::OutOfMemory;
-use cedr_text::{LineFault, ReadLineFault, write_number, write_time};
+use cedr_guard::{GuardFault, Refusal};
+use cedr_text::{LineFault, write_number, write_time};
 
-/// The first line of a file that isn't accepted, and why.
-#[derive(Clone, Copy)]
-pub(crate) struct Refusal {
-    /// The line's number, from 1 on. Empty lines count.
-    pub(crate) line: u64,
-    pub(crate) fault: LineFault,
-}
-
-/// Why a file has no judge.
+/// Why a file wasn't judged to its end.
 #[derive(Clone, Copy)]
 pub(crate) enum JudgeFault {
     Refused(Refusal),
@@ -21,12 +14,12 @@ pub(crate) enum JudgeFault {
 
 impl JudgeFault {
     /// The fault of the line with this number.
-    pub(crate) fn at(line: u64, fault: ReadLineFault) -> JudgeFault
+    pub(crate) fn at(line: u64, fault: GuardFault) -> JudgeFault
         ensures { result ≡ fault_at line fault }
     {
         match fault {
-            ReadLineFault::Line(fault) => JudgeFault::Refused(Refusal { line, fault }),
-            ReadLineFault::OutOfMemory => JudgeFault::OutOfMemory,
+            GuardFault::Line(fault) => JudgeFault::Refused(Refusal { line, fault }),
+            GuardFault::OutOfMemory => JudgeFault::OutOfMemory,
         }
     }
 }

@@ -8,7 +8,7 @@ pub enum Status {
     Done,
     /// The words match no command.
     Usage,
-    /// Some line of the file has a fault, or the file can't be read yet.
+    /// Some line of the file has a fault, or the file is too large.
     Events,
     /// A file wasn't found, or a read was refused.
     Read,

@@ -34,80 +34,140 @@ fn history(rt: &HostRuntime, bytes: &[u8]) -> Result<(u8, Vec<u8>, Vec<u8>), Out
     ))
 }
 
+/// A file, the status, the rows and what standard error is told.
+type Case = (&'static [u8], u8, &'static str, &'static str);
+
+/// Whether each file is answered so.
+fn are_answered(rt: &HostRuntime, cases: &[Case]) -> Result<bool, OutOfMemory> {
+    for (bytes, status, rows, told) in cases {
+        let (code, out, err) = history(rt, bytes)?;
+        if code != *status
+            || out.as_slice() != rows.as_bytes()
+            || err.as_slice() != told.as_bytes()
+        {
+            return Ok(false);
+        }
+    }
+    Ok(true)
+}
+
 #[test]
-fn a_file_gives_its_canonical_history_or_is_refused(rt: HostRuntime) -> Result<(), Fail> {
-    for (bytes, status, rows, told) in [
-        (b"".as_slice(), 0, "", ""),
-        (EVENTS, 0, "1,5,a\n3,inf,b\n", ""),
-        (b"+,1,2,9,a\n-,1,2\n", 0, "", ""),
-        (
-            b"+,1,2,9,a\n-,1,2\n-,1,2\n",
-            3,
-            "",
-            "events e.csv line 3 fault 8 begin 2 end 2\n",
-        ),
-        (
-            b"=,10\n+,1,9,12,a\n",
-            3,
-            "",
-            "events e.csv line 2 fault 9 sync 9 mark 10\n",
-        ),
-        (b"+,1,1,20,a\n=,10\n-,1,10\n", 0, "1,10,a\n", ""),
-        (
-            b"+,1,1,20,a\n=,10\n-,1,9\n",
-            3,
-            "",
-            "events e.csv line 3 fault 9 sync 9 mark 10\n",
-        ),
-        (
-            b"+,1,4611686018427387903,inf,a\n",
-            0,
-            "4611686018427387903,inf,a\n",
-            "",
-        ),
-        (
-            b"+,1,4611686018427387904,inf,a\n",
-            3,
-            "",
-            "events e.csv line 1 fault 3\n",
-        ),
-        (b"+,1,1,2,a", 0, "1,2,a\n", ""),
-        (b"\n\n+,1,1,2,a\n\n", 0, "1,2,a\n", ""),
-        (
-            b"+,1,1,2,a\n+,1,3,4,b\n",
-            3,
-            "",
-            "events e.csv line 2 fault 6\n",
-        ),
-        (b"-,1,2\n", 3, "", "events e.csv line 1 fault 7\n"),
-        (b"\n\n+,1,5,5\n*\n", 3, "", "events e.csv line 3 fault 4\n"),
-        (
-            b"+,1,5,inf\n-,1,4",
-            3,
-            "",
-            "events e.csv line 2 fault 8 begin 5 end inf\n",
-        ),
-        (
-            b"+,3,1,9,c\n+,1,1,9,b\n+,2,0,9,a\n+,4,5,7,d\n+,5,1,9,b\n",
-            0,
-            "5,7,d\n0,9,a\n1,9,b\n1,9,b\n1,9,c\n",
-            "",
-        ),
-        (
-            b"+,1,1,9,a\n-,1,7\n-,1,4\n-,1,5\n",
-            3,
-            "",
-            "events e.csv line 4 fault 8 begin 1 end 4\n",
-        ),
-        (b"+,1,1,2,\"a\"\n", 3, "", "not built yet\n"),
-        (b"+,1,1,2,a\r\n\r\n+,2,3,4,b\r", 0, "1,2,a\n3,4,b\n", ""),
-        (b"+,1,1,2,a\r\r\n", 3, "", "events e.csv line 1 fault 2\n"),
-        (b"+,1,1,2,a\rb\n", 3, "", "events e.csv line 1 fault 2\n"),
-    ] {
-        let (code, out, err) = history(&rt, bytes)?;
-        assert_eq!(rt; code, status, "{:?}", out);
-        assert_eq!(rt; out.as_slice(), rows.as_bytes());
-        assert_eq!(rt; err.as_slice(), told.as_bytes());
+fn a_file_gives_its_canonical_history(rt: HostRuntime) -> Result<(), Fail> {
+    let answered = are_answered(
+        &rt,
+        &[
+            (b"", 0, "", ""),
+            (EVENTS, 0, "1,5,a\n3,inf,b\n", ""),
+            (b"+,1,2,9,a\n-,1,2\n", 0, "", ""),
+            (b"+,1,1,20,a\n=,10\n-,1,10\n", 0, "1,10,a\n", ""),
+            (
+                b"+,1,4611686018427387903,inf,a\n",
+                0,
+                "4611686018427387903,inf,a\n",
+                "",
+            ),
+            (b"+,1,1,2,a", 0, "1,2,a\n", ""),
+            (b"\n\n+,1,1,2,a\n\n", 0, "1,2,a\n", ""),
+            (b"+,1,1,2,a\r\n\r\n+,2,3,4,b\r", 0, "1,2,a\n3,4,b\n", ""),
+            (
+                b"\"+\",\"1\",\"1\",\"2\",\"a,\"\"b\"\n",
+                0,
+                "1,2,\"a,\"\"b\"\n",
+                "",
+            ),
+            (b"+,1,1,2,\"a\"\n+,2,1,2,a\n", 0, "1,2,a\n1,2,a\n", ""),
+            (
+                b"+,3,1,9,c\n+,1,1,9,b\n+,2,0,9,a\n+,4,5,7,d\n+,5,1,9,b\n",
+                0,
+                "5,7,d\n0,9,a\n1,9,b\n1,9,b\n1,9,c\n",
+                "",
+            ),
+            (
+                b"+,1,1,9,a!\n+,2,1,9,a,b\n+,3,1,9,\"a,\"\n+,4,1,9\n+,5,1,9,\n",
+                0,
+                "1,9\n1,9,\n1,9,a,b\n1,9,a!\n1,9,\"a,\"\n",
+                "",
+            ),
+        ],
+    )?;
+    assert!(rt; answered);
+    Ok(())
+}
+
+#[test]
+fn a_faulty_file_is_told_its_first_fault(rt: HostRuntime) -> Result<(), Fail> {
+    let answered = are_answered(
+        &rt,
+        &[
+            (b"*\n", 3, "", "events e.csv line 1 fault 2\n"),
+            (b"+,1,1,2,a\r\r\n", 3, "", "events e.csv line 1 fault 2\n"),
+            (b"+,1,1,2,a\rb\n", 3, "", "events e.csv line 1 fault 2\n"),
+            (b"+,1,1,2,a\"b\n", 3, "", "events e.csv line 1 fault 2\n"),
+            (
+                b"+,1,4611686018427387904,inf,a\n",
+                3,
+                "",
+                "events e.csv line 1 fault 3\n",
+            ),
+            (b"\n\n+,1,5,5\n*\n", 3, "", "events e.csv line 3 fault 4\n"),
+            (
+                b"+,1,1,2,a\n+,1,3,4,b\n",
+                3,
+                "",
+                "events e.csv line 2 fault 6\n",
+            ),
+            (b"-,1,2\n", 3, "", "events e.csv line 1 fault 7\n"),
+            (
+                b"+,1,2,9,a\n-,1,2\n-,1,2\n",
+                3,
+                "",
+                "events e.csv line 3 fault 8 begin 2 end 2\n",
+            ),
+            (
+                b"+,1,5,inf\n-,1,4",
+                3,
+                "",
+                "events e.csv line 2 fault 8 begin 5 end inf\n",
+            ),
+            (
+                b"+,1,1,9,a\n-,1,7\n-,1,4\n-,1,5\n",
+                3,
+                "",
+                "events e.csv line 4 fault 8 begin 1 end 4\n",
+            ),
+            (
+                b"=,10\n+,1,9,12,a\n",
+                3,
+                "",
+                "events e.csv line 2 fault 9 sync 9 mark 10\n",
+            ),
+            (
+                b"+,1,1,20,a\n=,10\n-,1,9\n",
+                3,
+                "",
+                "events e.csv line 3 fault 9 sync 9 mark 10\n",
+            ),
+        ],
+    )?;
+    assert!(rt; answered);
+    Ok(())
+}
+
+#[test]
+fn a_file_is_read_the_same_in_pieces_of_any_size(rt: HostRuntime) -> Result<(), Fail> {
+    let alloc = rt.alloc();
+    let bytes = b"+,1,1,10,\"a,b\"\r\n-,1,5\n\n=,5\n+,2,5,inf,c";
+    for piece in 1..bytes.len() + 2 {
+        let mut files = MemFiles::new(alloc);
+        files.add("e.csv", bytes)?;
+        files.set_piece(piece);
+        let (mut out, mut err) = (MemSink::new(alloc), MemSink::new(alloc));
+        let words = words(alloc, &["history", "e.csv"])?;
+        let status = run(
+            &rt, alloc, &words, &mut files, &mut out, &mut err, &OpenGate,
+        );
+        assert_eq!(rt; status, Status::Done, "piece {piece}");
+        assert_eq!(rt; out.written(), b"1,5,\"a,b\"\n5,inf,c\n".as_slice());
     }
     Ok(())
 }

@@ -1,12 +1,9 @@
 -- The first field of a line, by the place of the first comma.
-use Rattle.std.proofs.Common.{◌≡◌, ℕ, zero, suc, ◌-◌, ◌<◌, List, [], ◌∷◌, Bool, true, false, length, get_or, take, drop, refl, ap, ◌∙◌, arith}
+use Rattle.std.proofs.Common.{◌≡◌, ℕ, zero, suc, ◌-◌, ◌<◌, List, [], ◌∷◌, Bool, true, false, length, get_or, take, drop, cond, refl, ap, ◌∙◌, arith}
 use Rattle.std.specs.List.{slice_split, onto_first}
 use Rattle.std.proofs.lemmas.List.Splits.{slice_split-cons_yes, slice_split-cons_no}
+use Rattle.std.proofs.lemmas.Bool.{false_from_ne_true}
 use Rattle.std.proofs.lemmas.List.{take_all, length-drop}
-
-not_true : (b : Bool) → (b ≡ true → ⊥) → b ≡ false
-not_true true h = absurd (h refl)
-not_true false h = refl
 
 module _ (p : ℕ → Bool) where
   -- where the first element that passes stands at this place, the first part ends there
@@ -15,13 +12,26 @@ module _ (p : ℕ → Bool) where
   first_part [] at within before here = absurd (omega arith)
   first_part (b ∷ text) zero within before here = slice_split-cons_yes p b text here
   first_part (b ∷ text) (suc at) within before here =
-      slice_split-cons_no p b text (not_true (p b) (before 0 (omega arith))) ∙ ap (onto_first b) (first_part text at (omega arith) (λ k low. before (suc k) (omega arith)) here)
+      slice_split-cons_no p b text (false_from_ne_true (p b) (before 0 (omega arith))) ∙ ap (onto_first b) (first_part text at (omega arith) (λ k low. before (suc k) (omega arith)) here)
 
   -- where none passes there is one part
   pub only_part : (text : List ℕ) → ((k : ℕ) → k < length text → p (get_or text k 0) ≡ true → ⊥) → slice_split p text ≡ text ∷ []
   only_part [] none = refl
   only_part (b ∷ text) none =
-      slice_split-cons_no p b text (not_true (p b) (none 0 (omega arith))) ∙ ap (onto_first b) (only_part text (λ k low. none (suc k) (omega arith)))
+      slice_split-cons_no p b text (false_from_ne_true (p b) (none 0 (omega arith))) ∙ ap (onto_first b) (only_part text (λ k low. none (suc k) (omega arith)))
+
+  onto_some : (b : ℕ) (parts : List (List ℕ)) → onto_first b parts ≡ [] → ⊥
+  onto_some b [] none = cc
+  onto_some b (part ∷ parts) none = cc
+
+  cut_some : (cut : Bool) (b : ℕ) (parts : List (List ℕ)) → cond cut ([] ∷ parts) (onto_first b parts) ≡ [] → ⊥
+  cut_some true b parts none = cc
+  cut_some false b parts none = onto_some b parts none
+
+  -- there is always a part
+  pub some_part : (text : List ℕ) → slice_split p text ≡ [] → ⊥
+  some_part [] none = cc
+  some_part (b ∷ text) none = cut_some (p b) b (slice_split p text) none
 
 -- the whole of what stands behind a place, as a slice of the code has it
 pub rest_from : (text : List ℕ) (at : ℕ) → take (length text - at) (drop at text) ≡ drop at text

@@ -1,4 +1,11 @@
 pub mod Cuts
+pub mod JoinLemmas
 pub mod LineLemmas
 pub mod Numerals
+pub mod QuotingLemmas
 pub mod Quotes
+pub mod ReadingLemmas
+pub mod RuleLemmas
+pub mod Searches
+pub mod SplitLemmas
+pub mod TextRowLemmas

@@ -2,5 +2,11 @@ pub mod Faults
 pub mod Parts
 pub mod Lines
 pub mod Numbers
+pub mod Places
+pub mod Quoting
 pub mod Reading
 pub mod Texts
+pub mod TextRows
+pub mod RowWriters
+pub mod PayloadTexts
+pub mod EventTexts

@@ -64,10 +64,6 @@ pub record IsLineEnd (text : List ℕ) (end : ℕ) : Type 0 where
   pub none : has_line_feed (take end text) ≡ false
   pub here : slice_index text end ≡ line_feed
 
--- the first bytes among which a line feed is looked for: one more than a line may have
-abbrev pub window_of : List ℕ → List ℕ
-window_of text = take (LINE_LIMIT + 1) text
-
 -- none of the first bytes is a line feed, and they are at most one more than a line may have
 pub record IsSearched (kept : List ℕ) (count : ℕ) : Type 0 where
   pub within : count ≤ length kept

@@ -1,7 +1,9 @@
--- The grammar of an event line without quotes.
-use Rattle.std.specs.Prelude.{ℕ, ◌≡◌, ◌==◌, Bool, List, [], ◌∷◌, ◌++◌, length, map, nat_le, nat_lt, codes, if◌then◌else◌, option_map, Option, None, Some, Result, Ok, Err}
-use Rattle.std.specs.List.{list_any}
+-- The grammar of an event line.
+use Rattle.std.specs.Prelude.{ℕ, ◌≡◌, ◌==◌, ◌≤◌, ◌||◌, Bool, List, [], ◌∷◌, ◌++◌, length, map, nat_le, nat_lt, nat_eq, codes, if◌then◌else◌, option_map, Option, None, Some, Result, Ok, Err}
+use Rattle.std.specs.List.{list_any, starts_with}
 use Rattle.std.specs.Str.{bytes_eq}
+use Rattle.cedr_base.specs.declared.time.TheConstants.{FOREVER}
+use Rattle.cedr_base.specs.Rows.{IsRow}
 use Rattle.cedr_base.specs.declared.field.Field.{Field}
 use Rattle.cedr_base.specs.declared.field.Field.TheVariants.{Number, Bytes}
 use Rattle.cedr_base.specs.declared.field.FieldType.{FieldType}
@@ -14,16 +16,18 @@ use Rattle.cedr_text.specs.declared.fault.LineFault.{LineFault}
 use Rattle.cedr_text.specs.declared.fault.LineFault.TheVariants.{BadForm, BadNumber, EmptyLife, BadField}
 use Rattle.cedr_text.specs.declared.fault.ReadLineFault.{ReadLineFault}
 use Rattle.cedr_text.specs.declared.fault.ReadLineFault.TheVariants as read_fault
-use Rattle.cedr_text.specs.Parts.{fields_of}
+use Rattle.cedr_text.specs.Lines.{has_line_feed}
+use Rattle.cedr_text.specs.Quoting.{line_fields, byte_order_mark}
+use Rattle.cedr_text.specs.Texts.{carriage_return}
 use Rattle.cedr_text.specs.Numbers.{id_value, begin_value, time_value, int_value}
-
--- some byte is a quote
-abbrev pub has_quote : List ℕ → Bool
-has_quote bytes = list_any (λ b. b == 34) bytes
 
 -- some byte is a carriage return
 abbrev pub has_return : List ℕ → Bool
-has_return bytes = list_any (λ b. b == 13) bytes
+has_return bytes = list_any (λ b. b == carriage_return) bytes
+
+-- a line break stands inside, or a byte order mark in front
+abbrev pub is_broken : List ℕ → Bool
+is_broken line = has_return line || (has_line_feed line || starts_with nat_eq line byte_order_mark)
 
 -- the value of a field that has to be of this type
 abbrev pub field_value : FieldType → List ℕ → Option Field
@@ -71,6 +75,11 @@ abbrev pub retraction : List (List ℕ) → Result EventLine LineFault
 retraction (id ∷ end ∷ []) = retracted (id_value id) (time_value end)
 retraction fields = Err BadForm
 
+-- the retraction of an id and a new end that were read
+abbrev pub retracted_by : Result (ℕ × ℕ) LineFault → Result EventLine LineFault
+retracted_by (Ok read) = Ok (Retract read.0 read.1)
+retracted_by (Err fault) = Err fault
+
 -- behind `=`: a time
 abbrev pub promised : Option ℕ → Result EventLine LineFault
 promised (Some time) = Ok (Promise time)
@@ -79,6 +88,11 @@ promised None = Err BadNumber
 abbrev pub guarantee : List (List ℕ) → Result EventLine LineFault
 guarantee (time ∷ []) = promised (time_value time)
 guarantee fields = Err BadForm
+
+-- the guarantee of a time that was read
+abbrev pub promised_by : Result ℕ LineFault → Result EventLine LineFault
+promised_by (Ok time) = Ok (Promise time)
+promised_by (Err fault) = Err fault
 
 -- the first field says which kind of line it is
 abbrev pub event_of : Shape → List (List ℕ) → Result EventLine LineFault
@@ -93,10 +107,15 @@ abbrev pub as_some : Result EventLine LineFault → Result (Option EventLine) Li
 as_some (Ok event) = Ok (Some event)
 as_some (Err fault) = Err fault
 
+-- fields that the quoting rule gives, or none where the line breaks it
+abbrev pub event_from : Shape → Option (List (List ℕ)) → Result EventLine LineFault
+event_from shape None = Err BadForm
+event_from shape (Some fields) = event_of shape fields
+
 -- what a line says, or its least fault; an empty line says nothing
 abbrev pub reading : Shape → List ℕ → Result (Option EventLine) LineFault
 reading shape [] = Ok None
-reading shape (b ∷ bs) = if has_return (b ∷ bs) then Err BadForm else as_some (event_of shape (fields_of (b ∷ bs)))
+reading shape (b ∷ bs) = if is_broken (b ∷ bs) then Err BadForm else as_some (event_from shape (line_fields (b ∷ bs)))
 
 -- what the code answers is the reading, unless memory ran out
 abbrev pub Reads : {X : Type 0} → Result X ReadLineFault → Result X LineFault → Type 0
@@ -114,3 +133,17 @@ onto front (Ok fields) = Ok None
 abbrev pub pushed : Option (List Field) → Option Field → Option (List Field)
 pushed (Some fields) (Some field) = Some (fields ++ field ∷ [])
 pushed fields field = None
+
+-- ---- what is read is in range
+
+-- an insertion has a row, and no time is above FOREVER
+abbrev pub IsEvent : EventLine → Type 0
+IsEvent (Insert id row) = IsRow row
+IsEvent (Retract id end) = end ≤ FOREVER
+IsEvent (Promise time) = time ≤ FOREVER
+
+-- what a line says is an event, if it says anything
+abbrev pub SaysEvent : Result (Option EventLine) LineFault → Type 0
+SaysEvent (Ok None) = Unit {0}
+SaysEvent (Ok (Some line)) = IsEvent line
+SaysEvent (Err fault) = Unit {0}

@@ -6,18 +6,13 @@ use Rattle.cedr_base.specs.declared.time.TheConstants.{FOREVER}
 use Rattle.cedr_base.specs.declared.row.Row.{Row}
 use Rattle.cedr_base.specs.declared.field.Field.{Field}
 use Rattle.cedr_base.specs.declared.field.Field.TheVariants.{Number, Bytes}
-
-abbrev pub comma : ℕ
-comma = 44
+pub use Rattle.cedr_text.specs.Parts.{comma, line_feed}
 
 abbrev pub quote : ℕ
 quote = 34
 
 abbrev pub carriage_return : ℕ
 carriage_return = 13
-
-abbrev pub line_feed : ℕ
-line_feed = 10
 
 -- decimal digits without leading zeros, or `inf`
 abbrev pub time_text : ℕ → List ℕ

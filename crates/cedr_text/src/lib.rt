@@ -1,24 +1,40 @@
 //! Event lines as bytes, and rows as text.
 //!
-//! `specs/` has the grammar of a line, apart from the code that reads one: its fields, the forms of
-//! numbers and times, the three kinds of line, and which fault is the least. `read_line` answers that
-//! reading. `write_row` and `write_time` append exactly the texts that `specs/Texts.antt` defines.
+//! `specs/` has the grammar of a line, apart from the code that reads one: its fields by the quoting rule, the
+//! forms of numbers and times, the three kinds of line, and which fault is the least. `Lines` cuts bytes that
+//! come in pieces into lines, `read_line` answers a line's reading, and `read_text_line` does so with the
+//! payload left in the line. `write_row` and `write_time` append exactly the texts that `specs/Texts.antt`
+//! defines; `sort_text_rows` and `write_text_rows` do that for rows whose payload still stands in the bytes of
+//! a file. `quoting_rule` and `reading_law` are laws of the grammar.
 #![tactic(auto)]
 
+mod bare;
 mod event_line;
+mod event_text;
 mod fault;
 mod lines;
 mod number;
 mod parts;
+mod payload_text;
+mod quoting;
 mod read;
+mod text_row;
 mod write;
 
 pub use event_line::{EventLine, Shape};
+pub use event_text::EventText;
 pub use fault::{LineFault, ReadLineFault};
 pub use lines::{LINE_LIMIT, LineStep, Lines, without_return};
 pub use parts::Parts;
-pub use read::{has_quote, read_line};
+pub use payload_text::{BareFields, PayloadText};
+pub use quoting::quoting_rule;
+pub use read::{read_line, read_text_line, reading_law};
+pub use text_row::{TextRow, sort_text_rows, write_text_rows};
 pub use write::{write_number, write_row, write_rows, write_time};
 
 #[cfg(test)]
+mod quoting_tests;
+#[cfg(test)]
 mod tests;
+#[cfg(test)]
+mod text_row_tests;

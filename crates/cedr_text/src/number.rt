@@ -48,7 +48,7 @@ pub(crate) fn read_time(text: &[u8]) -> Option<Time>
 {
     match text {
         b"inf" => Some(FOREVER),
-        _ => read_number(text, FOREVER - 1),
+        _ => read_begin(text),
     }
 }
 

@@ -1,4 +1,4 @@
-ghost use Rattle.std.specs.Prelude.{◌≡◌, ◌∷◌, option_map};
+ghost use Rattle.std.specs.Prelude.{◌≡◌, ◌≢◌, ◌∷◌, [], option_map, MatchBool};
 ghost use Rattle.std.specs.Iterator.{YieldsFirstRef, item_count};
 ghost use Rattle.cedr_text.specs.Parts.{parts_of, parts_left};
 
@@ -31,6 +31,23 @@ impl<'a> Parts<'a> {
             separator,
         }
     }
+
+    /// The parts of what is left behind a part, and none where nothing is.
+    pub(crate) fn left(rest: Option<&'a [u8]>, separator: u8) -> Parts<'a>
+        ensures { result ≡ parts_left separator (option_map (λ text. text.now) rest.entry) }
+    {
+        Parts { rest, separator }
+    }
+
+    /// Whether all parts were taken.
+    pub fn is_empty(&self) -> bool
+        ensures { MatchBool result (self.now ≡ []) (self.now ≢ []) }
+    {
+        match self.rest {
+            Some(_) => false,
+            None => true,
+        }
+    }
 }
 
 impl<'a> Iterator for Parts<'a> {
@@ -49,7 +66,7 @@ impl<'a> Iterator for Parts<'a> {
 }
 
 /// The first part, and what stands behind its separator, if it has one.
-fn cut_part(bytes: &[u8], separator: u8) -> (&[u8], Option<&[u8]>)
+pub(crate) fn cut_part(bytes: &[u8], separator: u8) -> (&[u8], Option<&[u8]>)
     ensures { parts_of separator bytes.now
         ≡ result.0.now ∷ parts_left separator (option_map (λ rest. rest.now) result.1) }
 {

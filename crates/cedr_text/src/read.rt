@@ -1,55 +1,125 @@
-ghost use Rattle.std.specs.Prelude.{◌≡◌, ◌==◌, ◌≤◌, ◌++◌, length, map, true, false, IfOk};
-ghost use Rattle.std.specs.List.{list_any};
-ghost use Rattle.cedr_base.specs.declared.field.Field.TheVariants.{Bytes};
+ghost use Rattle.std.specs.Prelude.{◌≡◌, ◌<◌, ℕ, List, true, false, length, map, IfOk, IfSome};
+ghost use Rattle.cedr_text.specs.declared.event_line.Shape.{Shape};
 ghost use Rattle.cedr_text.specs.declared.event_line.Shape.TheVariants.{AnyText};
-ghost use Rattle.cedr_text.specs.declared.fault.LineFault.TheVariants.{BadForm};
-ghost use Rattle.cedr_text.specs.Reading.{has_quote, Reads, reading, insertion, retraction, guarantee, payload_of, typed_payload, field_value, pushed};
+ghost use Rattle.cedr_text.specs.EventTexts.{ReadsText};
+ghost use Rattle.cedr_text.specs.Quoting.{has_quote, line_fields};
+ghost use Rattle.cedr_text.specs.Reading.{is_broken, Reads, reading, event_of, event_from, insertion, retraction, guarantee, retracted_by, promised_by, payload_of, typed_payload, field_value, pushed, IsEvent, SaysEvent};
 
+use crate::bare::read_bare;
 use crate::event_line::{EventLine, Shape};
+use crate::event_text::EventText;
 use crate::fault::{LineFault, ReadLineFault};
 use crate::number::{read_begin, read_id, read_int, read_time};
 use crate::parts::Parts;
-use cedr_base::{Field, FieldType, OutOfMemory, Payload, Row, Text};
-use memchr::memchr;
+use crate::quoting::join_fields;
+use cedr_base::{Field, FieldType, OutOfMemory, Payload, Row, Text, Time};
+use memchr::{memchr, memchr2, memchr3};
 use std::alloc::Global;
 
-/// Whether some byte is a quote, which a line that is read can't have yet.
-pub fn has_quote(bytes: &[u8]) -> bool
-    ensures { result ≡ has_quote bytes.now }
-{
-    has_byte(b'"', bytes)
-}
+/// How many fields a payload of `Shape::AnyText` may have.
+pub(crate) const FIELD_LIMIT: usize = 16;
 
-fn has_byte(byte: u8, bytes: &[u8]) -> bool
-    ensures { result ≡ list_any (λ b. b == byte) bytes.now }
-{
-    match memchr(byte, bytes) {
-        Some(_) => true,
-        None => false,
-    }
-}
+const BYTE_ORDER_MARK: &[u8] = b"\xef\xbb\xbf";
 
 /// What a line says, without its line feed and the carriage return before that: nothing where it is empty.
-/// O(n), with memory for the payload alone.
+/// O(n), with memory for the payload, and for the line twice where it has a quote.
 pub fn read_line(
     alloc: Global,
     line: &[u8],
     shape: &Shape,
 ) -> Result<Option<EventLine>, ReadLineFault>
-    requires { has_quote line.now ≡ false }
-    ensures { Reads result (reading shape.now line.now) }
+    ensures read { Reads result (reading shape.now line.now) }
+    ensures event { IfOk result (λ event. IfSome event IsEvent) }
 {
     if line.is_empty() {
         return Ok(None);
     }
-    if has_byte(b'\r', line) {
+    if is_broken(line) {
         return Err(ReadLineFault::Line(LineFault::BadForm));
     }
-    let mut fields = Parts::new(line, b',');
+    match read_fields(alloc, line, shape) {
+        Ok(event) => Ok(Some(event)),
+        Err(fault) => Err(fault),
+    }
+}
+
+/// What a line says whose payload fields are texts, which stay in the line where it has no quote. O(n), and
+/// without a quote it takes no memory.
+pub fn read_text_line(alloc: Global, line: &[u8]) -> Result<Option<EventText<'_>>, ReadLineFault>
+    ensures { ReadsText result (reading AnyText line.now) }
+{
+    if line.is_empty() {
+        return Ok(None);
+    }
+    if is_plain(line) {
+        return match read_bare(line) {
+            Ok(event) => Ok(Some(event)),
+            Err(fault) => Err(ReadLineFault::Line(fault)),
+        };
+    }
+    match read_line(alloc, line, &Shape::AnyText)? {
+        Some(event) => Ok(Some(EventText::from(event))),
+        None => Ok(None),
+    }
+}
+
+/// The law of what lines say: an insertion has a row, and no time is above `FOREVER`.
+pub fn reading_law()
+    ensures { (shape : Shape) (line : List ℕ) → SaysEvent (reading shape line) }
+{}
+
+/// Whether some byte is a quote.
+fn has_quote(bytes: &[u8]) -> bool
+    ensures { result ≡ has_quote bytes.now }
+{
+    memchr(b'"', bytes).is_some()
+}
+
+/// Whether a line has a line break inside, or begins with a byte order mark.
+fn is_broken(line: &[u8]) -> bool
+    ensures { result ≡ is_broken line.now }
+{
+    memchr2(b'\r', b'\n', line).is_some() || line.starts_with(BYTE_ORDER_MARK)
+}
+
+/// Whether a line has neither a quote nor a line break, and doesn't begin with a byte order mark.
+fn is_plain(line: &[u8]) -> bool
+    ensures { result ≡ true → (has_quote line.now ≡ false) × (is_broken line.now ≡ false) }
+{
+    memchr3(b'"', b'\r', b'\n', line).is_none() && !line.starts_with(BYTE_ORDER_MARK)
+}
+
+/// What a line says that has neither a line break nor a byte order mark. One without a quote is cut at its
+/// commas, and only one with a quote goes through the csv reader, which costs far more to make.
+fn read_fields(alloc: Global, line: &[u8], shape: &Shape) -> Result<EventLine, ReadLineFault>
+    requires some { 0 < length line.now }
+    requires whole { is_broken line.now ≡ false }
+    ensures { Reads result (event_from shape.now (line_fields line.now)) }
+{
+    if !has_quote(line) {
+        return read_event(alloc, Parts::new(line, b','), shape);
+    }
+    match join_fields(alloc, line)? {
+        Some(joined) => read_event(alloc, Parts::new(&joined, b'\r'), shape),
+        None => Err(ReadLineFault::Line(LineFault::BadForm)),
+    }
+}
+
+/// What the fields of a line say.
+fn read_event(
+    alloc: Global,
+    mut fields: Parts<'_>,
+    shape: &Shape,
+) -> Result<EventLine, ReadLineFault>
+    ensures { Reads result (event_of shape.now fields.entry) }
+{
     match fields.next() {
-        Some(b"+") => Ok(Some(read_insertion(alloc, fields, shape)?)),
-        Some(b"-") => Ok(Some(read_retraction(fields)?)),
-        Some(b"=") => Ok(Some(read_guarantee(fields)?)),
+        Some(b"+") => read_insertion(alloc, fields, shape),
+        Some(b"-") => {
+            let (id, end) = read_retraction(fields)?;
+            Ok(EventLine::Retract { id, end })
+        }
+        Some(b"=") => Ok(EventLine::Promise(read_guarantee(fields)?)),
         _ => Err(ReadLineFault::Line(LineFault::BadForm)),
     }
 }
@@ -102,7 +172,7 @@ fn read_texts(alloc: Global, fields: Parts<'_>) -> Result<Option<Payload>, ReadL
 {
     let mut payload = Payload::new(alloc);
     for field in fields {
-        if payload.fields().len() == 16 {
+        if payload.fields().len() == FIELD_LIMIT {
             return Err(ReadLineFault::Line(LineFault::BadForm));
         }
         payload.push(Field::Bytes(Text::from_slice(alloc, field)?))?;
@@ -160,26 +230,28 @@ fn push_field(
     }
 }
 
-fn read_retraction(mut fields: Parts<'_>) -> Result<EventLine, ReadLineFault>
-    ensures { Reads result (retraction fields.entry) }
+/// The id and the new end of a retraction.
+pub(crate) fn read_retraction(mut fields: Parts<'_>) -> Result<(u64, Time), LineFault>
+    ensures { retracted_by result ≡ retraction fields.entry }
 {
     let (Some(id), Some(end), None) = (fields.next(), fields.next(), fields.next()) else {
-        return Err(ReadLineFault::Line(LineFault::BadForm));
+        return Err(LineFault::BadForm);
     };
     match (read_id(id), read_time(end)) {
-        (Some(id), Some(end)) => Ok(EventLine::Retract { id, end }),
-        _ => Err(ReadLineFault::Line(LineFault::BadNumber)),
+        (Some(id), Some(end)) => Ok((id, end)),
+        _ => Err(LineFault::BadNumber),
     }
 }
 
-fn read_guarantee(mut fields: Parts<'_>) -> Result<EventLine, ReadLineFault>
-    ensures { Reads result (guarantee fields.entry) }
+/// The time of a guarantee.
+pub(crate) fn read_guarantee(mut fields: Parts<'_>) -> Result<Time, LineFault>
+    ensures { promised_by result ≡ guarantee fields.entry }
 {
     let (Some(time), None) = (fields.next(), fields.next()) else {
-        return Err(ReadLineFault::Line(LineFault::BadForm));
+        return Err(LineFault::BadForm);
     };
     match read_time(time) {
-        Some(time) => Ok(EventLine::Promise(time)),
-        None => Err(ReadLineFault::Line(LineFault::BadNumber)),
+        Some(time) => Ok(time),
+        None => Err(LineFault::BadNumber),
     }
 }

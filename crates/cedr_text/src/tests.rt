@@ -5,12 +5,8 @@ use cedr_base::{FOREVER, Field, FieldType, OutOfMemory, Payload, Row, Text, Time
 use std::alloc::Global;
 use std::test::Fail;
 
-/// The reading of a line, or the number of its fault: 98 for a line that can't be read yet, 99 for want of
-/// memory.
+/// The reading of a line, or the number of its fault: 99 for want of memory.
 fn read(alloc: Global, line: &[u8], shape: &Shape) -> Result<Option<EventLine>, u8> {
-    if has_quote(line) {
-        return Err(98);
-    }
     match read_line(alloc, line, shape) {
         Ok(event) => Ok(event),
         Err(ReadLineFault::Line(fault)) => Err(fault.number()),
@@ -47,6 +43,12 @@ fn a_faulty_line_has_its_least_fault(rt: HostRuntime) -> Result<(), Fail> {
         (b"+,1,1,2\r", 2),
         (b"+,x,\r,2", 2),
         (b"\r", 2),
+        (b"+,1,1,2,a\nb", 2),
+        (b"+,\"1\",1,2,a\"b", 2),
+        (b"\"+\",1,1,2,\"a\"b", 2),
+        (b"+,1,1,2,\"a", 2),
+        (b"\xef\xbb\xbf+,\"1\",1,2", 2),
+        (b"\"+\",\"x\",\"1\",\"2\"", 3),
     ] {
         assert_eq!(rt; read(rt.alloc(), line, &Shape::AnyText).err(), Some(wanted));
     }

@@ -1,9 +1,11 @@
-ghost use Rattle.std.specs.Prelude.{◌≡◌, ◌++◌, ◌∷◌, [], length, take, IfOk, OnOk, OnErr, vec_len, decimal};
-ghost use Rattle.std.specs.List.{list_any};
-ghost use Rattle.cedr_text.specs.Texts.{time_text, is_special, text_text, quoted, field_text, payload_text, row_text, rows_text};
+ghost use Rattle.std.specs.Prelude.{◌≡◌, ◌++◌, ◌∷◌, ◌+◌, ◌-◌, ◌^◌, [], min, OnOk, OnErr};
+ghost use Rattle.std.specs.Fmt.{signed_decimal};
+ghost use Rattle.csv.specs.Writing.{writer_setup, fields_written, next_sep};
+ghost use Rattle.cedr_text.specs.Texts.{comma, line_feed, time_text, text_text, field_text, payload_text, row_text, rows_text};
+ghost use Rattle.cedr_text.specs.RowWriters.{row_setup, text_of, IsAtRow, IsInRow};
 
 use cedr_base::{FOREVER, Field, OutOfMemory, Row, Time};
-use csv::{QuoteStyle, WriterBuilder};
+use csv::{Writer, WriterBuilder};
 use itoa::{Buffer, Integer};
 use std::alloc::Global;
 
@@ -19,72 +21,6 @@ pub fn write_time(time: Time, out: &mut Vec<u8>) -> Result<(), OutOfMemory>
     write_number(time, out)
 }
 
-/// Appends the row as one line, `BEGIN,END,FIELD..` and a line feed. Where memory runs out `out` is as
-/// before.
-pub fn write_row(row: &Row, out: &mut Vec<u8>) -> Result<(), OutOfMemory>
-    ensures ok { OnOk result (out.new.items ≡ out.old.items ++ row_text row.now) }
-    ensures err { OnErr result (out.new.items ≡ out.old.items) }
-{
-    let before = out.len();
-    let done = append_row(row, out);
-    if done.is_err() {
-        out.truncate(before);
-    }
-    done
-}
-
-/// Appends the rows, a line each, in the order in which they stand. Where memory runs out `out` is as
-/// before.
-pub fn write_rows(rows: &[Row], out: &mut Vec<u8>) -> Result<(), OutOfMemory>
-    ensures ok { OnOk result (out.new.items ≡ out.old.items ++ rows_text rows.now) }
-    ensures err { OnErr result (out.new.items ≡ out.old.items) }
-{
-    let before = out.len();
-    let done = append_rows(rows, out);
-    if done.is_err() {
-        out.truncate(before);
-    }
-    done
-}
-
-/// Appends the rows, or the first of them.
-fn append_rows(rows: &[Row], out: &mut Vec<u8>) -> Result<(), OutOfMemory>
-    ensures ok { OnOk result (out.new.items ≡ out.old.items ++ rows_text rows.now) }
-    ensures err { OnErr result (take (vec_len out.old) out.new.items ≡ out.old.items) }
-{
-    for row in rows {
-        write_row(row, out)?;
-    }
-    Ok(())
-}
-
-/// Appends the row, or a part of it.
-fn append_row(row: &Row, out: &mut Vec<u8>) -> Result<(), OutOfMemory>
-    ensures ok { OnOk result (out.new.items ≡ out.old.items ++ row_text row.now) }
-    ensures err { OnErr result (take (vec_len out.old) out.new.items ≡ out.old.items) }
-{
-    write_time(row.begin, out)?;
-    out.push(b',')?;
-    write_time(row.end, out)?;
-    for field in row.payload.fields() {
-        out.push(b',')?;
-        append_field(field, out)?;
-    }
-    out.push(b'\n')?;
-    Ok(())
-}
-
-/// Appends the field, or a part of it.
-fn append_field(field: &Field, out: &mut Vec<u8>) -> Result<(), OutOfMemory>
-    ensures ok { OnOk result (out.new.items ≡ out.old.items ++ field_text field.now) }
-    ensures err { OnErr result (out.new.items ≡ out.old.items) }
-{
-    match field {
-        Field::Number(n) => write_number(*n, out),
-        Field::Bytes(text) => write_text(text.bytes(), out),
-    }
-}
-
 /// Appends the number in decimal digits, behind a `-` where it is below zero. Where memory runs out `out` is as
 /// before.
 pub fn write_number<N: Integer>(number: N, out: &mut Vec<u8>) -> Result<(), OutOfMemory>
@@ -96,39 +32,165 @@ pub fn write_number<N: Integer>(number: N, out: &mut Vec<u8>) -> Result<(), OutO
     Ok(())
 }
 
-fn write_text(text: &[u8], out: &mut Vec<u8>) -> Result<(), OutOfMemory>
-    ensures ok { OnOk result (out.new.items ≡ out.old.items ++ text_text text.now) }
+/// Appends the row as one line, `BEGIN,END,FIELD..` and a line feed. Where memory runs out `out` is as
+/// before. For many rows `write_rows` takes less time, since each call makes a csv writer.
+pub fn write_row(row: &Row, out: &mut Vec<u8>) -> Result<(), OutOfMemory>
+    ensures ok { OnOk result (out.new.items ≡ out.old.items ++ row_text row.now) }
     ensures err { OnErr result (out.new.items ≡ out.old.items) }
 {
-    if needs_quotes(text) {
-        let quoted = quote(*out.allocator(), text)?;
-        out.extend_from_slice(&quoted)?;
+    let mut writer = row_writer(*out.allocator());
+    put_row(row, &mut writer)?;
+    append_written(writer, out)
+}
+
+/// Appends the rows, a line each, in the order in which they stand. Their text is made in memory of its own,
+/// and copied where `out` is not empty. Where memory runs out `out` is as before.
+pub fn write_rows(rows: &[Row], out: &mut Vec<u8>) -> Result<(), OutOfMemory>
+    ensures ok { OnOk result (out.new.items ≡ out.old.items ++ rows_text rows.now) }
+    ensures err { OnErr result (out.new.items ≡ out.old.items) }
+{
+    let mut writer = row_writer(*out.allocator());
+    put_rows(rows, &mut writer)?;
+    append_written(writer, out)
+}
+
+/// A writer of rows into memory of its own, since what a csv writer holds after an error is not known.
+pub(crate) fn row_writer(alloc: Global) -> Writer<Vec<u8>>
+    ensures empty { text_of result ≡ [] }
+    ensures at_row { IsAtRow result }
+{
+    WriterBuilder::new()
+        .flexible(true)
+        .from_writer(Vec::new(alloc))
+}
+
+/// Appends what the writer has written, without a copy where `out` is empty. Where memory runs out `out` is
+/// as before.
+pub(crate) fn append_written(writer: Writer<Vec<u8>>, out: &mut Vec<u8>) -> Result<(), OutOfMemory>
+    ensures ok { OnOk result (out.new.items ≡ out.old.items ++ text_of writer) }
+    ensures err { OnErr result (out.new.items ≡ out.old.items) }
+{
+    let Ok(text) = writer.into_inner() else {
+        return Err(OutOfMemory);
+    };
+    if out.is_empty() {
+        *out = text;
     } else {
-        out.extend_from_slice(text)?;
+        out.extend_from_slice(&text)?;
     }
     Ok(())
 }
 
-/// Whether some byte of the text can't stand in a bare field.
-fn needs_quotes(text: &[u8]) -> bool
-    ensures { result ≡ list_any is_special text.now }
+fn put_rows(rows: &[Row], writer: &mut Writer<Vec<u8>>) -> Result<(), OutOfMemory>
+    requires { IsAtRow writer.old }
+    ensures text { OnOk result (text_of writer.new ≡ text_of writer.old ++ rows_text rows.now) }
 {
-    text.iter()
-        .any(|b| *b == b',' || *b == b'"' || *b == b'\r' || *b == b'\n')
+    for row in rows {
+        put_row(row, writer)?;
+    }
+    Ok(())
 }
 
-/// The text between quotes.
-fn quote(alloc: Global, text: &[u8]) -> Result<Vec<u8>, OutOfMemory>
-    ensures { IfOk result (λ field. field.items ≡ quoted text.now) }
+fn put_row(row: &Row, writer: &mut Writer<Vec<u8>>) -> Result<(), OutOfMemory>
+    requires { IsAtRow writer.old }
+    ensures text { OnOk result (text_of writer.new ≡ text_of writer.old ++ row_text row.now) }
+    ensures at_row { OnOk result (IsAtRow writer.new) }
 {
-    let mut writer = WriterBuilder::new()
-        .quote_style(QuoteStyle::Always)
-        .from_writer(Vec::new(alloc));
+    put_times(row.begin, row.end, writer)?;
+    put_payload(row.payload.fields(), writer)?;
+    end_row(writer)
+}
+
+/// Puts the first two fields of a row.
+pub(crate) fn put_times(
+    begin: Time,
+    end: Time,
+    writer: &mut Writer<Vec<u8>>,
+) -> Result<(), OutOfMemory>
+    requires { IsAtRow writer.old }
+    ensures text { OnOk result (text_of writer.new ≡ text_of writer.old ++ (time_text begin ++ comma ∷ time_text end)) }
+    ensures in_row { OnOk result (IsInRow writer.new) }
+{
+    put_time(begin, writer)?;
+    put_time(end, writer)
+}
+
+/// Puts each field behind a comma.
+pub(crate) fn put_payload(fields: &[Field], writer: &mut Writer<Vec<u8>>) -> Result<(), OutOfMemory>
+    requires { IsInRow writer.old }
+    ensures text { OnOk result (text_of writer.new ≡ text_of writer.old ++ payload_text fields.now) }
+    ensures in_row { OnOk result (IsInRow writer.new) }
+{
+    for field in fields {
+        put_field(field, writer)?;
+    }
+    Ok(())
+}
+
+pub(crate) fn end_row(writer: &mut Writer<Vec<u8>>) -> Result<(), OutOfMemory>
+    requires { IsInRow writer.old }
+    ensures text { OnOk result (text_of writer.new ≡ text_of writer.old ++ line_feed ∷ []) }
+    ensures at_row { OnOk result (IsAtRow writer.new) }
+{
+    let Ok(()) = writer.end_record() else {
+        return Err(OutOfMemory);
+    };
+    Ok(())
+}
+
+fn put_field(field: &Field, writer: &mut Writer<Vec<u8>>) -> Result<(), OutOfMemory>
+    requires { IsInRow writer.old }
+    ensures text { OnOk result (text_of writer.new ≡ text_of writer.old ++ comma ∷ field_text field.now) }
+    ensures in_row { OnOk result (IsInRow writer.new) }
+{
+    match field {
+        Field::Number(number) => put_number(*number, writer),
+        Field::Bytes(text) => put_text(text.bytes(), writer),
+    }
+}
+
+fn put_number(number: i128, writer: &mut Writer<Vec<u8>>) -> Result<(), OutOfMemory>
+    requires { IsInRow writer.old }
+    ensures text { OnOk result (text_of writer.new ≡ text_of writer.old ++ comma ∷ signed_decimal number) }
+    ensures in_row { OnOk result (IsInRow writer.new) }
+{
+    let mut digits = Buffer::new();
+    put_text(digits.format(number).as_bytes(), writer)
+}
+
+/// Puts a field behind a comma.
+pub(crate) fn put_text(text: &[u8], writer: &mut Writer<Vec<u8>>) -> Result<(), OutOfMemory>
+    requires { IsInRow writer.old }
+    ensures text { OnOk result (text_of writer.new ≡ text_of writer.old ++ comma ∷ text_text text.now) }
+    ensures in_row { OnOk result (IsInRow writer.new) }
+{
+    put(text, writer)
+}
+
+fn put_time(time: Time, writer: &mut Writer<Vec<u8>>) -> Result<(), OutOfMemory>
+    requires { writer_setup writer.old ≡ row_setup }
+    ensures text { OnOk result (text_of writer.new ≡ text_of writer.old ++ (next_sep row_setup (fields_written writer.old) ++ time_text time)) }
+    ensures setup { OnOk result (writer_setup writer.new ≡ row_setup) }
+    ensures fields { OnOk result (fields_written writer.new ≡ min (fields_written writer.old + 1) (2 ^ 64 - 1)) }
+{
+    if time == FOREVER {
+        return put(b"inf", writer);
+    }
+    let mut digits = Buffer::new();
+    put(digits.format(time).as_bytes(), writer)
+}
+
+/// Puts a field, behind a comma where others of its row stand before it.
+fn put(text: &[u8], writer: &mut Writer<Vec<u8>>) -> Result<(), OutOfMemory>
+    requires { writer_setup writer.old ≡ row_setup }
+    ensures text { OnOk result (text_of writer.new ≡ text_of writer.old ++ (next_sep row_setup (fields_written writer.old) ++ text_text text.now)) }
+    ensures setup { OnOk result (writer_setup writer.new ≡ row_setup) }
+    ensures fields { OnOk result (fields_written writer.new ≡ min (fields_written writer.old + 1) (2 ^ 64 - 1)) }
+{
+    // A writer over a `Vec` fails by want of memory alone. The error is made small here, since a row takes a
+    // third longer where csv's own is handed up through the calls.
     let Ok(()) = writer.write_field(text) else {
         return Err(OutOfMemory);
     };
-    match writer.into_inner() {
-        Ok(quoted) => Ok(quoted),
-        Err(_) => Err(OutOfMemory),
-    }
+    Ok(())
 }

@@ -1,4 +1,6 @@
-use Rattle.cedr_base.proofs.RowLemmas.{row_total, exact_rows}
+use Rattle.cedr_base.specs.RowLaws.{row_total}
+use Rattle.cedr_base.proofs.RowLemmas.{exact_rows}
+use Rattle.cedr_base.proofs.Sorting.{sorted_is_in_order}
 use Rattle.cedr_base.proofs.row.canonical_order.Goals as goal
 
 pub returns-clause-total : goal.returns-clause-total
@@ -6,3 +8,6 @@ returns-clause-total c = row_total
 
 pub returns-clause-exact : goal.returns-clause-exact
 returns-clause-exact c = exact_rows
+
+pub returns-clause-sorted : goal.returns-clause-sorted
+returns-clause-sorted c = sorted_is_in_order

@@ -1,5 +1,5 @@
 use Rattle.std.proofs.Common.{◌≡◌, ◌+◌, ◌-◌, vec_len}
-use Rattle.cedr_run.specs.declared.answer.TheConstants.{FILE_LIMIT}
+use Rattle.cedr_guard.specs.declared.refusal.TheConstants.{FILE_LIMIT}
 use Rattle.std.specs.Io.KnownBytes.{Consumes}
 use Rattle.cedr_run.proofs.file.read_all.Given as goal
 

@@ -1,0 +1,155 @@
+#!/usr/bin/env python3
+"""Runs the built program on many event files and command lines, and compares what comes with what must come.
+
+What must come is written out by hand in cases.py, and for random files worked out by reference.py, which is
+also held to the cases. Status 0: all right. 1: something differs; the first differences are printed, and their
+files kept. 2: the program isn't there.
+
+usage: checks/history.py [PROGRAM]
+"""
+import random
+import subprocess
+import sys
+import tempfile
+from pathlib import Path
+
+sys.dont_write_bytecode = True
+
+import cases
+import random_files
+import reference
+
+SHOWN = 5
+SECONDS = 60
+USAGE = (b"usage: cedr history FILE | check PLAN | serial PLAN | run PLAN | stream PLAN | audit PLAN | "
+         b"live PLAN SCRIPT | make N\n")
+
+# The words that match no command. What the usage line names and isn't built is among them.
+NO_COMMAND = [
+    [], [b"history"], [b"history", b"e.csv", b"e.csv"], [b"history", b"e.csv", b""], [b"e.csv"], [b"", b"e.csv"],
+    [b"History", b"e.csv"], [b"hist", b"e.csv"], [b"run", b"x"], [b"--help", b"history"], [b"--version", b"--help"],
+    [b"history", b"\xff"], [b"\xff", b"e.csv"],
+]
+
+COMMAND_LINES = [(words, 1, b"", USAGE) for words in NO_COMMAND] + [
+    ([b"history", b"missing.csv"], 4, b"", b"read fault\n"),
+    ([b"history", b""], 4, b"", b"read fault\n"),
+    ([b"history", b"."], 4, b"", b"read fault\n"),
+    ([b"history", b"e.csv/e.csv"], 4, b"", b"read fault\n"),
+    ([b"history", b"./e.csv"], 0, b"1,2,a\n", b""),
+    ([b"history", "\u00e9 ,\".csv".encode()], 3, b"", "events \u00e9 ,\".csv line 1 fault 2\n".encode()),
+]
+
+
+class Check:
+    """The program, a folder to run it in, and how many answers were other than they must be."""
+
+    def __init__(self, program: Path, folder: Path) -> None:
+        self.program = program
+        self.folder = folder
+        self.differences = 0
+        self.kept = None
+
+    def run(self, words: list, out=subprocess.PIPE) -> tuple[int, bytes, bytes]:
+        command = [self.program, *words]
+        try:
+            done = subprocess.run(command, cwd=self.folder, stdout=out, stderr=subprocess.PIPE, timeout=SECONDS)
+        except subprocess.TimeoutExpired:
+            return -1, b"", f"no answer within {SECONDS} s".encode()
+        return done.returncode, done.stdout or b"", done.stderr
+
+    def write(self, name: str, data: bytes) -> None:
+        (self.folder / name).write_bytes(data)
+
+    def history(self, data: bytes) -> tuple[int, bytes, bytes]:
+        self.write("e.csv", data)
+        return self.run([b"history", b"e.csv"])
+
+    def compare(self, name: str, data: bytes, expected: tuple, came: tuple) -> None:
+        """Counts a difference, and shows it and keeps its file where it is among the first."""
+        if expected == came:
+            return
+        self.differences += 1
+        if self.differences > SHOWN:
+            return
+        self.kept = self.kept or Path(tempfile.mkdtemp(prefix="cedr-differences-"))
+        place = self.kept / str(self.differences)
+        place.with_suffix(".csv").write_bytes(data)
+        print(f"DIFFERENCE {self.differences}: {name}; the file is {place}.csv")
+        for title, answer in (("expected", expected), ("came", came)):
+            place.with_suffix(f".{title}").write_bytes(answer[1])
+            print(f"  {title}: status {answer[0]}, err {shown(answer[2])}, out {shown(answer[1])}")
+
+
+def shown(text: bytes) -> str:
+    return repr(text) if len(text) <= 2_000 else f"{text[:500]!r} and on, {len(text)} bytes, kept beside the file"
+
+
+def check_cases(check: Check, table) -> int:
+    count = 0
+    for case in table:
+        expected = case.status, case.out, case.err
+        check.compare(f"{case.name}, by the reference", case.data, expected, reference.history("e.csv", case.data))
+        check.compare(case.name, case.data, expected, check.history(case.data))
+        count += 1
+    return count
+
+
+def check_command_lines(check: Check) -> int:
+    event = b"+,1,1,2,a\n"
+    check.write("e.csv", event)
+    check.write("\u00e9 ,\".csv", b"x\n")
+    for words, *expected in COMMAND_LINES:
+        check.compare(f"the words {words}", b"", tuple(expected), check.run(words))
+    for word, part in ((b"--help", b"history"), (b"--version", b"cedr ")):
+        status, out, err = check.run([word])
+        told = part in out if word == b"--help" else out.startswith(part)
+        check.compare(f"the word {word}", b"", (0, True, b""), (status, told, err))
+    with open("/dev/full", "wb") as full:
+        came = check.run([b"history", b"e.csv"], full)
+        check.compare("rows to a full device", event, (5, b"", b"write fault\n"), came)
+        check.write("e.csv", b"")
+        check.compare("no rows to a full device", b"", (0, b"", b""), check.run([b"history", b"e.csv"], full))
+    return len(COMMAND_LINES) + 4
+
+
+def check_random(check: Check, make, count: int) -> int:
+    """Compares so many random files with the reference, and answers how many of them were accepted."""
+    accepted = 0
+    for seed in range(count):
+        data = make(random.Random(seed))
+        expected = reference.history("e.csv", data)
+        check.compare(f"{make.__name__} of seed {seed}", data, expected, check.history(data))
+        accepted += expected[0] == 0
+    return accepted
+
+
+def check_arrival(check: Check, count: int) -> None:
+    """In what order the lines of different events arrive doesn't matter."""
+    for seed in range(count):
+        one, other = random_files.shuffled_pair(random.Random(seed))
+        first = check.history(one)
+        check.compare(f"one arrival order of seed {seed}", one, reference.history("e.csv", one), first)
+        check.compare(f"another arrival order of seed {seed}", other, first, check.history(other))
+
+
+def main() -> int:
+    root = Path(__file__).resolve().parent.parent
+    program = Path(sys.argv[1] if len(sys.argv) > 1 else root / "crates/cedr/out/cedr").resolve()
+    if not program.is_file():
+        print(f"{program} isn't there; it is built by: (cd crates/cedr && rt run -- --version)", file=sys.stderr)
+        return 2
+    with tempfile.TemporaryDirectory(prefix="cedr-check-") as folder:
+        check = Check(program, Path(folder))
+        small = check_cases(check, cases.SMALL)
+        words = check_command_lines(check)
+        good = check_random(check, random_files.small_file, 1_500)
+        good_long = check_random(check, random_files.long_file, 20)
+        check_arrival(check, 40)
+        large = check_cases(check, cases.large())
+    print(f"history: {small} small and {large} large files by hand, {words} command lines, 1500 random files "
+          f"({good} accepted), 20 long ones ({good_long} accepted), 40 in two orders: {check.differences} differences")
+    return 1 if check.differences else 0
+
+
+sys.exit(main())

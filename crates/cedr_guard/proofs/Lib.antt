@@ -1,0 +1,7 @@
+pub mod EventLemmas
+pub mod ApartLemmas
+pub mod StandingLemmas
+pub mod GuardLemmas
+pub mod LivingLemmas
+pub mod MessageLemmas
+pub mod SourceLemmas

@@ -1,0 +1,89 @@
+-- Bags of rows that live, where one row more comes or one ends earlier.
+use Rattle.std.proofs.Common.{◌≡◌, ℕ, zero, suc, ◌+◌, ◌<◌, List, [], ◌∷◌, ◌++◌, Bool, true, false, cond, length, get_or, filter, refl, ap, ◌∙◌, arith}
+use Rattle.std.specs.Prelude.{nat_lt}
+use Rattle.std.specs.List.{flat_map}
+use Rattle.std.specs.Ordering.{is_eq, is_le}
+use Rattle.std.proofs.lemmas.Bool.{lt-ltb}
+use Rattle.std.proofs.lemmas.Cmp.{tied_itself}
+use Rattle.std.proofs.lemmas.Grind.{flat_map-append}
+use Rattle.std.proofs.lemmas.List.{append-nil}
+use Rattle.std.proofs.lemmas.List.Elements.{filter-append}
+use Rattle.std.proofs.lemmas.List.Sums.{sum_by-cons, sum_by-append}
+use Rattle.cedr_base.specs.declared.row.Row.{Row}
+use Rattle.cedr_base.specs.RowLaws.{row_total}
+use Rattle.cedr_base.specs.Rows.{row_cmp, same_row, one_if_same, count_of, put_in_order, in_order}
+use Rattle.cedr_base.specs.Changes.{remnant}
+use Rattle.cedr_guard.specs.History.{lives}
+use Rattle.cedr_guard.proofs.EventLemmas.{cut_at}
+
+-- ---- counts
+
+one_of_itself : (r : Row) → one_if_same r r ≡ 1
+unfolding same_row
+one_of_itself r = ap {B = ℕ} (λ o. cond (is_eq o) 1 0) (tied_itself row_total r)
+
+count_of-cons : (r x : Row) (xs : List Row) → count_of r (x ∷ xs) ≡ one_if_same r x + count_of r xs
+count_of-cons r x xs = sum_by-cons (one_if_same r) x xs
+
+-- copies add up
+pub count_of-append : (r : Row) (xs ys : List Row) → count_of r (xs ++ ys) ≡ count_of r xs + count_of r ys
+count_of-append r xs ys = sum_by-append (one_if_same r) xs ys
+
+-- what one more change puts in or takes out is added
+pub count_of-push : {X : Type 0} (r : Row) (f : X → List Row) (xs : List X) (x : X) → count_of r (flat_map f (xs ++ x ∷ [])) ≡ count_of r (flat_map f xs) + count_of r (f x)
+count_of-push r f xs x =
+    ap (count_of r) (flat_map-append f xs (x ∷ []) ∙ ap (λ rows. flat_map f xs ++ rows) (append-nil (f x))) ∙ count_of-append r (flat_map f xs) (f x)
+
+put_count_at : (r x y : Row) (ys zs : List Row) (b : Bool) → count_of r zs ≡ one_if_same r x + count_of r ys → count_of r (cond b (x ∷ y ∷ ys) (y ∷ zs)) ≡ one_if_same r x + count_of r (y ∷ ys)
+put_count_at r x y ys zs true h = count_of-cons r x (y ∷ ys)
+put_count_at r x y ys zs false h = omega (arith, h, count_of-cons r y zs, count_of-cons r y ys)
+
+put_count : (r x : Row) (xs : List Row) → count_of r (put_in_order x xs) ≡ one_if_same r x + count_of r xs
+put_count r x [] = omega arith
+put_count r x (y ∷ ys) = put_count_at r x y ys (put_in_order x ys) (is_le (row_cmp x y)) (put_count r x ys)
+
+-- the canonical order has as many copies
+pub in_order_count : (r : Row) (xs : List Row) → count_of r (in_order xs) ≡ count_of r xs
+in_order_count r [] = refl
+in_order_count r (x ∷ xs) = omega (arith, count_of-cons r x xs, put_count r x (in_order xs), in_order_count r xs)
+
+-- ---- rows that live
+
+-- one more row that lives
+pub living_push : (r x : Row) (xs : List Row) → x.begin < x.end → count_of r (filter lives (xs ++ x ∷ [])) ≡ count_of r (filter lives xs) + one_if_same r x
+living_push r x xs alive =
+    ap (count_of r) (filter-append lives xs (x ∷ []) ∙ ap (λ test. filter lives xs ++ cond test (x ∷ []) []) (lt-ltb x.begin x.end alive))
+    ∙ (count_of-append r (filter lives xs) (x ∷ []) ∙ omega (arith, count_of-cons r x []))
+
+living_first : (x : Row) (rest : List Row) (test : Bool) → test ≡ true → 0 < count_of x (cond test (x ∷ rest) rest)
+living_first x rest true h = omega (arith, count_of-cons x x rest, one_of_itself x)
+living_first x rest false h = cc
+
+living_later : (r x : Row) (rest : List Row) (test : Bool) → 0 < count_of r rest → 0 < count_of r (cond test (x ∷ rest) rest)
+living_later r x rest true h = omega (arith, h, count_of-cons r x rest)
+living_later r x rest false h = h
+
+-- a row that lives is counted
+pub living_at : (xs : List Row) (p : ℕ) (d : Row) → p < length xs → (get_or xs p d).begin < (get_or xs p d).end → 0 < count_of (get_or xs p d) (filter lives xs)
+living_at [] p d within alive = absurd (omega arith)
+living_at (x ∷ xs) zero d within alive = living_first x (filter lives xs) (lives x) (lt-ltb x.begin x.end alive)
+living_at (x ∷ xs) (suc p) d within alive = living_later (get_or xs p d) x (filter lives xs) (lives x) (living_at xs p d (omega arith) alive)
+
+cut_first_at : (r x y : Row) (rest : List Row) (old new : Bool) → old ≡ true
+    → count_of r (cond new (y ∷ rest) rest) + one_if_same r x ≡ count_of r (cond old (x ∷ rest) rest) + count_of r (cond new (y ∷ []) [])
+cut_first_at r x y rest true true h = omega (arith, count_of-cons r x rest, count_of-cons r y rest, count_of-cons r y [])
+cut_first_at r x y rest true false h = omega (arith, count_of-cons r x rest)
+cut_first_at r x y rest false new h = cc
+
+cut_later_at : (r x : Row) (news olds : List Row) (gone come : ℕ) (test : Bool) → count_of r news + gone ≡ count_of r olds + come
+    → count_of r (cond test (x ∷ news) news) + gone ≡ count_of r (cond test (x ∷ olds) olds) + come
+cut_later_at r x news olds gone come true h = omega (arith, h, count_of-cons r x news, count_of-cons r x olds)
+cut_later_at r x news olds gone come false h = h
+
+-- a row that ends earlier leaves what a retraction of it leaves
+pub living_cut : (r : Row) (xs : List Row) (p : ℕ) (d : Row) (end : ℕ) → p < length xs → (get_or xs p d).begin < (get_or xs p d).end
+    → count_of r (filter lives (cut_at p d end xs)) + one_if_same r (get_or xs p d) ≡ count_of r (filter lives xs) + count_of r (remnant (get_or xs p d) end)
+living_cut r [] p d end within alive = absurd (omega arith)
+living_cut r (x ∷ xs) zero d end within alive = cut_first_at r x (record x { end = end }) (filter lives xs) (lives x) (nat_lt x.begin end) (lt-ltb x.begin x.end alive)
+living_cut r (x ∷ xs) (suc p) d end within alive =
+    cut_later_at r x (filter lives (cut_at p d end xs)) (filter lives xs) (one_if_same r (get_or xs p d)) (count_of r (remnant (get_or xs p d) end)) (lives x) (living_cut r xs p d end (omega arith) alive)

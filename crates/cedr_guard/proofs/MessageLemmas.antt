@@ -1,0 +1,272 @@
+-- The messages of accepted lines are legal, and their table is the canonical history.
+use Rattle.std.proofs.Common.{◌≡◌, ℕ, zero, suc, ◌+◌, ◌<◌, ◌≤◌, List, [], ◌∷◌, ◌++◌, Bool, true, false, cond, ◌&&◌, length, get_or, max, filter, Option, None, Some, refl, ap, sym, ◌∙◌, subst, subst₂, arith, append_assoc, append-nil}
+use Rattle.std.specs.Prelude.{option_map, is_some, nat_lt, nat_le}
+use Rattle.std.proofs.lemmas.Bool.{ltb-true, ltb-false, leb-true}
+use Rattle.cedr_base.specs.declared.time.TheConstants.{FOREVER}
+use Rattle.cedr_base.specs.declared.row.Row.{Row}
+use Rattle.cedr_base.specs.declared.change.Change.{Change}
+use Rattle.cedr_base.specs.declared.change.Change.TheVariants.{Add, Cut}
+use Rattle.cedr_base.specs.declared.change.Message.{Message}
+use Rattle.cedr_base.specs.declared.change.Message.TheVariants as message
+use Rattle.cedr_base.specs.Rows.{IsRow, count_of}
+use Rattle.cedr_base.specs.Changes.{puts, takes, all_puts, all_takes}
+use Rattle.cedr_base.specs.Messages.{changes_of, mark_of, IsOpen, IsTableOf, IsLegalBehind}
+use Rattle.cedr_text.specs.declared.event_line.EventLine.{EventLine}
+use Rattle.cedr_text.specs.declared.event_line.EventLine.TheVariants.{Insert, Retract, Promise}
+use Rattle.cedr_text.specs.declared.fault.LineFault.TheVariants.{KnownId, BadEnd, BeforeGuarantee}
+use Rattle.cedr_guard.specs.Judging.{guarantee_of, ends_of, least_of, late_fault, retraction_fault, IsAccepted, AreAccepted, AreAcceptedBehind}
+use Rattle.cedr_guard.specs.History.{lives, rows_among, history_of}
+use Rattle.cedr_guard.specs.Messages.{message_of, cut_of, messages_behind}
+use Rattle.cedr_guard.specs.Standing.{place_of, AreKnown}
+use Rattle.cedr_guard.proofs.EventLemmas.{guarantee_of-append, event_place, place_below}
+use Rattle.cedr_guard.proofs.ApartLemmas.{known-insert, known-retract, known-promise, rows-insert, rows-retract, rows-promise}
+use Rattle.cedr_guard.proofs.LivingLemmas.{count_of-append, count_of-push, in_order_count, living_push, living_at, living_cut}
+
+-- ---- messages behind messages
+
+-- the changes of messages one after the other
+pub changes_of-append : (ms ns : List Message) → changes_of (ms ++ ns) ≡ changes_of ms ++ changes_of ns
+changes_of-append [] ns = refl
+changes_of-append (message.Change c ∷ ms) ns = ap (λ cs. c ∷ cs) (changes_of-append ms ns)
+changes_of-append (message.Mark t ∷ ms) ns = changes_of-append ms ns
+changes_of-append (message.End ∷ ms) ns = changes_of-append ms ns
+changes_of-append (message.Broken ∷ ms) ns = changes_of-append ms ns
+
+mark_of-append : (ms ns : List Message) → mark_of (ms ++ ns) ≡ max (mark_of ms) (mark_of ns)
+mark_of-append [] ns = omega arith
+mark_of-append (message.Change c ∷ ms) ns = mark_of-append ms ns
+mark_of-append (message.Mark t ∷ ms) ns = let rest = mark_of-append ms ns in omega arith
+mark_of-append (message.End ∷ ms) ns = mark_of-append ms ns
+mark_of-append (message.Broken ∷ ms) ns = mark_of-append ms ns
+
+open-append : (ms ns : List Message) → IsOpen ms → IsOpen ns → IsOpen (ms ++ ns)
+open-append [] ns open_ms open_ns = open_ns
+open-append (message.Change c ∷ ms) ns open_ms open_ns = open-append ms ns open_ms open_ns
+open-append (message.Mark t ∷ ms) ns open_ms open_ns = open-append ms ns open_ms open_ns
+open-append (message.End ∷ ms) ns open_ms open_ns = absurd open_ms
+open-append (message.Broken ∷ ms) ns open_ms open_ns = absurd open_ms
+
+-- legal messages behind legal messages
+pub legal-append : (before ms ns : List Message) → IsLegalBehind before ms → IsLegalBehind (before ++ ms) ns → IsLegalBehind before (ms ++ ns)
+legal-append before [] ns first rest = subst (λ (b : List Message). IsLegalBehind b ns) (append-nil before) rest
+legal-append before (m ∷ ms) ns first rest =
+    (first.0, legal-append (before ++ m ∷ []) ms ns first.1 (subst (λ (b : List Message). IsLegalBehind b ns) (sym (append_assoc before (m ∷ []) ms)) rest))
+
+-- ---- what messages and accepted lines have in common
+
+-- each insertion among the lines has a row
+abbrev HaveRows : List EventLine → Type 0
+HaveRows [] = Unit {0}
+HaveRows (Insert id row ∷ lines) = IsRow row × HaveRows lines
+HaveRows (Retract id end ∷ lines) = HaveRows lines
+HaveRows (Promise time ∷ lines) = HaveRows lines
+
+-- the rows that live after the lines
+abbrev living : List EventLine → List Row
+living lines = filter lives (rows_among lines lines)
+
+-- messages that accepted lines became
+pub record AreOf (lines : List EventLine) (ms : List Message) : Type 0 where
+  pub goes_on : IsOpen ms
+  pub mark : mark_of ms ≡ guarantee_of lines
+  pub table : (r : Row) → count_of r (living lines) + count_of r (all_takes (changes_of ms)) ≡ count_of r (all_puts (changes_of ms))
+  known : AreKnown lines
+  rows : HaveRows lines
+
+-- a line's messages may come behind those of the lines before it, and are with them those of the lines with it
+record Follows (before : List EventLine) (line : EventLine) (ms next : List Message) : Type 0 where
+  legal : IsLegalBehind ms next
+  all : AreOf (before ++ line ∷ []) (ms ++ next)
+
+rows-append : (xs ys : List EventLine) → HaveRows xs → HaveRows ys → HaveRows (xs ++ ys)
+rows-append [] ys have more = more
+rows-append (Insert id row ∷ xs) ys have more = (have.0, rows-append xs ys have.1 more)
+rows-append (Retract id end ∷ xs) ys have more = rows-append xs ys have more
+rows-append (Promise time ∷ xs) ys have more = rows-append xs ys have more
+
+-- the table with one more change
+table-push : (r : Row) (ms : List Message) (c : Change) (old new : List Row) → count_of r old + count_of r (all_takes (changes_of ms)) ≡ count_of r (all_puts (changes_of ms))
+    → count_of r new + count_of r (takes c) ≡ count_of r old + count_of r (puts c)
+    → count_of r new + count_of r (all_takes (changes_of (ms ++ message.Change c ∷ []))) ≡ count_of r (all_puts (changes_of (ms ++ message.Change c ∷ [])))
+table-push r ms c old new was moved =
+    let changes = changes_of-append ms (message.Change c ∷ []) in
+    omega (arith, was, moved, ap (λ cs. count_of r (all_takes cs)) changes, ap (λ cs. count_of r (all_puts cs)) changes, count_of-push r takes (changes_of ms) c, count_of-push r puts (changes_of ms) c)
+
+-- ---- an insertion
+
+fresh_at : (place : Option ℕ) (rows : List Row) (d : Row) (sync mark : ℕ) → cond (is_some (option_map (λ p. get_or rows p d) place)) (Some KnownId) (late_fault sync mark) ≡ None
+    → (place ≡ None) × (late_fault sync mark ≡ None)
+fresh_at None rows d sync mark h = (refl, h)
+fresh_at (Some p) rows d sync mark h = cc
+
+in_time_at : (test : Bool) (sync mark : ℕ) → nat_lt sync mark ≡ test → cond test (Some (BeforeGuarantee sync mark)) None ≡ None → mark ≤ sync
+in_time_at true sync mark is h = cc
+in_time_at false sync mark is h = ltb-false sync mark is
+
+in_time : (sync mark : ℕ) → late_fault sync mark ≡ None → mark ≤ sync
+in_time sync mark h = in_time_at (nat_lt sync mark) sync mark refl h
+
+follows-insert : (before : List EventLine) (ms : List Message) (id : ℕ) (row : Row) → AreOf before ms → IsAccepted before (Insert id row) → Follows before (Insert id row) ms (message.Change (Add row) ∷ [])
+follows-insert before ms id row are accepted =
+    let fresh = fresh_at (place_of id before) (rows_among before before) row row.begin (guarantee_of before)
+    (subst (λ event. cond (is_some event) (Some KnownId) (late_fault row.begin (guarantee_of before)) ≡ None) (event_place id before before row) accepted.faultless) in
+    let early = in_time row.begin (guarantee_of before) fresh.1 in
+    let now = rows-insert id row before are.known fresh.0 in
+    record {
+      legal = ((are.goes_on, (accepted.event, omega (arith, are.mark, early))), tt);
+      all = record {
+        goes_on = open-append ms (message.Change (Add row) ∷ []) are.goes_on tt;
+        mark = omega (arith, are.mark, mark_of-append ms (message.Change (Add row) ∷ []), guarantee_of-append before (Insert id row ∷ []));
+        table = λ r. table-push r ms (Add row) (living before) (living (before ++ Insert id row ∷ [])) (are.table r)
+            (omega (arith, ap (λ rows. count_of r (filter lives rows)) now, living_push r row (rows_among before before) accepted.event.lives));
+        known = known-insert id row before are.known fresh.0;
+        rows = rows-append before (Insert id row ∷ []) are.rows (accepted.event, tt);
+      };
+    }
+
+-- ---- a retraction
+
+no_row : Row
+no_row = record { end = 0; begin = 0; payload = [] }
+
+least_below : (end : ℕ) (ends : List ℕ) → least_of end ends ≤ end
+least_below end [] = omega arith
+least_below end (other ∷ ends) = omega (arith, least_below end ends)
+
+-- the times of an event's row, whatever retractions of it there are
+times_at : (all xs : List EventLine) (p : ℕ) (d : Row) → HaveRows xs → p < length (rows_among all xs) → ((get_or (rows_among all xs) p d).begin < FOREVER) × ((get_or (rows_among all xs) p d).end ≤ FOREVER)
+times_at all [] p d have within = absurd (omega arith)
+times_at all (Insert id row ∷ xs) zero d have within = (have.0.begins, omega (arith, have.0.ends, least_below row.end (ends_of id all)))
+times_at all (Insert id row ∷ xs) (suc p) d have within = times_at all xs p d have.1 (omega arith)
+times_at all (Retract id end ∷ xs) p d have within = times_at all xs p d have within
+times_at all (Promise time ∷ xs) p d have within = times_at all xs p d have within
+
+-- a new end is right for a row behind a guarantee
+record IsEnd (row : Row) (end mark : ℕ) : Type 0 where
+  begun : row.begin ≤ end
+  shorter : end < row.end
+  in_time : mark ≤ end
+
+end_at : (low high : Bool) (row : Row) (end mark : ℕ) → nat_le row.begin end ≡ low → nat_lt end row.end ≡ high → cond (low && high) (late_fault end mark) (Some (BadEnd row.begin row.end)) ≡ None → IsEnd row end mark
+end_at true true row end mark is_low is_high h = record { begun = leb-true row.begin end is_low; shorter = ltb-true end row.end is_high; in_time = in_time end mark h }
+end_at true false row end mark is_low is_high h = cc
+end_at false high row end mark is_low is_high h = cc
+
+-- a retraction that has no fault is of an event that was inserted
+retracted_at : (place : Option ℕ) (rows : List Row) (end mark : ℕ) → retraction_fault (option_map (λ p. get_or rows p no_row) place) end mark ≡ None → (p : ℕ) × (place ≡ Some p) × IsEnd (get_or rows p no_row) end mark
+retracted_at None rows end mark h = cc
+retracted_at (Some p) rows end mark h =
+    let row = get_or rows p no_row in
+    (p, refl, end_at (nat_le row.begin end) (nat_lt end row.end) row end mark refl refl h)
+
+follows-cut : (before : List EventLine) (ms : List Message) (id end p : ℕ) → AreOf before ms → place_of id before ≡ Some p → IsEnd (get_or (rows_among before before) p no_row) end (guarantee_of before)
+    → Follows before (Retract id end) ms (message.Change (Cut (get_or (rows_among before before) p no_row) end) ∷ [])
+follows-cut before ms id end p are at right =
+    let rows = rows_among before before in
+    let row = get_or (rows_among before before) p no_row in
+    let within = place_below id before before p at in
+    let times = times_at before before p no_row are.rows within in
+    let alive : row.begin < row.end = omega (arith, right.begun, right.shorter) in
+    let there = living_at rows p no_row within alive in
+    let now = rows-retract id end p no_row before are.known at (omega (arith, right.shorter)) in
+    let change = message.Change (Cut row end) in
+    record {
+      legal = (
+        (are.goes_on, (((record { lives = alive; begins = times.0; ends = times.1 }, right.begun, right.shorter), omega (arith, are.table row, there)), omega (arith, are.mark, right.in_time))),
+        tt,
+      );
+      all = record {
+        goes_on = open-append ms (change ∷ []) are.goes_on tt;
+        mark = omega (arith, are.mark, mark_of-append ms (change ∷ []), guarantee_of-append before (Retract id end ∷ []));
+        table = λ r. table-push r ms (Cut row end) (living before) (living (before ++ Retract id end ∷ [])) (are.table r)
+            (omega (arith, ap (λ rows. count_of r (filter lives rows)) now, living_cut r rows p no_row end within alive));
+        known = known-retract id end p before are.known at;
+        rows = rows-append before (Retract id end ∷ []) are.rows tt;
+      };
+    }
+
+follows-retract : (before : List EventLine) (ms : List Message) (id end : ℕ) → AreOf before ms → IsAccepted before (Retract id end) → Follows before (Retract id end) ms (message_of before (Retract id end))
+follows-retract before ms id end are accepted =
+    let rows = rows_among before before in
+    let event = event_place id before before no_row in
+    let right = retracted_at (place_of id before) rows end (guarantee_of before) (subst (λ found. retraction_fault found end (guarantee_of before) ≡ None) event accepted.faultless) in
+    let found = event ∙ ap (option_map (λ p. get_or (rows_among before before) p no_row)) right.1 in
+    subst (λ found. Follows before (Retract id end) ms (cut_of found end)) (sym found) (follows-cut before ms id end right.0 are right.1 right.2)
+
+-- ---- a guarantee
+
+follows-rise : (before : List EventLine) (ms : List Message) (time : ℕ) (rises : Bool) → nat_lt (guarantee_of before) time ≡ rises → AreOf before ms → time ≤ FOREVER
+    → Follows before (Promise time) ms (cond rises (message.Mark time ∷ []) [])
+follows-rise before ms time true rises are finite =
+    let above = ltb-true (guarantee_of before) time rises in
+    let changes = changes_of-append ms (message.Mark time ∷ []) ∙ append-nil (changes_of ms) in
+    record {
+      legal = ((are.goes_on, (omega (arith, are.mark, above), finite)), tt);
+      all = record {
+        goes_on = open-append ms (message.Mark time ∷ []) are.goes_on tt;
+        mark = omega (arith, are.mark, mark_of-append ms (message.Mark time ∷ []), guarantee_of-append before (Promise time ∷ []));
+        table = λ r. omega (arith, are.table r, ap (λ rows. count_of r (filter lives rows)) (rows-promise time before), ap (λ cs. count_of r (all_takes cs)) changes, ap (λ cs. count_of r (all_puts cs)) changes);
+        known = known-promise time before are.known;
+        rows = rows-append before (Promise time ∷ []) are.rows tt;
+      };
+    }
+follows-rise before ms time false rises are finite =
+    let low = ltb-false (guarantee_of before) time rises in
+    record {
+      legal = tt;
+      all = subst (AreOf (before ++ Promise time ∷ [])) (sym (append-nil ms)) (record {
+        goes_on = are.goes_on;
+        mark = omega (arith, are.mark, low, guarantee_of-append before (Promise time ∷ []));
+        table = λ r. omega (arith, are.table r, ap (λ rows. count_of r (filter lives rows)) (rows-promise time before));
+        known = known-promise time before are.known;
+        rows = rows-append before (Promise time ∷ []) are.rows tt;
+      });
+    }
+
+-- ---- any lines
+
+follows : (before : List EventLine) (ms : List Message) (line : EventLine) → AreOf before ms → IsAccepted before line → Follows before line ms (message_of before line)
+follows before ms (Insert id row) are accepted = follows-insert before ms id row are accepted
+follows before ms (Retract id end) are accepted = follows-retract before ms id end are accepted
+follows before ms (Promise time) are accepted = follows-rise before ms time (nat_lt (guarantee_of before) time) refl are accepted.event
+
+-- legal messages that the lines became
+pub record AreLegalOf (lines : List EventLine) (before ms : List Message) : Type 0 where
+  pub legal : IsLegalBehind before ms
+  pub all : AreOf lines (before ++ ms)
+
+-- accepted lines behind others become legal messages behind theirs
+follow : (before : List EventLine) (ms : List Message) (lines : List EventLine) → AreOf before ms → AreAcceptedBehind before lines → AreLegalOf (before ++ lines) ms (messages_behind before lines)
+follow before ms [] are accepted = record { legal = tt; all = subst₂ AreOf (sym (append-nil before)) (sym (append-nil ms)) are }
+follow before ms (line ∷ lines) are accepted =
+    let first = follows before ms line are accepted.0 in
+    let next = message_of before line in
+    let rest = follow (before ++ line ∷ []) (ms ++ next) lines first.all accepted.1 in
+    record {
+      legal = legal-append ms next (messages_behind (before ++ line ∷ []) lines) first.legal rest.legal;
+      all = subst₂ AreOf (append_assoc before (line ∷ []) lines) (append_assoc ms next (messages_behind (before ++ line ∷ []) lines)) rest.all;
+    }
+
+no_lines : AreOf [] []
+no_lines = record { goes_on = tt; mark = refl; table = λ r. refl; known = record { apart = tt; known = λ id none. refl }; rows = tt }
+
+-- accepted lines become legal messages
+pub accepted_messages : (lines : List EventLine) → AreAccepted lines → AreLegalOf lines [] (messages_behind [] lines)
+accepted_messages lines accepted = follow [] [] lines no_lines accepted
+
+-- the table of messages that lines became is the canonical history of the lines
+pub table_is_history : (lines : List EventLine) (ms : List Message) → AreOf lines ms → IsTableOf ms (history_of lines)
+table_is_history lines ms are = record { sums = record { each = λ r. omega (arith, are.table r, count_of-append r (history_of lines) (all_takes (changes_of ms)), in_order_count r (living lines)) } }
+
+-- ---- one more line
+
+messages-behind : (before lines : List EventLine) (line : EventLine) → messages_behind before (lines ++ line ∷ []) ≡ messages_behind before lines ++ message_of (before ++ lines) line
+messages-behind before [] line = append-nil (message_of before line) ∙ ap (λ front. message_of front line) (sym (append-nil before))
+messages-behind before (first ∷ lines) line =
+    ap (λ ms. message_of before first ++ ms) (messages-behind (before ++ first ∷ []) lines line)
+    ∙ (sym (append_assoc (message_of before first) (messages_behind (before ++ first ∷ []) lines) (message_of ((before ++ first ∷ []) ++ lines) line))
+    ∙ ap (λ front. (message_of before first ++ messages_behind (before ++ first ∷ []) lines) ++ message_of front line) (append_assoc before (first ∷ []) lines))
+
+-- the messages of lines with one more are theirs and then that one's
+pub messages-more : (lines : List EventLine) (line : EventLine) → messages_behind [] (lines ++ line ∷ []) ≡ messages_behind [] lines ++ message_of lines line
+messages-more lines line = messages-behind [] lines line

@@ -1,0 +1,75 @@
+-- An event line, judged against the lines before it.
+use Rattle.std.specs.Prelude.{ℕ, ◌≡◌, ◌==◌, ◌&&◌, List, [], ◌∷◌, ◌++◌, min, max, nat_le, nat_lt, if◌then◌else◌, Option, None, Some, is_some}
+use Rattle.cedr_base.specs.declared.row.Row.{Row}
+use Rattle.cedr_text.specs.declared.event_line.EventLine.{EventLine}
+use Rattle.cedr_text.specs.declared.event_line.EventLine.TheVariants.{Insert, Retract, Promise}
+use Rattle.cedr_text.specs.declared.fault.LineFault.{LineFault}
+use Rattle.cedr_text.specs.declared.fault.LineFault.TheVariants.{KnownId, UnknownId, BadEnd, BeforeGuarantee}
+use Rattle.cedr_text.specs.Reading.{IsEvent}
+
+-- ---- what lines say together
+
+-- the greatest guarantee, and 0 where there is none
+abbrev pub guarantee_of : List EventLine → ℕ
+guarantee_of [] = 0
+guarantee_of (Insert id row ∷ lines) = guarantee_of lines
+guarantee_of (Retract id end ∷ lines) = guarantee_of lines
+guarantee_of (Promise time ∷ lines) = max time (guarantee_of lines)
+
+-- the new ends that the retractions of an id give
+abbrev pub ends_of : ℕ → List EventLine → List ℕ
+ends_of id [] = []
+ends_of id (Insert other row ∷ lines) = ends_of id lines
+ends_of id (Retract other end ∷ lines) = if other == id then end ∷ ends_of id lines else ends_of id lines
+ends_of id (Promise time ∷ lines) = ends_of id lines
+
+-- the least of an end and others
+abbrev pub least_of : ℕ → List ℕ → ℕ
+least_of end [] = end
+least_of end (other ∷ others) = min other (least_of end others)
+
+-- an inserted row with the least end among its own and those of its retractions
+abbrev pub row_after : ℕ → Row → List EventLine → Row
+row_after id row lines = record row { end = least_of row.end (ends_of id lines) }
+
+-- the row of the event with this id, as it is after all of the lines
+abbrev pub event_among : ℕ → List EventLine → List EventLine → Option Row
+event_among id all [] = None
+event_among id all (Insert other row ∷ lines) = if other == id then Some (row_after other row all) else event_among id all lines
+event_among id all (Retract other end ∷ lines) = event_among id all lines
+event_among id all (Promise time ∷ lines) = event_among id all lines
+
+abbrev pub event_of : ℕ → List EventLine → Option Row
+event_of id lines = event_among id lines lines
+
+-- ---- a line against the lines before it
+
+-- the sync is below the guarantee
+abbrev pub late_fault : ℕ → ℕ → Option LineFault
+late_fault sync mark = if nat_lt sync mark then Some (BeforeGuarantee sync mark) else None
+
+-- a retraction's event, its new end, and the guarantee
+abbrev pub retraction_fault : Option Row → ℕ → ℕ → Option LineFault
+retraction_fault None end mark = Some UnknownId
+retraction_fault (Some row) end mark = if nat_le row.begin end && nat_lt end row.end then late_fault end mark else Some (BadEnd row.begin row.end)
+
+-- the least fault that a line has behind these, if it has one
+abbrev pub fault_behind : List EventLine → EventLine → Option LineFault
+fault_behind before (Insert id row) = if is_some (event_of id before) then Some KnownId else late_fault row.begin (guarantee_of before)
+fault_behind before (Retract id end) = retraction_fault (event_of id before) end (guarantee_of before)
+fault_behind before (Promise time) = None
+
+-- ---- accepted lines
+
+-- a line behind others that it agrees with
+pub record IsAccepted (before : List EventLine) (line : EventLine) : Type 0 where
+  pub event : IsEvent line
+  pub faultless : fault_behind before line ≡ None
+
+-- each of the lines is accepted behind those before it
+abbrev pub AreAcceptedBehind : List EventLine → List EventLine → Type 0
+AreAcceptedBehind before [] = Unit {0}
+AreAcceptedBehind before (line ∷ lines) = IsAccepted before line × AreAcceptedBehind (before ++ line ∷ []) lines
+
+abbrev pub AreAccepted : List EventLine → Type 0
+AreAccepted lines = AreAcceptedBehind [] lines

@@ -1,0 +1,6 @@
+pub mod Faults
+pub mod Judging
+pub mod History
+pub mod Messages
+pub mod Sources
+pub mod Standing

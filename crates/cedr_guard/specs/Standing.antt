@@ -1,0 +1,74 @@
+-- What a judge keeps of the lines that it accepted.
+use Rattle.std.specs.Prelude.{ℕ, ◌≡◌, ◌==◌, suc, List, [], ◌∷◌, map, if◌then◌else◌, Option, None, Some, option_map, Result, Ok, Err}
+use Rattle.std.specs.Ordering.{nat_cmp}
+use Rattle.std.specs.BTreeMap.{get}
+use Rattle.cedr_base.specs.declared.row.Row.{Row}
+use Rattle.cedr_base.specs.declared.field.Field.{Field}
+use Rattle.cedr_base.specs.declared.change.Message.{Message}
+use Rattle.cedr_text.specs.declared.event_line.EventLine.{EventLine}
+use Rattle.cedr_text.specs.declared.event_line.EventLine.TheVariants.{Insert, Retract, Promise}
+use Rattle.cedr_text.specs.declared.fault.LineFault.{LineFault}
+use Rattle.cedr_guard.specs.declared.fault.GuardFault.{GuardFault}
+use Rattle.cedr_guard.specs.declared.fault.GuardFault.TheVariants as guard_fault
+use Rattle.cedr_guard.specs.declared.judge.Interval.{Interval}
+use Rattle.cedr_guard.specs.declared.judge.Judge.{Judge}
+use Rattle.cedr_guard.specs.declared.judge.Retracted.{Retracted}
+use Rattle.cedr_guard.specs.declared.guard.Guard.{Guard}
+use Rattle.cedr_guard.specs.Judging.{guarantee_of, ends_of, event_of, AreAccepted}
+use Rattle.cedr_guard.specs.History.{rows_among}
+
+-- at which place among the insertions an id was inserted first
+abbrev pub place_of : ℕ → List EventLine → Option ℕ
+place_of id [] = None
+place_of id (Insert other row ∷ lines) = if other == id then Some 0 else option_map (λ n. suc n) (place_of id lines)
+place_of id (Retract other end ∷ lines) = place_of id lines
+place_of id (Promise time ∷ lines) = place_of id lines
+
+-- no id is inserted twice
+abbrev pub AreApart : List EventLine → Type 0
+AreApart [] = Unit {0}
+AreApart (Insert id row ∷ lines) = (place_of id lines ≡ None) × AreApart lines
+AreApart (Retract id end ∷ lines) = AreApart lines
+AreApart (Promise time ∷ lines) = AreApart lines
+
+-- no id is inserted twice, and no line is about an event that another doesn't insert
+pub record AreKnown (lines : List EventLine) : Type 0 where
+  pub apart : AreApart lines
+  pub known : (id : ℕ) → place_of id lines ≡ None → ends_of id lines ≡ []
+
+-- when a row is valid
+abbrev pub interval_of : Row → Interval
+interval_of row = record { begin = row.begin; end = row.end }
+
+abbrev pub payload_of : Row → List Field
+payload_of row = row.payload
+
+-- the judge stands for these lines: it has the valid interval of each event as it is after them, the place of
+-- each id and the guarantee
+pub record StandsFor (judge : Judge) (lines : List EventLine) : Type 0 where
+  pub intervals : judge.intervals.items ≡ map interval_of (rows_among lines lines)
+  pub places : (id : ℕ) → get nat_cmp judge.places id ≡ place_of id lines
+  pub mark : judge.mark ≡ guarantee_of lines
+  pub ids : AreKnown lines
+
+-- the guard stands for these lines: it has the payload of each event besides, and the lines are accepted
+pub record Guards (guard : Guard) (lines : List EventLine) : Type 0 where
+  pub judge : StandsFor guard.judge lines
+  pub payloads : guard.payloads.items ≡ map payload_of (rows_among lines lines)
+  pub accepted : AreAccepted lines
+
+-- the answer for a line whose least fault is known: that fault, unless memory ran out
+abbrev pub Judges : {X : Type 0} → Result X GuardFault → Option LineFault → Type 0
+Judges (Ok done) fault = fault ≡ None
+Judges (Err (guard_fault.Line line)) fault = fault ≡ Some line
+Judges (Err guard_fault.OutOfMemory) fault = Unit {0}
+
+-- the event with this id, by its place among the insertions and its valid interval
+pub record IsEventOf (id : ℕ) (lines : List EventLine) (found : Retracted) : Type 0 where
+  pub place : place_of id lines ≡ Some found.place
+  pub interval : option_map interval_of (event_of id lines) ≡ Some found.interval
+
+-- one message or none
+abbrev pub as_list : Option Message → List Message
+as_list None = []
+as_list (Some message) = message ∷ []

@@ -1,0 +1,169 @@
+ghost use Rattle.std.specs.Prelude.{◌≡◌, ◌++◌, ◌∷◌, [], List, None, Some, IfOk, OnOk, OnErr, map, nat_lt, ℕ, ◌<◌, length};
+ghost use Rattle.cedr_base.specs.declared.row.Row.{Row};
+ghost use Rattle.cedr_text.specs.declared.event_line.EventLine.{EventLine};
+ghost use Rattle.cedr_text.specs.declared.event_line.EventLine.TheVariants.{Insert, Retract, Promise};
+ghost use Rattle.cedr_guard.specs.Judging.{fault_behind, late_fault, retraction_fault, guarantee_of};
+ghost use Rattle.cedr_guard.specs.History.{rows_among};
+ghost use Rattle.cedr_guard.specs.Standing.{StandsFor, Judges, IsEventOf, interval_of, place_of};
+
+use crate::fault::GuardFault;
+use cedr_base::Time;
+use cedr_text::LineFault;
+use std::alloc::Global;
+use std::collections::BTreeMap;
+use std::collections::btree_map::Entry;
+
+/// When an event is valid: from `begin` on and before `end`, and never where these are the same.
+#[derive(Clone, Copy, Debug, PartialEq, Eq)]
+pub struct Interval {
+    pub begin: Time,
+    pub end: Time,
+}
+
+/// What a retraction is about.
+#[derive(Clone, Copy)]
+pub(crate) struct Retracted {
+    /// The place of its event among the insertions, from 0 on.
+    pub(crate) place: usize,
+    /// When the event was valid before.
+    pub(crate) interval: Interval,
+}
+
+/// Judges event lines against the accepted lines before them, by ids and times alone. It stands for the
+/// list of the accepted lines.
+///
+/// It keeps 16 bytes for each insertion, and a place in an ordered map.
+#[derive(Drop)]
+pub struct Judge {
+    /// Where the interval of an id's event stands.
+    places: BTreeMap<u64, usize>,
+    /// One for each insertion, in order. A retraction may have left it empty.
+    intervals: Vec<Interval>,
+    /// The greatest guarantee, 0 at first.
+    mark: Time,
+}
+
+impl Judge {
+    /// It takes no memory.
+    pub fn new(alloc: Global) -> Judge
+        ensures { StandsFor result [] }
+    {
+        Judge {
+            places: BTreeMap::new(alloc),
+            intervals: Vec::new(alloc),
+            mark: 0,
+        }
+    }
+
+    /// Accepts an insertion with this id and valid interval, or answers its least fault, which changes
+    /// nothing. O(log n) in the insertions before it.
+    pub fn insert(&mut self, id: u64, begin: Time, end: Time) -> Result<(), GuardFault>
+        ensures judged { (before : List EventLine) (row : Row) → StandsFor self.old before → interval_of row ≡ record { begin = begin; end = end }
+            → Judges result (fault_behind before (Insert id row)) }
+        ensures stands { OnOk result ((before : List EventLine) (row : Row) → StandsFor self.old before → interval_of row ≡ record { begin = begin; end = end }
+            → StandsFor self.new (before ++ Insert id row ∷ [])) }
+        ensures stays { OnErr result ((before : List EventLine) → StandsFor self.old before → StandsFor self.new before) }
+    {
+        let place = self.intervals.len();
+        match self.places.entry(id)? {
+            Entry::Occupied(_) => Err(GuardFault::Line(LineFault::KnownId)),
+            Entry::Vacant(vacant) => {
+                if let Some(fault) = late_fault(begin, self.mark) {
+                    return Err(GuardFault::Line(fault));
+                }
+                self.intervals.push(Interval { begin, end })?;
+                vacant.insert(place);
+                Ok(())
+            }
+        }
+    }
+
+    /// Accepts a retraction of the event with this id to a new end, or answers its least fault, which changes
+    /// nothing. O(log n) in the insertions before it.
+    pub fn retract(&mut self, id: u64, end: Time) -> Result<(), GuardFault>
+        ensures judged { (before : List EventLine) → StandsFor self.old before → Judges result (fault_behind before (Retract id end)) }
+        ensures stands { OnOk result ((before : List EventLine) → StandsFor self.old before → StandsFor self.new (before ++ Retract id end ∷ [])) }
+        ensures stays { OnErr result (self.new ≡ self.old) }
+    {
+        let found = self.find(id, end)?;
+        self.cut(found.place, end);
+        Ok(())
+    }
+
+    /// The event that a retraction is about, or the retraction's least fault.
+    pub(crate) fn find(&self, id: u64, end: Time) -> Result<Retracted, GuardFault>
+        ensures judged { (before : List EventLine) → StandsFor self.now before → Judges result (fault_behind before (Retract id end)) }
+        ensures event { IfOk result (λ found. (before : List EventLine) → StandsFor self.now before → IsEventOf id before found) }
+        ensures within { IfOk result (λ found. found.place < length self.now.intervals.items) }
+    {
+        let Some(place) = self.places.get(&id).copied() else {
+            return Err(GuardFault::Line(LineFault::UnknownId));
+        };
+        let Some(interval) = self.intervals.get(place).copied() else {
+            return Err(GuardFault::Line(LineFault::UnknownId));
+        };
+        match retraction_fault(interval, end, self.mark) {
+            Some(fault) => Err(GuardFault::Line(fault)),
+            None => Ok(Retracted { place, interval }),
+        }
+    }
+
+    /// Ends the event at this place earlier.
+    pub(crate) fn cut(&mut self, place: usize, end: Time)
+        requires { place < length self.old.intervals.items }
+        ensures { (before : List EventLine) (id : ℕ) → StandsFor self.old before → place_of id before ≡ Some place → fault_behind before (Retract id end) ≡ None
+            → StandsFor self.new (before ++ Retract id end ∷ []) }
+    {
+        self.intervals[place].end = end;
+    }
+
+    /// Takes a guarantee, and answers whether it is above the greatest earlier one, or above 0 where there was
+    /// none.
+    pub fn promise(&mut self, time: Time) -> bool
+        ensures rises { (before : List EventLine) → StandsFor self.old before → result ≡ nat_lt (guarantee_of before) time }
+        ensures stands { (before : List EventLine) → StandsFor self.old before → StandsFor self.new (before ++ Promise time ∷ []) }
+    {
+        let rises = self.mark < time;
+        self.mark = self.mark.max(time);
+        rises
+    }
+
+    /// The greatest guarantee, 0 where there was none.
+    pub fn mark(&self) -> Time
+        ensures { (lines : List EventLine) → StandsFor self.now lines → result ≡ guarantee_of lines }
+    {
+        self.mark
+    }
+
+    /// The valid interval of each insertion's event as the accepted lines leave it, in the order of the
+    /// insertions.
+    pub fn into_intervals(self) -> Vec<Interval>
+        ensures { (lines : List EventLine) → StandsFor self lines → result.items ≡ map interval_of (rows_among lines lines) }
+    {
+        self.intervals
+    }
+}
+
+/// The fault of a sync that is below the guarantee.
+fn late_fault(sync: Time, mark: Time) -> Option<LineFault>
+    ensures { result ≡ late_fault sync mark }
+{
+    if sync < mark {
+        Some(LineFault::BeforeGuarantee { sync, mark })
+    } else {
+        None
+    }
+}
+
+/// The fault of a new end for an event with this valid interval.
+fn retraction_fault(interval: Interval, end: Time, mark: Time) -> Option<LineFault>
+    ensures { (row : Row) → interval_of row ≡ interval → result ≡ retraction_fault (Some row) end mark }
+{
+    if end < interval.begin || interval.end <= end {
+        return Some(LineFault::BadEnd {
+            begin: interval.begin,
+            end: interval.end,
+        });
+    }
+    late_fault(end, mark)
+}

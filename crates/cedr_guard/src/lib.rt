@@ -1,0 +1,23 @@
+//! Event lines judged against the lines before them, and what accepted lines become: messages, and a
+//! canonical history.
+//!
+//! `specs/Judging.antt` says which fault a line has behind others, `specs/Messages.antt` and
+//! `specs/History.antt` what accepted lines say together, and `specs/Sources.antt` the same of a source's
+//! bytes. `Guard` answers the messages; `Judge` looks at ids and times alone. `message_laws` says that the
+//! messages are legal and that their table is the canonical history.
+#![tactic(auto)]
+
+mod fault;
+mod guard;
+mod judge;
+mod law;
+mod refusal;
+
+pub use fault::GuardFault;
+pub use guard::Guard;
+pub use judge::{Interval, Judge};
+pub use law::message_laws;
+pub use refusal::{FILE_LIMIT, Refusal};
+
+#[cfg(test)]
+mod tests;

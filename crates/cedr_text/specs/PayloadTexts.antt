@@ -1,0 +1,9 @@
+-- The fields of a payload, however it stands.
+use Rattle.std.specs.Prelude.{List}
+use Rattle.cedr_base.specs.declared.field.Field.{Field}
+use Rattle.cedr_text.specs.declared.payload_text.PayloadKind.{PayloadKind}
+use Rattle.cedr_text.specs.declared.payload_text.PayloadKind.TheVariants.{Bare, Read}
+
+abbrev pub fields_in : PayloadKind → List Field
+fields_in (Bare fields) = fields
+fields_in (Read fields) = fields
