@@ -1,4 +1,4 @@
-ghost use Rattle.std.specs.Prelude.{◌≡◌, ◌<◌, ◌∷◌, [], ℕ, List, IfOk, IfSome, option_map};
+ghost use Rattle.std.specs.Prelude.{◌≡◌, ◌<◌, ◌≤◌, ◌+◌, ◌∷◌, [], length, ℕ, List, IfOk, IfSome, option_map};
 ghost use Rattle.cedr_io.specs.Counts.{Counts, last_count};
 ghost use Rattle.cedr_run.specs.Answers.{answer_of};
 ghost use Rattle.cedr_run.specs.Files.{IsFileFront, AsksFirst};
@@ -25,9 +25,10 @@ pub(crate) fn read_file<F: Files>(
     bytes
 }
 
-/// Reads a source to its end, or until the bytes pass the limit.
+/// Reads a source to its end, or until the bytes pass the limit. Each turn takes a byte at least.
 fn read_all<S: Source>(alloc: Global, source: &mut S) -> Result<Vec<u8>, OutsideFault>
     ensures bytes { IfOk result (λ bytes. IfSome (S.rest source.old) (λ all. IsFileFront all bytes.items)) }
+    ensures bound { IfOk result (λ bytes. length bytes.items ≤ FILE_LIMIT + 4096) }
     ensures counted { Counts result (S.faults source.old) (S.faults source.new) }
 {
     let mut bytes = Vec::new(alloc);

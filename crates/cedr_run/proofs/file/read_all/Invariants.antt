@@ -1,4 +1,4 @@
-use Rattle.std.proofs.Common.{◌≡◌, ◌+◌, ◌-◌, vec_len}
+use Rattle.std.proofs.Common.{◌≡◌, ◌≤◌, ◌+◌, ◌-◌, length, vec_len}
 use Rattle.cedr_guard.specs.declared.refusal.TheConstants.{FILE_LIMIT}
 use Rattle.std.specs.Io.KnownBytes.{Consumes}
 use Rattle.cedr_run.proofs.file.read_all.Given as goal
@@ -6,6 +6,7 @@ use Rattle.cedr_run.proofs.file.read_all.Given as goal
 abbrev pub invariant-loop-block : goal.invariant-loop-block
 invariant-loop-block g l = record {
   taken : Consumes (g.S.Source.rest l.fn.source) (g.S.Source.rest l.source) l.bytes.items;
+  bound : length l.bytes.items ≤ FILE_LIMIT + 4096;
   counted : g.S.Source.faults l.source ≡ g.S.Source.faults l.fn.source;
 }
 
