@@ -1,0 +1,79 @@
+ghost use Rattle.std.specs.Prelude.{◌≡◌, [], ◌∷◌, ◌++◌, IfOk, OnOk};
+ghost use Rattle.std.specs.Result.{result_err};
+ghost use Rattle.cedr_expr.specs.Columns.{kept};
+ghost use Rattle.cedr_expr.specs.Types.{first_past_end, keep_fault_of};
+
+use crate::fault::TypeFault;
+use cedr_base::{Field, FieldType, OutOfMemory, Payload};
+use std::alloc::Global;
+use std::marker::Model;
+
+/// The columns that are kept of a payload, in order. A column may stand in it more than once. Contracts see
+/// the list of the columns, which count from 0.
+#[derive(Drop)]
+pub struct Keep {
+    columns: Vec<usize>,
+}
+
+impl Model for Keep {
+    ghost use Rattle.std.specs.Prelude.{List, ℕ};
+
+    ghost Value = { List ℕ };
+
+    ghost view = { λ keep. keep.columns.items };
+}
+
+impl Keep {
+    /// The columns, where each is one of these types. It takes no memory. At a fault they are dropped.
+    pub fn new(columns: Vec<usize>, types: &[FieldType]) -> Result<Keep, TypeFault>
+        ensures made { IfOk result (λ keep. keep ≡ columns.items) }
+        ensures fault { result_err result ≡ keep_fault_of columns.items types.now }
+    {
+        match find_past_end(columns.as_slice(), types) {
+            Some(test) => Err(TypeFault::BadColumn { test }),
+            None => Ok(Keep { columns }),
+        }
+    }
+
+    /// The payload's fields at the columns, and none for a column past the end. O(n) in what they hold.
+    #[tactic(auto, using(crate::proofs::KeptLemmas::kept_more))]
+    pub fn apply(&self, alloc: Global, payload: &Payload) -> Result<Payload, OutOfMemory>
+        ensures { IfOk result (λ fields. fields ≡ kept self.now payload.now) }
+    {
+        let fields = payload.fields();
+        let mut chosen = Payload::new(alloc);
+        for column in &self.columns {
+            push_column(alloc, &mut chosen, fields, *column)?;
+        }
+        Ok(chosen)
+    }
+
+    pub fn copy(&self, alloc: Global) -> Result<Keep, OutOfMemory>
+        ensures { IfOk result (λ keep. keep ≡ self.now) }
+    {
+        let columns = Vec::from_slice(alloc, self.columns.as_slice())?;
+        Ok(Keep { columns })
+    }
+}
+
+/// Adds a copy of the field at the column, where there is one.
+fn push_column(
+    alloc: Global,
+    chosen: &mut Payload,
+    fields: &[Field],
+    column: usize,
+) -> Result<(), OutOfMemory>
+    ensures { OnOk result (chosen.new ≡ chosen.old ++ kept (column ∷ []) fields.now) }
+{
+    if let Some(field) = fields.get(column) {
+        let copied = field.copy(alloc)?;
+        chosen.push(copied)?;
+    }
+    Ok(())
+}
+
+fn find_past_end(columns: &[usize], types: &[FieldType]) -> Option<usize>
+    ensures { result ≡ first_past_end columns.now types.now }
+{
+    columns.iter().position(|column| types.len() <= *column)
+}
