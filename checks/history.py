@@ -8,7 +8,6 @@ files kept. 2: the program isn't there.
 usage: checks/history.py [PROGRAM]
 """
 import random
-import subprocess
 import sys
 import tempfile
 from pathlib import Path
@@ -18,11 +17,7 @@ sys.dont_write_bytecode = True
 import cases
 import random_files
 import reference
-
-SHOWN = 5
-SECONDS = 60
-USAGE = (b"usage: cedr history FILE | check PLAN | serial PLAN | run PLAN | stream PLAN | audit PLAN | "
-         b"live PLAN SCRIPT | make N\n")
+from program import USAGE, Check
 
 # The words that match no command. What the usage line names and isn't built is among them.
 NO_COMMAND = [
@@ -41,48 +36,9 @@ COMMAND_LINES = [(words, 1, b"", USAGE) for words in NO_COMMAND] + [
 ]
 
 
-class Check:
-    """The program, a folder to run it in, and how many answers were other than they must be."""
-
-    def __init__(self, program: Path, folder: Path) -> None:
-        self.program = program
-        self.folder = folder
-        self.differences = 0
-        self.kept = None
-
-    def run(self, words: list, out=subprocess.PIPE) -> tuple[int, bytes, bytes]:
-        command = [self.program, *words]
-        try:
-            done = subprocess.run(command, cwd=self.folder, stdout=out, stderr=subprocess.PIPE, timeout=SECONDS)
-        except subprocess.TimeoutExpired:
-            return -1, b"", f"no answer within {SECONDS} s".encode()
-        return done.returncode, done.stdout or b"", done.stderr
-
-    def write(self, name: str, data: bytes) -> None:
-        (self.folder / name).write_bytes(data)
-
-    def history(self, data: bytes) -> tuple[int, bytes, bytes]:
-        self.write("e.csv", data)
-        return self.run([b"history", b"e.csv"])
-
-    def compare(self, name: str, data: bytes, expected: tuple, came: tuple) -> None:
-        """Counts a difference, and shows it and keeps its file where it is among the first."""
-        if expected == came:
-            return
-        self.differences += 1
-        if self.differences > SHOWN:
-            return
-        self.kept = self.kept or Path(tempfile.mkdtemp(prefix="cedr-differences-"))
-        place = self.kept / str(self.differences)
-        place.with_suffix(".csv").write_bytes(data)
-        print(f"DIFFERENCE {self.differences}: {name}; the file is {place}.csv")
-        for title, answer in (("expected", expected), ("came", came)):
-            place.with_suffix(f".{title}").write_bytes(answer[1])
-            print(f"  {title}: status {answer[0]}, err {shown(answer[2])}, out {shown(answer[1])}")
-
-
-def shown(text: bytes) -> str:
-    return repr(text) if len(text) <= 2_000 else f"{text[:500]!r} and on, {len(text)} bytes, kept beside the file"
+def history(check: Check, data: bytes) -> tuple[int, bytes, bytes]:
+    check.write("e.csv", data)
+    return check.run([b"history", b"e.csv"])
 
 
 def check_cases(check: Check, table) -> int:
@@ -90,7 +46,7 @@ def check_cases(check: Check, table) -> int:
     for case in table:
         expected = case.status, case.out, case.err
         check.compare(f"{case.name}, by the reference", case.data, expected, reference.history("e.csv", case.data))
-        check.compare(case.name, case.data, expected, check.history(case.data))
+        check.compare(case.name, case.data, expected, history(check, case.data))
         count += 1
     return count
 
@@ -119,7 +75,7 @@ def check_random(check: Check, make, count: int) -> int:
     for seed in range(count):
         data = make(random.Random(seed))
         expected = reference.history("e.csv", data)
-        check.compare(f"{make.__name__} of seed {seed}", data, expected, check.history(data))
+        check.compare(f"{make.__name__} of seed {seed}", data, expected, history(check, data))
         accepted += expected[0] == 0
     return accepted
 
@@ -128,9 +84,9 @@ def check_arrival(check: Check, count: int) -> None:
     """In what order the lines of different events arrive doesn't matter."""
     for seed in range(count):
         one, other = random_files.shuffled_pair(random.Random(seed))
-        first = check.history(one)
+        first = history(check, one)
         check.compare(f"one arrival order of seed {seed}", one, reference.history("e.csv", one), first)
-        check.compare(f"another arrival order of seed {seed}", other, first, check.history(other))
+        check.compare(f"another arrival order of seed {seed}", other, first, history(check, other))
 
 
 def main() -> int:
@@ -140,7 +96,7 @@ def main() -> int:
         print(f"{program} isn't there; it is built by: (cd crates/cedr && rt run -- --version)", file=sys.stderr)
         return 2
     with tempfile.TemporaryDirectory(prefix="cedr-check-") as folder:
-        check = Check(program, Path(folder))
+        check = Check(program, Path(folder), ".csv")
         small = check_cases(check, cases.SMALL)
         words = check_command_lines(check)
         good = check_random(check, random_files.small_file, 1_500)

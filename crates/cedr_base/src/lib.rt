@@ -6,6 +6,7 @@
 
 mod change;
 mod field;
+mod level;
 mod memory;
 mod payload;
 mod row;
@@ -14,6 +15,7 @@ mod time;
 
 pub use change::{Change, Message};
 pub use field::{Field, FieldType};
+pub use level::Level;
 pub use memory::OutOfMemory;
 pub use payload::Payload;
 pub use row::{Row, RowFault, canonical_order, sort_rows};

@@ -15,7 +15,13 @@ use Rattle.cedr_guard.specs.declared.refusal.Refusal.{Refusal}
 use Rattle.cedr_guard.specs.declared.refusal.TheConstants.{FILE_LIMIT}
 use Rattle.cedr_guard.specs.Sources.{with_reading, line_reading, Judged, go_on, judged_behind, judged_lines, judged_front, whole_lines, unfinished_line, first_fault, limit_fault, judged}
 use Rattle.cedr_run.specs.declared.events.Events.{Events}
-use Rattle.cedr_run.specs.Answers.{answer_to, answer_of}
+use Rattle.cedr_run.specs.Answers.{history_answer, check_answer, answer_of}
+use Rattle.cedr_plan.specs.Plans as plans
+use Rattle.cedr_plan.specs.Plans.{plan_of, plan_of_json, json_of, longest}
+use Rattle.cedr_plan.specs.declared.fault.PlanKind.TheVariants as kind
+use Rattle.cedr_run.specs.declared.command.Job.{Job}
+use Rattle.cedr_run.specs.declared.command.Job.TheVariants.{History, Check}
+use Rattle.cedr_run.specs.Commands.{limit_of}
 use Rattle.cedr_run.specs.Files.{IsFileFront}
 use Rattle.cedr_run.specs.Refusals.{fault_at}
 use Rattle.cedr_run.specs.Events.{AreEventsOf, TakesLine, JudgesFile, parts_behind}
@@ -110,7 +116,7 @@ judged_large bytes long =
     ∙ sym (ap (λ over. cond over (judged_front AnyText (parts_of line_feed (take FILE_LIMIT bytes))) (judged_lines AnyText (raw_lines bytes))) (lt-ltb FILE_LIMIT (length bytes) long))
 
 -- what was read of a file over the limit is judged as the file is
-front_at : (all front : List ℕ) (long_front long_all : Bool) → nat_lt FILE_LIMIT (length front) ≡ long_front → nat_lt FILE_LIMIT (length all) ≡ long_all → IsFileFront all front
+front_at : (all front : List ℕ) (long_front long_all : Bool) → nat_lt FILE_LIMIT (length front) ≡ long_front → nat_lt FILE_LIMIT (length all) ≡ long_all → IsFileFront FILE_LIMIT all front
     → judged AnyText front ≡ judged AnyText all
 front_at all front false long_all is_front is_all read =
     let nothing = read.whole (ltb-false FILE_LIMIT (length front) is_front) in
@@ -123,9 +129,23 @@ front_at all front true true is_front is_all read =
 front_at all front true false is_front is_all read =
     absurd (omega (arith, ltb-true FILE_LIMIT (length front) is_front, ltb-false FILE_LIMIT (length all) is_all, ap length read.begins, length-append front read.rest))
 
-pub front_judged : (all front : List ℕ) → IsFileFront all front → judged AnyText front ≡ judged AnyText all
+front_judged : (all front : List ℕ) → IsFileFront FILE_LIMIT all front → judged AnyText front ≡ judged AnyText all
 front_judged all front read = front_at all front (nat_lt FILE_LIMIT (length front)) (nat_lt FILE_LIMIT (length all)) refl refl read
 
+-- and a front of what is no plan, for its length, is none either
+front_plan : (all front : List ℕ) (long_front long_all : Bool) → nat_lt longest (length front) ≡ long_front → nat_lt longest (length all) ≡ long_all → IsFileFront longest all front
+    → plan_of all ≡ plan_of front
+unfolding plan_of
+front_plan all front false long_all is_front is_all read =
+    let nothing = read.whole (ltb-false longest (length front) is_front) in
+    ap (λ bytes. cond (nat_lt longest (length bytes)) (plans.refused kind.TooLong 0) (plan_of_json (json_of bytes))) (read.begins ∙ (ap (λ rest. front ++ rest) nothing ∙ append-nil front))
+front_plan all front true true is_front is_all read =
+    ap (λ long. cond long (plans.refused kind.TooLong 0) (plan_of_json (json_of all))) is_all
+    ∙ sym (ap (λ long. cond long (plans.refused kind.TooLong 0) (plan_of_json (json_of front))) is_front)
+front_plan all front true false is_front is_all read =
+    absurd (omega (arith, ltb-true longest (length front) is_front, ltb-false longest (length all) is_all, ap length read.begins, length-append front read.rest))
+
 -- so it has the same answer
-pub front_answer : (all front : List ℕ) → IsFileFront all front → answer_of all ≡ answer_of front
-front_answer all front read = ap (λ (file : Judged). answer_to file.good file.fault) (sym (front_judged all front read))
+pub front_answer : (job : Job) (all front : List ℕ) → IsFileFront (limit_of job) all front → answer_of job all ≡ answer_of job front
+front_answer History all front read = ap (λ (file : Judged). history_answer file.good file.fault) (sym (front_judged all front read))
+front_answer Check all front read = ap check_answer (front_plan all front (nat_lt longest (length front)) (nat_lt longest (length all)) refl refl read)

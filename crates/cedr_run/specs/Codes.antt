@@ -6,6 +6,7 @@ use Rattle.cedr_run.specs.declared.status.Status.TheVariants as status
 abbrev pub code_of : Status → ℕ
 code_of status.Done = 0
 code_of status.Usage = 1
+code_of status.Plan = 2
 code_of status.Events = 3
 code_of status.Read = 4
 code_of status.Write = 5

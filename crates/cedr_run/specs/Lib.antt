@@ -1,5 +1,6 @@
 pub mod Refusals
 pub mod Events
+pub mod Commands
 pub mod Answers
 pub mod Files
 pub mod Ending

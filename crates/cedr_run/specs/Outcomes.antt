@@ -1,15 +1,15 @@
--- The parts of the top call: how `history` went, and what is said of it.
+-- The parts of the top call: how a command went, and what is said of it.
 use Rattle.std.specs.Prelude.{ℕ, ◌≡◌, ◌<◌, ◌++◌, List, [], codes, Option, IfSome}
 use Rattle.std.specs.Io.KnownBytes.{Keeps}
 use Rattle.cedr_io.specs.Asked.{AppendsFront}
 use Rattle.cedr_run.specs.declared.answer.Answer.{Answer}
-use Rattle.cedr_run.specs.declared.answer.Answer.TheVariants.{Faulty}
+use Rattle.cedr_run.specs.declared.answer.Answer.TheVariants.{Faulty, BadPlan}
 use Rattle.cedr_run.specs.declared.outcome.Outcome.{Outcome}
 use Rattle.cedr_run.specs.declared.outcome.Outcome.TheVariants as outcome
 use Rattle.cedr_run.specs.declared.status.Status.{Status}
 use Rattle.cedr_run.specs.declared.status.Status.TheVariants as status
 use Rattle.cedr_run.specs.Answers.{answer_text}
-use Rattle.cedr_run.specs.Refusals.{refusal_text}
+use Rattle.cedr_run.specs.Refusals.{refusal_text, plan_fault_text}
 use Rattle.cedr_run.specs.Ending.{FilesSeen, SinkSeen, NoneRose, Writes, usage_text, read_text, write_text}
 use Rattle.cedr_text.specs.Parts.{line_feed}
 use Rattle.std.specs.Prelude.{◌∷◌}
@@ -18,6 +18,7 @@ abbrev pub status_of : Outcome → Status
 status_of outcome.Done = status.Done
 status_of outcome.Usage = status.Usage
 status_of (outcome.Faulty refusal) = status.Events
+status_of (outcome.BadPlan kind node) = status.Plan
 status_of outcome.Read = status.Read
 status_of outcome.Write = status.Write
 status_of outcome.OutOfMemory = status.OutOfMemory
@@ -27,15 +28,17 @@ abbrev pub told_text : Outcome → List ℕ → List ℕ
 told_text outcome.Done file = []
 told_text outcome.Usage file = usage_text
 told_text (outcome.Faulty refusal) file = refusal_text file refusal
+told_text (outcome.BadPlan kind node) file = plan_fault_text kind node
 told_text outcome.Read file = read_text
 told_text outcome.Write file = write_text
 told_text outcome.OutOfMemory file = codes "out of memory" ++ line_feed ∷ []
 
--- `history` for a file whose answer is known or not: which counts rose, and what out gained
-abbrev pub HistoryEnds : Option Answer → FilesSeen → FilesSeen → SinkSeen → SinkSeen → Outcome → Type 0
-HistoryEnds answer files files' out out' outcome.Done = NoneRose files files' out out' × IfSome answer (Writes out.written out'.written)
-HistoryEnds answer files files' out out' outcome.Usage = ⊥
-HistoryEnds answer files files' out out' (outcome.Faulty refusal) = NoneRose files files' out out' × Keeps out.written out'.written × IfSome answer (λ a. a ≡ Faulty refusal)
-HistoryEnds answer files files' out out' outcome.Read = (files.faults < files'.faults) × Keeps out.written out'.written
-HistoryEnds answer files files' out out' outcome.Write = (out.faults < out'.faults) × IfSome answer (λ a. AppendsFront out.written out'.written (answer_text a))
-HistoryEnds answer files files' out out' outcome.OutOfMemory = IfSome answer (λ a. AppendsFront out.written out'.written (answer_text a))
+-- a command whose answer is known or not: which counts rose, and what out gained
+abbrev pub CommandEnds : Option Answer → FilesSeen → FilesSeen → SinkSeen → SinkSeen → Outcome → Type 0
+CommandEnds answer files files' out out' outcome.Done = NoneRose files files' out out' × IfSome answer (Writes out.written out'.written)
+CommandEnds answer files files' out out' outcome.Usage = ⊥
+CommandEnds answer files files' out out' (outcome.Faulty refusal) = NoneRose files files' out out' × Keeps out.written out'.written × IfSome answer (λ a. a ≡ Faulty refusal)
+CommandEnds answer files files' out out' (outcome.BadPlan kind node) = NoneRose files files' out out' × Keeps out.written out'.written × IfSome answer (λ a. a ≡ BadPlan kind node)
+CommandEnds answer files files' out out' outcome.Read = (files.faults < files'.faults) × Keeps out.written out'.written
+CommandEnds answer files files' out out' outcome.Write = (out.faults < out'.faults) × IfSome answer (λ a. AppendsFront out.written out'.written (answer_text a))
+CommandEnds answer files files' out out' outcome.OutOfMemory = IfSome answer (λ a. AppendsFront out.written out'.written (answer_text a))

@@ -5,31 +5,61 @@ ghost use Rattle.cedr_text.specs.declared.event_line.EventLine.{EventLine};
 ghost use Rattle.cedr_text.specs.declared.event_line.Shape.TheVariants.{AnyText};
 ghost use Rattle.cedr_guard.specs.History.{history_of};
 ghost use Rattle.cedr_guard.specs.Sources.{judged, with_reading, line_reading, limit_fault};
-ghost use Rattle.cedr_run.specs.declared.answer.Answer.TheVariants.{Rows};
+ghost use Rattle.cedr_run.specs.declared.answer.Answer.TheVariants.{Lines};
 ghost use Rattle.cedr_run.specs.Events.{AreEventsOf, TakesLine, JudgesFile, parts_behind};
+ghost use Rattle.cedr_run.specs.declared.command.Job.TheVariants.{History, Check};
 ghost use Rattle.cedr_run.specs.Answers.{answer_of};
 
+use crate::command::Job;
 use crate::events::Events;
 use crate::refusal::JudgeFault;
 use cedr_base::{OutOfMemory, Text};
 use cedr_guard::{FILE_LIMIT, GuardFault, Refusal};
+use cedr_plan::{PlanFault, PlanKind, read_plan, write_check};
 use cedr_text::{
     LINE_LIMIT, LineFault, Parts, read_text_line, sort_text_rows, without_return, write_text_rows,
 };
 use std::alloc::Global;
 
-/// What `history` answers for a file.
+/// What a command answers for its file.
 #[derive(Drop)]
 pub(crate) enum Answer {
-    /// The text of its canonical history.
-    Rows(Text),
-    /// Some line has a fault, or the file is too large.
+    /// The text that it writes.
+    Lines(Text),
+    /// Some line of an event file has a fault, or the file is too large.
     Faulty(Refusal),
+    /// The plan has this fault, in the node of this number from 1 on, or 0 for the document.
+    BadPlan(PlanKind, usize),
 }
 
-/// The answer for a file of these bytes. O(n log n) in its events.
-pub(crate) fn answer_file(alloc: Global, bytes: &[u8]) -> Result<Answer, OutOfMemory>
-    ensures { IfOk result (λ answer. answer ≡ answer_of bytes.now) }
+/// The answer for a file of these bytes.
+pub(crate) fn answer_file(alloc: Global, job: Job, bytes: &[u8]) -> Result<Answer, OutOfMemory>
+    ensures { IfOk result (λ answer. answer ≡ answer_of job bytes.now) }
+{
+    match job {
+        Job::History => answer_history(alloc, bytes),
+        Job::Check => answer_check(alloc, bytes),
+    }
+}
+
+/// A line for each node of the plan, with the types of its result.
+fn answer_check(alloc: Global, bytes: &[u8]) -> Result<Answer, OutOfMemory>
+    ensures { IfOk result (λ answer. answer ≡ answer_of Check bytes.now) }
+{
+    match read_plan(alloc, bytes) {
+        Ok(plan) => {
+            let mut text = Vec::new(alloc);
+            write_check(&plan, &mut text)?;
+            Ok(Answer::Lines(Text::from(text)))
+        }
+        Err(PlanFault::Refused { kind, node }) => Ok(Answer::BadPlan(kind, node)),
+        Err(PlanFault::OutOfMemory) => Err(OutOfMemory),
+    }
+}
+
+/// The canonical history of the file. O(n log n) in its events.
+fn answer_history(alloc: Global, bytes: &[u8]) -> Result<Answer, OutOfMemory>
+    ensures { IfOk result (λ answer. answer ≡ answer_of History bytes.now) }
 {
     match judge_file(alloc, bytes) {
         Ok(events) => rows_answer(alloc, events),
@@ -39,13 +69,13 @@ pub(crate) fn answer_file(alloc: Global, bytes: &[u8]) -> Result<Answer, OutOfMe
 }
 
 fn rows_answer(alloc: Global, events: Events<'_>) -> Result<Answer, OutOfMemory>
-    ensures { IfOk result (λ answer. (lines : List EventLine) → AreEventsOf events.entry lines → answer ≡ Rows (rows_text (history_of lines))) }
+    ensures { IfOk result (λ answer. (lines : List EventLine) → AreEventsOf events.entry lines → answer ≡ Lines (rows_text (history_of lines))) }
 {
     let mut rows = events.into_rows(alloc)?;
     sort_text_rows(&mut rows);
     let mut text = Vec::new(alloc);
     write_text_rows(&rows, &mut text)?;
-    Ok(Answer::Rows(Text::from(text)))
+    Ok(Answer::Lines(Text::from(text)))
 }
 
 /// Judges the lines of a file, or those of its first bytes where it is over the limit.

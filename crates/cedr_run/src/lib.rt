@@ -2,14 +2,16 @@
 //!
 //! `run` and `run_alone` end as the record `Ends` in `specs/Ending.antt` says: which status may come when,
 //! what the output and the error stream gained, and which files were asked for. What `history` writes
-//! is the text of the canonical history of the file's lines, as the crate `cedr_guard` defines it.
+//! is the text of the canonical history of the file's lines, as the crate `cedr_guard` defines it; what
+//! `check` writes is a line for each node of the plan that the file's bytes describe, as the crate
+//! `cedr_plan` defines them.
 #![tactic(auto)]
 
 mod answer;
+mod carry_out;
 mod command;
 mod events;
 mod file;
-mod history;
 mod outcome;
 mod refusal;
 mod status;
@@ -18,5 +20,7 @@ mod top;
 pub use status::Status;
 pub use top::{run, run_alone};
 
+#[cfg(test)]
+mod check_tests;
 #[cfg(test)]
 mod tests;

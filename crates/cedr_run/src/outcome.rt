@@ -3,11 +3,12 @@ ghost use Rattle.cedr_run.specs.declared.status.Status.TheVariants as status;
 ghost use Rattle.cedr_run.specs.Ending.{Tells, seen_sink};
 ghost use Rattle.cedr_run.specs.Outcomes.{status_of, told_text};
 
-use crate::refusal::write_refusal;
+use crate::refusal::{write_plan_fault, write_refusal};
 use crate::status::Status;
 use cedr_base::OutOfMemory;
 use cedr_guard::Refusal;
 use cedr_io::{OutsideFault, Sink, write_all};
+use cedr_plan::PlanKind;
 use std::alloc::Global;
 
 /// How a command went.
@@ -18,6 +19,8 @@ pub(crate) enum Outcome {
     Usage,
     /// Some line of the file has a fault, or the file is too large.
     Faulty(Refusal),
+    /// The plan is refused, for a fault of the node of this number.
+    BadPlan(PlanKind, usize),
     Read,
     Write,
     OutOfMemory,
@@ -31,6 +34,7 @@ impl Outcome {
             Outcome::Done => Status::Done,
             Outcome::Usage => Status::Usage,
             Outcome::Faulty(_) => Status::Events,
+            Outcome::BadPlan(_, _) => Status::Plan,
             Outcome::Read => Status::Read,
             Outcome::Write => Status::Write,
             Outcome::OutOfMemory => Status::OutOfMemory,
@@ -48,6 +52,7 @@ impl Outcome {
                 b"usage: cedr history FILE | check PLAN | serial PLAN | run PLAN | stream PLAN | audit PLAN | live PLAN SCRIPT | make N\n",
             )?,
             Outcome::Faulty(refusal) => write_refusal(file, &refusal, &mut text)?,
+            Outcome::BadPlan(kind, node) => write_plan_fault(kind, node, &mut text)?,
             Outcome::Read => text.extend_from_slice(b"read fault\n")?,
             Outcome::Write => text.extend_from_slice(b"write fault\n")?,
             Outcome::OutOfMemory => text.extend_from_slice(b"out of memory\n")?,

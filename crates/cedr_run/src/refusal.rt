@@ -1,8 +1,9 @@
 ghost use Rattle.std.specs.Prelude.{◌≡◌, ◌++◌, OnOk};
-ghost use Rattle.cedr_run.specs.Refusals.{kept_text, refusal_text, fault_at};
+ghost use Rattle.cedr_run.specs.Refusals.{kept_text, refusal_text, plan_fault_text, fault_at};
 
 use cedr_base::OutOfMemory;
 use cedr_guard::{GuardFault, Refusal};
+use cedr_plan::PlanKind;
 use cedr_text::{LineFault, write_number, write_time};
 
 /// Why a file wasn't judged to its end.
@@ -62,5 +63,21 @@ fn write_kept(fault: &LineFault, text: &mut Vec<u8>) -> Result<(), OutOfMemory>
         }
         _ => {}
     }
+    Ok(())
+}
+
+/// Appends what standard error is told of a refused plan.
+pub(crate) fn write_plan_fault(
+    kind: PlanKind,
+    node: usize,
+    text: &mut Vec<u8>,
+) -> Result<(), OutOfMemory>
+    ensures { OnOk result (text.new.items ≡ text.old.items ++ plan_fault_text kind node) }
+{
+    text.extend_from_slice(b"plan fault ")?;
+    write_number(kind.number(), text)?;
+    text.extend_from_slice(b" node ")?;
+    write_number(node, text)?;
+    text.push(b'\n')?;
     Ok(())
 }

@@ -8,6 +8,8 @@ pub enum Status {
     Done,
     /// The words match no command.
     Usage,
+    /// The plan is refused.
+    Plan,
     /// Some line of the file has a fault, or the file is too large.
     Events,
     /// A file wasn't found, or a read was refused.
@@ -26,6 +28,7 @@ impl Status {
         match self {
             Status::Done => 0,
             Status::Usage => 1,
+            Status::Plan => 2,
             Status::Events => 3,
             Status::Read => 4,
             Status::Write => 5,

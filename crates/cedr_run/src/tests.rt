@@ -20,11 +20,21 @@ fn words(alloc: Global, texts: &[&str]) -> Result<Vec<String>, OutOfMemory> {
 
 /// What `history e.csv` answers and writes for a file of these bytes.
 fn history(rt: &HostRuntime, bytes: &[u8]) -> Result<(u8, Vec<u8>, Vec<u8>), OutOfMemory> {
+    answer(rt, "history", "e.csv", bytes)
+}
+
+/// The status, and what out and err are told, where a command has this one file.
+pub(crate) fn answer(
+    rt: &HostRuntime,
+    command: &str,
+    file: &str,
+    bytes: &[u8],
+) -> Result<(u8, Vec<u8>, Vec<u8>), OutOfMemory> {
     let alloc = rt.alloc();
     let mut files = MemFiles::new(alloc);
-    files.add("e.csv", bytes)?;
+    files.add(file, bytes)?;
     let (mut out, mut err) = (MemSink::new(alloc), MemSink::new(alloc));
-    let words = words(alloc, &["history", "e.csv"])?;
+    let words = words(alloc, &[command, file])?;
     let status = run(rt, alloc, &words, &mut files, &mut out, &mut err, &OpenGate);
     let written = Vec::from_slice(alloc, out.written())?;
     Ok((
@@ -196,7 +206,10 @@ fn words_that_match_no_command_are_told_the_usage(rt: HostRuntime) -> Result<(),
         &["History", "a"],
         &["run", "p.json"],
         &["stream", "p.json"],
-        &["check", "p.json"],
+        &["check"],
+        &["check", "p.json", "q.json"],
+        &["Check", "p.json"],
+        &["serial", "p.json"],
         &["make", "1"],
     ] {
         let mut files = MemFiles::new(alloc);

@@ -1,10 +1,11 @@
 ghost use Rattle.std.specs.Prelude.{◌≡◌, ◌<◌, map};
 ghost use Rattle.std.specs.String.{string_bytes};
 ghost use Rattle.cedr_io.specs.Counts.{last_count};
-ghost use Rattle.cedr_run.specs.Ending.{history_file, IsAlone, seen_files, seen_sink, Ends};
+ghost use Rattle.cedr_run.specs.Commands.{command_of, IsAlone};
+ghost use Rattle.cedr_run.specs.Ending.{seen_files, seen_sink, Ends};
 
-use crate::command::{history_file, is_alone};
-use crate::history::write_history;
+use crate::carry_out::carry_out;
+use crate::command::{command, is_alone};
 use crate::outcome::Outcome;
 use crate::status::Status;
 use cedr_io::{Files, Gate, Sink};
@@ -23,7 +24,7 @@ pub fn run<R, F: Files, K: Sink, E: Sink, G: Gate>(
 ) -> Status
     requires files_count { F.faults files.old < last_count }
     requires out_counts { K.faults out.old < last_count }
-    ensures { Ends (history_file (map string_bytes words.now))
+    ensures { Ends (command_of (map string_bytes words.now))
         (seen_files F.content F.faults F.asked files.old) (seen_files F.content F.faults F.asked files.new)
         (seen_sink K.written K.faults out.old) (seen_sink K.written K.faults out.new)
         (seen_sink E.written E.faults err.old) (seen_sink E.written E.faults err.new) result }
@@ -46,14 +47,14 @@ pub fn run_alone<F: Files, K: Sink, E: Sink>(
     requires files_count { F.faults files.old < last_count }
     requires out_counts { K.faults out.old < last_count }
     requires alone { IsAlone (map string_bytes words.now) }
-    ensures { Ends (history_file (map string_bytes words.now))
+    ensures { Ends (command_of (map string_bytes words.now))
         (seen_files F.content F.faults F.asked files.old) (seen_files F.content F.faults F.asked files.new)
         (seen_sink K.written K.faults out.old) (seen_sink K.written K.faults out.new)
         (seen_sink E.written E.faults err.old) (seen_sink E.written E.faults err.new) result }
 {
-    let Some(file) = history_file(words) else {
+    let Some((job, file)) = command(words) else {
         return Outcome::Usage.report(alloc, b"", err);
     };
     let file = file.as_bytes();
-    write_history(alloc, file, files, out).report(alloc, file, err)
+    carry_out(alloc, job, file, files, out).report(alloc, file, err)
 }

@@ -1,0 +1,50 @@
+"""The built program: what it answers, and what of it differs from what must come."""
+import subprocess
+import tempfile
+from pathlib import Path
+
+SHOWN = 5
+SECONDS = 60
+USAGE = (b"usage: cedr history FILE | check PLAN | serial PLAN | run PLAN | stream PLAN | audit PLAN | "
+         b"live PLAN SCRIPT | make N\n")
+
+
+class Check:
+    """The program, a folder to run it in, and how many answers were other than they must be."""
+
+    def __init__(self, program: Path, folder: Path, suffix: str) -> None:
+        self.program = program
+        self.folder = folder
+        self.suffix = suffix
+        self.differences = 0
+        self.kept = None
+
+    def run(self, words: list, out=subprocess.PIPE) -> tuple[int, bytes, bytes]:
+        command = [self.program, *words]
+        try:
+            done = subprocess.run(command, cwd=self.folder, stdout=out, stderr=subprocess.PIPE, timeout=SECONDS)
+        except subprocess.TimeoutExpired:
+            return -1, b"", f"no answer within {SECONDS} s".encode()
+        return done.returncode, done.stdout or b"", done.stderr
+
+    def write(self, name: str, data: bytes) -> None:
+        (self.folder / name).write_bytes(data)
+
+    def compare(self, name: str, data: bytes, expected: tuple, came: tuple) -> None:
+        """Counts a difference, and shows it and keeps its file where it is among the first."""
+        if expected == came:
+            return
+        self.differences += 1
+        if self.differences > SHOWN:
+            return
+        self.kept = self.kept or Path(tempfile.mkdtemp(prefix="cedr-differences-"))
+        place = self.kept / str(self.differences)
+        place.with_suffix(self.suffix).write_bytes(data)
+        print(f"DIFFERENCE {self.differences}: {name}; the file is {place}{self.suffix}")
+        for title, answer in (("expected", expected), ("came", came)):
+            place.with_suffix(f".{title}").write_bytes(answer[1])
+            print(f"  {title}: status {answer[0]}, err {shown(answer[2])}, out {shown(answer[1])}")
+
+
+def shown(text: bytes) -> str:
+    return repr(text) if len(text) <= 2_000 else f"{text[:500]!r} and on, {len(text)} bytes, kept beside the file"

@@ -1,0 +1,26 @@
+-- Searches, filters and counts of a list, beside those of the list that a function makes of it.
+use Rattle.std.proofs.Common.{◌≡◌, ◌+◌, Bool, not, ◌||◌, cond, List, [], ◌∷◌, length, Option, map, refl, ap}
+use Rattle.std.specs.List.{list_any, list_all, position, prefix_len, filter_map}
+use Rattle.std.proofs.lemmas.List.{length-map}
+use Rattle.std.proofs.lemmas.List.Folds.{list_all-map}
+
+pub all_of_map : {X : Type 0} (p : X → Bool) → {Y : Type 0} (h : Y → X) (ys : List Y) → list_all p (map h ys) ≡ list_all (λ y. p (h y)) ys
+all_of_map p h ys = list_all-map p h ys
+
+pub any_of_map : {X : Type 0} (p : X → Bool) → {Y : Type 0} (h : Y → X) (ys : List Y) → list_any p (map h ys) ≡ list_any (λ y. p (h y)) ys
+any_of_map p h [] = refl
+any_of_map p h (y ∷ ys) = ap (λ b. p (h y) || b) (any_of_map p h ys)
+
+pub length_of_map : {X Y : Type 0} (h : Y → X) (ys : List Y) → length (map h ys) ≡ length ys
+length_of_map h ys = length-map ys h
+
+front_of_map : {X : Type 0} (p : X → Bool) → {Y : Type 0} (h : Y → X) (ys : List Y) → prefix_len p (map h ys) ≡ prefix_len (λ y. p (h y)) ys
+front_of_map p h [] = refl
+front_of_map p h (y ∷ ys) = ap (λ n. cond (p (h y)) (1 + n) 0) (front_of_map p h ys)
+
+pub place_in_map : {X : Type 0} (p : X → Bool) → {Y : Type 0} (h : Y → X) (ys : List Y) → position p (map h ys) ≡ position (λ y. p (h y)) ys
+place_in_map p h ys = rw (front_of_map (λ x. not (p x)) h ys, length-map ys h)
+
+pub filter_of_map : {X Z : Type 0} (p : X → Option Z) → {Y : Type 0} (h : Y → X) (ys : List Y) → filter_map p (map h ys) ≡ filter_map (λ y. p (h y)) ys
+filter_of_map p h [] = refl
+filter_of_map p h (y ∷ ys) = rw (filter_of_map p h ys)

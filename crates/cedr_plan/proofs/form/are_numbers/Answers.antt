@@ -1,0 +1,8 @@
+use Rattle.std.proofs.Common.{◌∙◌}
+use Rattle.serde_json.specs.View.{view}
+use Rattle.cedr_plan.specs.Json.{is_number}
+use Rattle.cedr_plan.proofs.JsonLemmas.{each_of_array}
+use Rattle.cedr_plan.proofs.form.are_numbers.Goals as goal
+
+pub returns-in-Some : goal.returns-in-Some
+returns-in-Some c = c.each_is_number.ensures ∙ each_of_array is_number c.in-Some.list.now (view c.args.value.now) c.in-Some.ensures

@@ -1,0 +1,13 @@
+use Rattle.std.proofs.Common.{sym, ap, ◌∙◌}
+use Rattle.serde_json.specs.Read.{read}
+use Rattle.cedr_plan.proofs.JsonLemmas.{json_of-text, json_of-other}
+use Rattle.cedr_plan.proofs.reader.read_json.Goals as goal
+
+pub returns-in_default : goal.returns-in_default
+returns-in_default c = sym (json_of-other c.args.bytes.now c.in_default.ensures.cases.0)
+
+pub returns-in-Ok-from_str : goal.returns-in-Ok-from_str
+returns-in-Ok-from_str c =
+    sym (json_of-text c.args.bytes.now c.in-Ok.ensures.cases.1
+    ∙ ap read (sym c.in-Ok.ensures.cases.0)
+    ∙ c.in-Ok-from_str.ensures.ok)

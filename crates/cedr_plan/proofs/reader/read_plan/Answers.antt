@@ -1,0 +1,7 @@
+use Rattle.std.proofs.lemmas.Result.{IfOk-weaker}
+use Rattle.cedr_plan.specs.Drawn.{drawn}
+use Rattle.cedr_plan.proofs.SoundPlans.{plan_sound}
+use Rattle.cedr_plan.proofs.reader.read_plan.Goals as goal
+
+pub returns-clause-sound : goal.returns-clause-sound
+returns-clause-sound c = IfOk-weaker c.plan_of.result _ _ (λ plan described. plan_sound c.args.bytes.now (drawn plan) described) c.plan_of.ensures.plan

@@ -1,0 +1,11 @@
+pub mod Faults
+pub mod Operators
+pub mod Json
+pub mod Levels
+pub mod Tests
+pub mod Drawn
+pub mod Nodes
+pub mod Rules
+pub mod Plans
+pub mod NodeFaults
+pub mod CheckTexts

@@ -1,0 +1,312 @@
+-- What one node of a plan has to be behind earlier ones: a predicate for each fault, the first fault, and the
+-- node that an accepted one is.
+--
+-- Each predicate has an answer for every value. Where an earlier fault holds too, that one counts.
+use Rattle.std.specs.Prelude.{ℕ, ◌+◌, ◌^◌, ◌==◌, Bool, true, false, not, ◌&&◌, ◌||◌, List, [], ◌∷◌, ◌++◌, length, map, codes, nat_lt, nat_le, bytes_eq, if◌then◌else◌, Option, Some, None, is_some, is_none, option_and_then, unwrap_or}
+use Rattle.std.specs.Option.{option_map_or}
+use Rattle.std.specs.Char.{is_ascii_alphanumeric}
+use Rattle.std.specs.List.{slice_get, list_all, list_any, filter_map, flat_map, position}
+use Rattle.cedr_base.specs.declared.field.FieldType.{FieldType}
+use Rattle.cedr_base.specs.declared.field.FieldType.TheVariants as field_type
+use Rattle.cedr_base.specs.declared.level.Level.{Level}
+use Rattle.cedr_expr.specs.Columns.{kept}
+use Rattle.cedr_expr.specs.Types.{same_type, first_bad_column, first_differing, first_past_end}
+use Rattle.cedr_expr.specs.declared.test.Test.{Test}
+use Rattle.serde_json.specs.Data.{Data}
+use Rattle.serde_json.specs.Find.{get, as_bool, as_str}
+use Rattle.cedr_plan.specs.Drawn.{Kind, source, select, project, union, join, window, shift, hop, starts, ends, group, sequence, unless, output, Node, is_output}
+use Rattle.cedr_plan.specs.Json.{as_list, as_whole, is_list, is_number, is_text, is_whole_within, has, values_of}
+use Rattle.cedr_plan.specs.Levels.{middle, is_level, has_bad_bound, is_unknown_level, level_of, has_block_over_memory}
+use Rattle.cedr_plan.specs.Operators.{Row, row_of, operator_of, key_of, form_of}
+use Rattle.cedr_plan.specs.Tests.{is_test, is_bad_test, test_of}
+use Rattle.cedr_plan.specs.declared.fault.PlanKind.{PlanKind}
+use Rattle.cedr_plan.specs.declared.fault.PlanKind.TheVariants as fault
+use Rattle.cedr_plan.specs.declared.operator.Operator.{Operator}
+use Rattle.cedr_plan.specs.declared.operator.Operator.TheVariants as operator
+use Rattle.cedr_plan.specs.declared.operator.Member.{Member}
+use Rattle.cedr_plan.specs.declared.operator.Member.TheVariants as member
+use Rattle.cedr_plan.specs.declared.operator.Form.{Form}
+use Rattle.cedr_plan.specs.declared.operator.Form.TheVariants as form
+use Rattle.cedr_plan.specs.declared.operator.Outcome.{Outcome}
+use Rattle.cedr_plan.specs.declared.operator.Outcome.TheVariants as outcome
+
+-- ---- what a node says
+
+-- ASCII letters, digits and `_`
+abbrev pub is_name_byte : ℕ → Bool
+is_name_byte byte = is_ascii_alphanumeric byte || (byte == 95)
+
+abbrev pub is_name : List ℕ → Bool
+is_name text = nat_le 1 (length text) && nat_le (length text) 64 && list_all is_name_byte text
+
+abbrev pub is_name_value : Data → Bool
+is_name_value d = option_map_or is_name (as_str d) false
+
+abbrev pub operator_at : Data → Option Operator
+operator_at d = option_and_then operator_of (option_and_then as_str (get (codes "op") d))
+
+-- the member's text, and the empty one where there is none
+abbrev pub text_at : List ℕ → Data → List ℕ
+text_at key d = unwrap_or (option_and_then as_str (get key d)) []
+
+-- the member's number, and 0 where there is none
+abbrev pub number_at : List ℕ → Data → ℕ
+number_at key d = unwrap_or (option_and_then as_whole (get key d)) 0
+
+abbrev pub truth_at : List ℕ → Data → Bool
+truth_at key d = unwrap_or (option_and_then as_bool (get key d)) false
+
+abbrev pub columns_at : List ℕ → Data → List ℕ
+columns_at key d = filter_map as_whole (values_of (get key d))
+
+abbrev pub tests_at : Data → List Test
+tests_at d = filter_map test_of (values_of (get (codes "where") d))
+
+abbrev pub type_of_word : List ℕ → Option FieldType
+type_of_word word = if bytes_eq word (codes "int") then Some field_type.Number
+    else if bytes_eq word (codes "text") then Some field_type.Bytes
+    else None
+
+abbrev pub as_type : Data → Option FieldType
+as_type d = option_and_then type_of_word (as_str d)
+
+abbrev pub types_at : Data → List FieldType
+types_at d = filter_map as_type (values_of (get (codes "fields") d))
+
+-- a node that has ports says what feeds them, and at which level
+abbrev pub has_ports : Row → Bool
+has_ports row = nat_lt 0 row.most
+
+-- the values that `from` has, and none where the operator has no ports
+abbrev pub input_values : Row → Data → List Data
+input_values row d = if has_ports row then values_of (get (codes "from") d) else []
+
+abbrev pub level_at : Row → Data → Level
+level_at row d = if has_ports row then option_map_or level_of (get (codes "level") d) middle else middle
+
+-- ---- the inputs
+
+abbrev pub is_named : List ℕ → Node → Bool
+is_named name node = bytes_eq node.name name
+
+-- the place of the earlier node that a value names
+abbrev pub place_of : List Node → Data → Option ℕ
+place_of earlier d = option_and_then (λ name. position (is_named name) earlier) (as_str d)
+
+abbrev pub inputs_at : List Node → Row → Data → List ℕ
+inputs_at earlier row d = filter_map (place_of earlier) (input_values row d)
+
+-- the field types of the node at a place
+abbrev pub types_of : List Node → ℕ → List FieldType
+types_of earlier place = option_map_or (λ (node : Node). node.types) (slice_get earlier place) []
+
+-- the field types of each port, in port order
+abbrev pub ports_at : List Node → Row → Data → List (List FieldType)
+ports_at earlier row d = map (types_of earlier) (inputs_at earlier row d)
+
+abbrev pub first_port : List (List FieldType) → List FieldType
+first_port [] = []
+first_port (types ∷ ports) = types
+
+-- the columns of all ports, in port order
+abbrev pub all_ports : List (List FieldType) → List FieldType
+all_ports ports = flat_map (λ types. types) ports
+
+-- ---- the result
+
+abbrev pub count_types : Bool → List FieldType
+count_types true = field_type.Number ∷ []
+count_types false = []
+
+-- the types of keys, then of the count, then of the sums
+abbrev pub group_types : List ℕ → Bool → List ℕ → List FieldType → List FieldType
+group_types keys count sums types = kept keys types ++ (count_types count ++ map (λ _. field_type.Number) sums)
+
+-- the types of the result's fields, where the first port has the types `first` and all ports together `all`
+abbrev pub result_types : Outcome → Data → List FieldType → List FieldType → List FieldType
+result_types outcome.Declared d first all = types_at d
+result_types outcome.First d first all = first
+result_types outcome.Alike d first all = first
+result_types outcome.Kept d first all = kept (columns_at (codes "keep") d) all
+result_types outcome.Joined d first all = all
+result_types outcome.Grouped d first all = group_types (columns_at (codes "keys") d) (truth_at (codes "count") d) (columns_at (codes "sum") d) all
+
+-- how many fields a result of these types has, where a column that isn't there counts too
+abbrev pub result_width : Outcome → Data → List FieldType → ℕ
+result_width outcome.Kept d types = length (columns_at (codes "keep") d)
+result_width outcome.Grouped d types = length (columns_at (codes "keys") d) + (length (count_types (truth_at (codes "count") d)) + length (columns_at (codes "sum") d))
+result_width other d types = length types
+
+-- the types of a node's fields by its row, behind the earlier nodes
+abbrev pub types_under : Row → List Node → Data → List FieldType
+types_under row earlier d = result_types row.outcome d (first_port (ports_at earlier row d)) (all_ports (ports_at earlier row d))
+
+-- ---- the faults of a node, from 3 to 12
+
+-- what a member has to be, before its numbers are looked at
+abbrev pub has_form : Form → Data → Bool
+has_form form.Text d = is_text d
+has_form form.Types d = is_list (λ x. is_some (as_type x)) d
+has_form form.Tests d = is_list is_test d
+has_form form.Columns d = is_list is_number d
+has_form form.Sums d = is_list is_number d
+has_form form.Truth d = is_some (as_bool d)
+has_form form.Number d = is_number d
+
+abbrev pub lacks_member : Data → Member → Bool
+lacks_member d m = not (has (key_of m) (has_form (form_of m)) d)
+
+-- `from` isn't there, isn't an array of texts, or has too few of them
+abbrev pub lacks_inputs : Row → Data → Bool
+lacks_inputs row d = has_ports row && (not (has (codes "from") (is_list is_text) d) || nat_lt (length (input_values row d)) row.least)
+
+-- `level` is there and isn't in its form
+abbrev pub has_odd_level : Row → Data → Bool
+has_odd_level row d = has_ports row && has (codes "level") (λ level. not (is_level level)) d
+
+-- 3
+unfoldable pub has_missing_part : Row → Data → Bool
+has_missing_part row d = not (has (codes "name") is_name_value d) || (lacks_inputs row d || (list_any (lacks_member d) row.members || has_odd_level row d))
+
+-- over 16 fields or tests
+abbrev pub is_too_long : Form → Data → Bool
+is_too_long form.Types d = option_map_or (λ types. nat_lt 16 (length types)) (as_list d) false
+is_too_long form.Tests d = option_map_or (λ tests. nat_lt 16 (length tests)) (as_list d) false
+is_too_long other d = false
+
+-- 5
+unfoldable pub has_too_many : Row → Data → Bool
+has_too_many row d = nat_lt row.most (length (input_values row d)) || list_any (λ m. has (key_of m) (is_too_long (form_of m)) d) row.members
+
+-- a number in it isn't whole or isn't in its range
+abbrev pub is_bad_number : Form → Data → Bool
+is_bad_number form.Tests d = option_map_or (list_any is_bad_test) (as_list d) false
+is_bad_number form.Columns d = option_map_or (list_any (λ column. is_none (as_whole column))) (as_list d) false
+is_bad_number form.Sums d = option_map_or (list_any (λ column. is_none (as_whole column))) (as_list d) false
+is_bad_number form.Number d = not (is_whole_within 1 (2 ^ 40) d)
+is_bad_number other d = false
+
+-- 6
+unfoldable pub has_bad_number : Row → Data → Bool
+has_bad_number row d = list_any (λ m. has (key_of m) (is_bad_number (form_of m)) d) row.members || (has_ports row && has (codes "level") has_bad_bound d)
+
+-- 7: `level` is no level's name, or its block is over its memory
+unfoldable pub has_bad_level : Row → Data → Bool
+has_bad_level row d = has_ports row && has (codes "level") (λ level. is_unknown_level level || has_block_over_memory (level_of level)) d
+
+-- 8
+unfoldable pub is_named_twice : List Node → Data → Bool
+is_named_twice earlier d = list_any (is_named (text_at (codes "name") d)) earlier
+
+-- no earlier node, or an output
+abbrev pub is_unknown : List Node → Data → Bool
+is_unknown earlier d = option_map_or (λ place. option_map_or is_output (slice_get earlier place) true) (place_of earlier d) true
+
+-- 9
+unfoldable pub has_unknown_input : List Node → Row → Data → Bool
+has_unknown_input earlier row d = list_any (is_unknown earlier) (input_values row d)
+
+-- 10
+unfoldable pub is_too_wide : List Node → Row → Data → Bool
+is_too_wide earlier row d = nat_lt 16 (result_width row.outcome d (types_under row earlier d))
+
+abbrev pub is_bad_column : List FieldType → Data → Member → Bool
+is_bad_column types d member.Where = is_some (first_bad_column (tests_at d) types [])
+is_bad_column types d member.Keep = is_some (first_past_end (columns_at (codes "keep") d) types)
+is_bad_column types d member.Keys = is_some (first_past_end (columns_at (codes "keys") d) types)
+is_bad_column types d member.Sum = is_some (first_past_end (columns_at (codes "sum") d) types)
+is_bad_column types d other = false
+
+-- 11: a column is past the end
+unfoldable pub has_bad_column : List Node → Row → Data → Bool
+has_bad_column earlier row d = list_any (is_bad_column (all_ports (ports_at earlier row d)) d) row.members
+
+abbrev pub is_text_column : List FieldType → ℕ → Bool
+is_text_column types column = option_map_or (same_type field_type.Bytes) (slice_get types column) false
+
+abbrev pub same_types : List FieldType → List FieldType → Bool
+same_types [] [] = true
+same_types (x ∷ xs) (y ∷ ys) = same_type x y && same_types xs ys
+same_types xs ys = false
+
+abbrev pub has_two_types : List FieldType → Data → Member → Bool
+has_two_types types d member.Where = is_some (first_differing (tests_at d) types [])
+has_two_types types d member.Sum = list_any (is_text_column types) (columns_at (codes "sum") d)
+has_two_types types d other = false
+
+-- the ports of a node whose inputs have equal types haven't
+abbrev pub has_unlike_ports : Outcome → List (List FieldType) → Bool
+has_unlike_ports outcome.Alike ports = list_any (λ types. not (same_types (first_port ports) types)) ports
+has_unlike_ports other ports = false
+
+-- 12
+unfoldable pub has_type_difference : List Node → Row → Data → Bool
+has_type_difference earlier row d = has_unlike_ports row.outcome (ports_at earlier row d) || list_any (has_two_types (all_ports (ports_at earlier row d)) d) row.members
+
+-- ---- the node
+
+abbrev pub kind_from : Operator → Data → Kind
+kind_from operator.Source d = source (text_at (codes "file") d)
+kind_from operator.Select d = select (tests_at d)
+kind_from operator.Project d = project (columns_at (codes "keep") d)
+kind_from operator.Union d = union
+kind_from operator.Join d = join (tests_at d)
+kind_from operator.Window d = window (number_at (codes "width") d)
+kind_from operator.Shift d = shift (number_at (codes "by") d)
+kind_from operator.Hop d = hop (number_at (codes "every") d) (number_at (codes "width") d)
+kind_from operator.Starts d = starts
+kind_from operator.Ends d = ends
+kind_from operator.Group d = group (columns_at (codes "keys") d) (truth_at (codes "count") d) (columns_at (codes "sum") d)
+kind_from operator.Sequence d = sequence (number_at (codes "scope") d) (tests_at d)
+kind_from operator.Unless d = unless (number_at (codes "scope") d) (number_at (codes "hold") d) (tests_at d)
+kind_from operator.Output d = output
+
+-- the node of an operator that a value says, behind the earlier ones
+abbrev pub node_from : Operator → List Node → Data → Node
+node_from operator earlier d = record {
+  name = text_at (codes "name") d;
+  kind = kind_from operator d;
+  inputs = inputs_at earlier (row_of operator) d;
+  level = level_at (row_of operator) d;
+  types = types_under (row_of operator) earlier d;
+}
+
+-- the kind of the first test that holds
+abbrev pub first_fault : List (Bool × PlanKind) → Option PlanKind
+first_fault [] = None
+first_fault (test ∷ tests) = if test.0 then Some test.1 else first_fault tests
+
+-- what is looked at before the types of the fields, in the order of the numbers
+abbrev pub early_faults : Row → List Node → Data → List (Bool × PlanKind)
+early_faults row earlier d =
+    (has_missing_part row d, fault.MissingPart)
+    ∷ (has_too_many row d, fault.TooMany)
+    ∷ (has_bad_number row d, fault.BadNumber)
+    ∷ (has_bad_level row d, fault.BadLevel)
+    ∷ (is_named_twice earlier d, fault.TwiceNamed)
+    ∷ (has_unknown_input earlier row d, fault.UnknownNode)
+    ∷ []
+
+-- what is looked at then
+abbrev pub late_faults : Row → List Node → Data → List (Bool × PlanKind)
+late_faults row earlier d =
+    (is_too_wide earlier row d, fault.TooWide)
+    ∷ (has_bad_column earlier row d, fault.BadColumn)
+    ∷ (has_type_difference earlier row d, fault.TypeDiffers)
+    ∷ []
+
+-- the first fault of a node of this operator, in the order of the numbers
+abbrev pub fault_under : Row → List Node → Data → Option PlanKind
+fault_under row earlier d = first_fault (early_faults row earlier d ++ late_faults row earlier d)
+
+-- where the operator isn't known, only `name` and `op` are looked at
+abbrev pub fault_without_operator : Data → PlanKind
+fault_without_operator d = if has (codes "name") is_name_value d && has (codes "op") is_text d then fault.UnknownOp else fault.MissingPart
+
+-- a value's first fault behind these nodes
+abbrev pub node_fault : List Node → Data → Option PlanKind
+node_fault earlier d = option_map_or (λ operator. fault_under (row_of operator) earlier d) (operator_at d) (Some (fault_without_operator d))
+
+-- the node that a value without a fault is
+abbrev pub node_of_value : List Node → Data → Node
+node_of_value earlier d = node_from (unwrap_or (operator_at d) operator.Output) earlier d

@@ -1,0 +1,76 @@
+-- The operators of a plan: one row for each, and what each member of a node has to be.
+use Rattle.std.specs.Prelude.{ℕ, List, [], ◌∷◌, codes, bytes_eq, Option}
+use Rattle.std.specs.List.{find}
+use Rattle.cedr_plan.specs.declared.operator.Operator.{Operator}
+use Rattle.cedr_plan.specs.declared.operator.Operator.TheVariants as operator
+use Rattle.cedr_plan.specs.declared.operator.Member.{Member}
+use Rattle.cedr_plan.specs.declared.operator.Member.TheVariants as member
+use Rattle.cedr_plan.specs.declared.operator.Form.{Form}
+use Rattle.cedr_plan.specs.declared.operator.Form.TheVariants as form
+use Rattle.cedr_plan.specs.declared.operator.Outcome.{Outcome}
+use Rattle.cedr_plan.specs.declared.operator.Outcome.TheVariants as outcome
+
+-- an operator: its word, the least and the greatest number of its ports, its further members in order, and
+-- which field types its result has
+pub record Row : Type 0 where
+  pub word : List ℕ
+  pub least : ℕ
+  pub most : ℕ
+  pub members : List Member
+  pub outcome : Outcome
+
+abbrev pub row : List ℕ → ℕ → ℕ → List Member → Outcome → Row
+row word least most members result = record { word = word; least = least; most = most; members = members; outcome = result }
+
+abbrev pub row_of : Operator → Row
+row_of operator.Source = row (codes "source") 0 0 (member.File ∷ member.Fields ∷ []) outcome.Declared
+row_of operator.Select = row (codes "select") 1 1 (member.Where ∷ []) outcome.First
+row_of operator.Project = row (codes "project") 1 1 (member.Keep ∷ []) outcome.Kept
+row_of operator.Union = row (codes "union") 2 4 [] outcome.Alike
+row_of operator.Join = row (codes "join") 2 2 (member.Where ∷ []) outcome.Joined
+row_of operator.Window = row (codes "window") 1 1 (member.Width ∷ []) outcome.First
+row_of operator.Shift = row (codes "shift") 1 1 (member.By ∷ []) outcome.First
+row_of operator.Hop = row (codes "hop") 1 1 (member.Every ∷ member.Width ∷ []) outcome.First
+row_of operator.Starts = row (codes "starts") 1 1 [] outcome.First
+row_of operator.Ends = row (codes "ends") 1 1 [] outcome.First
+row_of operator.Group = row (codes "group") 1 1 (member.Keys ∷ member.Count ∷ member.Sum ∷ []) outcome.Grouped
+row_of operator.Sequence = row (codes "sequence") 2 4 (member.Scope ∷ member.Where ∷ []) outcome.Joined
+row_of operator.Unless = row (codes "unless") 2 2 (member.Scope ∷ member.Hold ∷ member.Where ∷ []) outcome.First
+row_of operator.Output = row (codes "output") 1 1 [] outcome.First
+
+abbrev pub operators : List Operator
+operators = operator.Source ∷ operator.Select ∷ operator.Project ∷ operator.Union ∷ operator.Join ∷ operator.Window ∷ operator.Shift
+    ∷ operator.Hop ∷ operator.Starts ∷ operator.Ends ∷ operator.Group ∷ operator.Sequence ∷ operator.Unless ∷ operator.Output ∷ []
+
+-- the operator of a word
+abbrev pub operator_of : List ℕ → Option Operator
+operator_of word = find (λ operator. bytes_eq (row_of operator).word word) operators
+
+-- the name of a member
+abbrev pub key_of : Member → List ℕ
+key_of member.File = codes "file"
+key_of member.Fields = codes "fields"
+key_of member.Where = codes "where"
+key_of member.Keep = codes "keep"
+key_of member.Keys = codes "keys"
+key_of member.Count = codes "count"
+key_of member.Sum = codes "sum"
+key_of member.Width = codes "width"
+key_of member.By = codes "by"
+key_of member.Every = codes "every"
+key_of member.Scope = codes "scope"
+key_of member.Hold = codes "hold"
+
+abbrev pub form_of : Member → Form
+form_of member.File = form.Text
+form_of member.Fields = form.Types
+form_of member.Where = form.Tests
+form_of member.Keep = form.Columns
+form_of member.Keys = form.Columns
+form_of member.Count = form.Truth
+form_of member.Sum = form.Sums
+form_of member.Width = form.Number
+form_of member.By = form.Number
+form_of member.Every = form.Number
+form_of member.Scope = form.Number
+form_of member.Hold = form.Number

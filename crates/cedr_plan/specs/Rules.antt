@@ -1,0 +1,139 @@
+-- The rules that every accepted plan meets. What takes a plan asks for `IsPlan`.
+use Rattle.std.specs.Prelude.{ℕ, ◌≡◌, ◌<◌, ◌≤◌, ◌+◌, ◌^◌, ◌==◌, Bool, true, false, ◌||◌, List, [], ◌∷◌, ◌++◌, length, map, All, count_by, if◌then◌else◌, Option, Some, None, IfSome}
+use Rattle.std.specs.List.{slice_get, list_any}
+use Rattle.cedr_base.specs.declared.field.FieldType.{FieldType}
+use Rattle.cedr_base.specs.declared.field.FieldType.TheVariants as field_type
+use Rattle.cedr_base.specs.declared.level.Level.{Level}
+use Rattle.cedr_expr.specs.Columns.{kept}
+use Rattle.cedr_expr.specs.Types.{type_fault_of, keep_fault_of}
+use Rattle.cedr_expr.specs.declared.test.Test.{Test}
+use Rattle.cedr_plan.specs.Drawn.{Kind, source, select, project, union, join, window, shift, hop, starts, ends, group, sequence, unless, output, Node, Drawn, is_output, drawn}
+use Rattle.cedr_plan.specs.Levels.{middle, has_block_over_memory}
+use Rattle.cedr_plan.specs.Nodes.{is_name, is_named, types_of, first_port, all_ports, group_types}
+use Rattle.cedr_plan.specs.Operators.{Row, row_of}
+use Rattle.cedr_plan.specs.declared.operator.Operator.{Operator}
+use Rattle.cedr_plan.specs.declared.operator.Operator.TheVariants as operator
+use Rattle.cedr_plan.specs.declared.plan.Plan.{Plan}
+
+abbrev pub operator_of_kind : Kind → Operator
+operator_of_kind (source file) = operator.Source
+operator_of_kind (select tests) = operator.Select
+operator_of_kind (project keep) = operator.Project
+operator_of_kind union = operator.Union
+operator_of_kind (join tests) = operator.Join
+operator_of_kind (window width) = operator.Window
+operator_of_kind (shift by) = operator.Shift
+operator_of_kind (hop every width) = operator.Hop
+operator_of_kind starts = operator.Starts
+operator_of_kind ends = operator.Ends
+operator_of_kind (group keys count sums) = operator.Group
+operator_of_kind (sequence scope tests) = operator.Sequence
+operator_of_kind (unless scope hold tests) = operator.Unless
+operator_of_kind output = operator.Output
+
+abbrev pub row_of_node : Node → Row
+row_of_node node = row_of (operator_of_kind node.kind)
+
+-- the field types of each port of a node, in port order
+abbrev pub port_types : List Node → Node → List (List FieldType)
+port_types earlier node = map (types_of earlier) node.inputs
+
+-- an earlier node that isn't an output
+abbrev pub IsInput : List Node → ℕ → Type 0
+IsInput earlier place = (place < length earlier) × IfSome (slice_get earlier place) (λ node. is_output node ≡ false)
+
+abbrev pub IsBound : Option ℕ → Type 0
+IsBound bound = IfSome bound (λ limit. limit ≤ 2 ^ 40)
+
+pub record IsLevel (level : Level) : Type 0 where
+  pub block : IsBound level.block
+  pub memory : IsBound level.memory
+  pub block_within_memory : has_block_over_memory level ≡ false
+
+-- the numbers that a node is given
+abbrev pub numbers_of : Kind → List ℕ
+numbers_of (window width) = width ∷ []
+numbers_of (shift by) = by ∷ []
+numbers_of (hop every width) = every ∷ width ∷ []
+numbers_of (sequence scope tests) = scope ∷ []
+numbers_of (unless scope hold tests) = scope ∷ hold ∷ []
+numbers_of other = []
+
+abbrev pub IsNumber : ℕ → Type 0
+IsNumber number = (1 ≤ number) × (number ≤ 2 ^ 40)
+
+-- each column is there, and each test compares two sides of one type
+abbrev pub AreTests : List (List FieldType) → List Test → Type 0
+AreTests ports tests = (length tests ≤ 16) × (type_fault_of tests (all_ports ports) [] ≡ None)
+
+abbrev pub AreColumns : List (List FieldType) → List ℕ → Type 0
+AreColumns ports columns = keep_fault_of columns (all_ports ports) ≡ None
+
+abbrev pub AreSums : List (List FieldType) → List ℕ → Type 0
+AreSums ports sums = All (λ column. slice_get (all_ports ports) column ≡ Some field_type.Number) sums
+
+-- what a node says of its columns fits the types of its ports
+abbrev pub FitsPorts : Kind → List (List FieldType) → Type 0
+FitsPorts (select tests) ports = AreTests ports tests
+FitsPorts (project keep) ports = AreColumns ports keep
+FitsPorts union ports = All (λ types. types ≡ first_port ports) ports
+FitsPorts (join tests) ports = AreTests ports tests
+FitsPorts (group keys count sums) ports = AreColumns ports keys × AreSums ports sums
+FitsPorts (sequence scope tests) ports = AreTests ports tests
+FitsPorts (unless scope hold tests) ports = AreTests ports tests
+FitsPorts other ports = Unit {0}
+
+-- the field types of a result; a source's are its own
+abbrev pub HasTypes : Kind → List (List FieldType) → List FieldType → Type 0
+HasTypes (source file) ports types = Unit {0}
+HasTypes (project keep) ports types = types ≡ kept keep (all_ports ports)
+HasTypes (join tests) ports types = types ≡ all_ports ports
+HasTypes (group keys count sums) ports types = types ≡ group_types keys count sums (all_ports ports)
+HasTypes (sequence scope tests) ports types = types ≡ all_ports ports
+HasTypes other ports types = types ≡ first_port ports
+
+-- a source has the middle level, since it has no port
+abbrev pub HasSourceLevel : Kind → Level → Type 0
+HasSourceLevel (source file) level = level ≡ middle
+HasSourceLevel other level = Unit {0}
+
+-- a node stands behind earlier ones
+pub record IsNode (earlier : List Node) (node : Node) : Type 0 where
+  pub name : is_name node.name ≡ true
+  pub new_name : list_any (is_named node.name) earlier ≡ false
+  pub least_ports : (row_of_node node).least ≤ length node.inputs
+  pub most_ports : length node.inputs ≤ (row_of_node node).most
+  pub inputs : All (IsInput earlier) node.inputs
+  pub level : IsLevel node.level
+  pub source_level : HasSourceLevel node.kind node.level
+  pub numbers : All IsNumber (numbers_of node.kind)
+  pub fits : FitsPorts node.kind (port_types earlier node)
+  pub types : HasTypes node.kind (port_types earlier node) node.types
+  pub width : length node.types ≤ 16
+
+-- each of the nodes stands behind those before it
+abbrev pub AreNodes : List Node → List Node → Type 0
+AreNodes earlier [] = Unit {0}
+AreNodes earlier (node ∷ nodes) = IsNode earlier node × AreNodes (earlier ++ node ∷ []) nodes
+
+-- one of the nodes reads the node at a place
+abbrev pub is_read : ℕ → List Node → Bool
+is_read place nodes = list_any (λ (node : Node). list_any (λ input. input == place) node.inputs) nodes
+
+-- the number, from 1, of the first node that is no output and that no later node reads; the place of the first
+-- of these nodes is told
+abbrev pub first_unused : ℕ → List Node → Option ℕ
+first_unused place [] = None
+first_unused place (node ∷ nodes) = if is_output node || is_read place nodes then first_unused (place + 1) nodes else Some (place + 1)
+
+-- the rules of a plan: each node reads earlier ones that fit, there is one output, and all else is used
+pub record IsSound (plan : Drawn) : Type 0 where
+  pub nodes : AreNodes [] plan.nodes
+  pub count : length plan.nodes ≤ 64
+  pub least_edge : 1 ≤ plan.edge
+  pub most_edge : plan.edge ≤ 1024
+  pub one_output : count_by is_output plan.nodes ≡ 1
+  pub used : first_unused 0 plan.nodes ≡ None
+
+abbrev pub IsPlan : Plan → Type 0
+IsPlan plan = IsSound (drawn plan)

@@ -1,0 +1,34 @@
+//! Plans: JSON documents that say how sources become an answer, and what is wrong with those that don't.
+//!
+//! `read_plan` accepts the plan that the bytes describe, or refuses them with the first of fourteen faults, both
+//! exactly as `plan_of` in `specs/Plans.antt` says. The plan language is there in parts: what the members and
+//! the ports of each operator are (`Operators`), each fault of a node and the types of its result (`Nodes`,
+//! `NodeFaults`), and the document (`Plans`). An accepted plan keeps the rules of `IsPlan` (`Rules`), which
+//! whatever takes a plan asks for.
+#![tactic(auto)]
+
+mod check;
+mod document;
+mod early;
+mod fault;
+mod form;
+mod inputs;
+mod json;
+mod kind;
+mod level;
+mod lists;
+mod node;
+mod operator;
+mod plan;
+mod reader;
+mod result;
+mod test;
+mod whole;
+
+pub use check::write_check;
+pub use fault::{PlanFault, PlanKind};
+pub use plan::{NodeKind, Plan, PlanNode};
+pub use reader::{PLAN_LIMIT, read_plan};
+
+#[cfg(test)]
+mod tests;
