@@ -57,7 +57,7 @@ def check_command_lines(check: Check) -> int:
     check.write("\u00e9 ,\".csv", b"x\n")
     for words, *expected in COMMAND_LINES:
         check.compare(f"the words {words}", b"", tuple(expected), check.run(words))
-    for word, part in ((b"--help", b"history"), (b"--version", b"cedr ")):
+    for word, part in ((b"--help", b"history FILE"), (b"--help", b"check PLAN"), (b"--version", b"cedr ")):
         status, out, err = check.run([word])
         told = part in out if word == b"--help" else out.startswith(part)
         check.compare(f"the word {word}", b"", (0, True, b""), (status, told, err))
@@ -66,7 +66,7 @@ def check_command_lines(check: Check) -> int:
         check.compare("rows to a full device", event, (5, b"", b"write fault\n"), came)
         check.write("e.csv", b"")
         check.compare("no rows to a full device", b"", (0, b"", b""), check.run([b"history", b"e.csv"], full))
-    return len(COMMAND_LINES) + 4
+    return len(COMMAND_LINES) + 5
 
 
 def check_random(check: Check, make, count: int) -> int:

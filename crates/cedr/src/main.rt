@@ -8,15 +8,20 @@ use std::process::ExitCode;
 use std::{env, io};
 
 const HELP: &str = "usage: cedr history FILE
+       cedr check PLAN
 
-Writes the canonical history of an event file to standard output: for each event its
-valid interval and payload as the file's retractions leave them, one row a line, by
-end, then by begin, then by payload. Events whose valid interval is empty are left out.
+history writes the canonical history of an event file to standard output: for each
+event its valid interval and payload as the file's retractions leave them, one row a
+line, by end, then by begin, then by payload. Events whose valid interval is empty are
+left out.
+
+check reads a plan, and writes a line for each of its nodes: the name, the operator and
+the types of the fields of its result. It opens no event file.
 
 cedr --help and cedr --version print this text and the version.
 
-Exit status: 0 done, 1 the command line matches no command, 3 the events have a fault,
-4 a read fault, 5 a write fault, 6 out of memory.
+Exit status: 0 done, 1 the command line matches no command, 2 the plan has a fault,
+3 the events have a fault, 4 a read fault, 5 a write fault, 6 out of memory.
 ";
 
 const VERSION: &str = "cedr 0.1.0\n";
