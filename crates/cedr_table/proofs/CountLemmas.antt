@@ -1,0 +1,123 @@
+-- Counts in a map of rows.
+use Rattle.std.proofs.Common.{◌≡◌, ◌≢◌, ℕ, ◌+◌, ◌-◌, ◌*◌, ◌<◌, ◌≤◌, List, [], ◌∷◌, ◌++◌, Bool, true, false, cond, Some, Option, refl, ap, sym, ◌∙◌, subst, arith, length}
+use Rattle.std.specs.Prelude.{unwrap_or, sum_by, replicate}
+use Rattle.std.specs.List.Sorted.{IsStrictlySortedBy}
+use Rattle.std.specs.Map.{lookup, keys_of}
+use Rattle.std.specs.BTreeMap.{is_at}
+use Rattle.std.specs.Ordering.{is_eq}
+use Rattle.std.specs.declared.cmp.Ordering.TheVariants.{Less}
+use Rattle.cedr_base.specs.declared.row.Row.{Row}
+use Rattle.cedr_base.specs.Rows.{row_cmp, same_row, one_if_same, count_of, SameRows}
+use Rattle.cedr_table.proofs.BagLemmas.{same_row_is, same_row_equiv}
+use Rattle.std.proofs.lemmas.List.Sums.{sum_by-cons}
+use Rattle.cedr_base.specs.Changes.{puts, takes}
+use Rattle.cedr_table.proofs.BagLemmas.{sum_by-moved, remnant_none, remnant_some}
+use Rattle.cedr_base.specs.declared.change.Change.{Change}
+use Rattle.cedr_base.specs.declared.change.Change.TheVariants.{Cut}
+use Rattle.std.specs.List.{AllByRecursion}
+use Rattle.std.proofs.lemmas.List.Folds.{sum_by-replicate}
+use Rattle.cedr_base.proofs.Bags.{same_row_exact, count_of-append}
+use Rattle.cedr_table.specs.Counted.{copies, spread, IsCounted, EachIsThere, LacksRow}
+
+-- a map's update finds the row that a count finds
+pub test_is : (row q : Row) → is_at (row_cmp row) q ≡ same_row q row
+test_is row q = sym (same_row_is row q) ∙ same_row_equiv.symm row q
+
+-- the new map has w for the row, and for each other row what the old map has
+abbrev pub IsUpdate : Row → Option ℕ → List (Row × ℕ) → List (Row × ℕ) → Type 0
+IsUpdate row w old new = (q : Row) → lookup (is_at (row_cmp q)) new ≡ cond (is_at (row_cmp row) q) w (lookup (is_at (row_cmp q)) old)
+
+added_at : (row q : Row) (old new : List (Row × ℕ)) (b : Bool) → same_row q row ≡ b → lookup (is_at (row_cmp q)) new ≡ cond b (Some (copies old row + 1)) (lookup (is_at (row_cmp q)) old) → copies new q ≡ copies old q + cond b 1 0
+added_at row q old new true h e = ap (λ o. unwrap_or o 0) e ∙ ap (λ (r : Row). copies old r + 1) (sym (same_row_exact q row h))
+added_at row q old new false h e = ap (λ o. unwrap_or o 0) e ∙ omega arith
+
+-- one copy more counts one more of its row
+pub added : (row : Row) (old new : List (Row × ℕ)) → IsUpdate row (Some (copies old row + 1)) old new → (q : Row) → copies new q ≡ copies old q + one_if_same q row
+added row old new h q = added_at row q old new (same_row q row) refl (h q ∙ ap (λ b. cond b (Some (copies old row + 1)) (lookup (is_at (row_cmp q)) old)) (test_is row q))
+
+taken_at : (row q : Row) (w : Option ℕ) (old new : List (Row × ℕ)) (b : Bool) → unwrap_or w 0 + 1 ≡ copies old row → same_row q row ≡ b → lookup (is_at (row_cmp q)) new ≡ cond b w (lookup (is_at (row_cmp q)) old) → copies new q + cond b 1 0 ≡ copies old q
+taken_at row q w old new true n h e = ap (λ o. unwrap_or o 0 + 1) e ∙ (n ∙ ap (copies old) (sym (same_row_exact q row h)))
+taken_at row q w old new false n h e = omega (arith, ap (λ o. unwrap_or o 0) e)
+
+-- one copy less counts one less of its row
+pub taken : (row : Row) (w : Option ℕ) (old new : List (Row × ℕ)) → unwrap_or w 0 + 1 ≡ copies old row → IsUpdate row w old new → (q : Row) → copies new q + one_if_same q row ≡ copies old q
+taken row w old new n h q = taken_at row q w old new (same_row q row) n refl (h q ∙ ap (λ b. cond b w (lookup (is_at (row_cmp q)) old)) (test_is row q))
+
+there_at : (w o : Option ℕ) (b : Bool) → w ≢ Some 0 → o ≢ Some 0 → cond b w o ≢ Some 0
+there_at w o true h k = h
+there_at w o false h k = k
+
+-- a map that keeps no row without a copy does so after an update to something else than no copy
+pub still_there : (row : Row) (w : Option ℕ) (old new : List (Row × ℕ)) → w ≢ Some 0 → EachIsThere old → IsUpdate row w old new → EachIsThere new
+still_there row w old new h k u q e = there_at w (lookup (is_at (row_cmp q)) old) (is_at (row_cmp row) q) h (k q) (sym (u q) ∙ e)
+
+-- so many copies and one more are something
+pub one_more : (n : ℕ) → Some (n + 1) ≢ Some 0
+one_more n e = let same : n + 1 ≡ 0 = ap (λ o. unwrap_or o 0) e in absurd (omega arith)
+
+-- of more copies than one, some stay
+pub some_stay : (n : ℕ) → 0 < n → n ≢ 1 → Some (n - 1) ≢ Some 0
+some_stay n many h e = let none : n - 1 ≡ 0 = ap (λ o. unwrap_or o 0) e in let one : n ≡ 1 = omega arith in h one
+
+beyond : (x : Row) (es : List (Row × ℕ)) → AllByRecursion (λ y. row_cmp x y ≡ Less) (keys_of es) → copies es x ≡ 0
+beyond x [] h = refl
+beyond x (e ∷ es) h = ap (λ o. unwrap_or (cond (is_eq o) (Some e.1) (lookup (is_at (row_cmp x)) es)) 0) h.0 ∙ beyond x es h.1
+
+seen_at : (r : Row) (e : Row × ℕ) (es : List (Row × ℕ)) (b : Bool) → same_row r e.0 ≡ b → (e.0 ≡ r → copies es r ≡ 0) → count_of r (spread es) ≡ copies es r
+    → e.1 * cond b 1 0 + count_of r (spread es) ≡ unwrap_or (cond b (Some e.1) (lookup (is_at (row_cmp r)) es)) 0
+seen_at r e es true h last rest = let none = last (sym (same_row_exact r e.0 h)) in omega (arith, none, rest)
+seen_at r e es false h last rest = omega (arith, rest)
+
+-- the bag has what the map counts
+pub count_spread : (es : List (Row × ℕ)) → IsStrictlySortedBy row_cmp (keys_of es) → (r : Row) → count_of r (spread es) ≡ copies es r
+unfolding IsStrictlySortedBy
+count_spread [] h r = refl
+count_spread (e ∷ es) h r =
+    count_of-append r (replicate e.1 e.0) (spread es)
+    ∙ (ap (λ n. n + count_of r (spread es)) (sum_by-replicate (one_if_same r) e.1 e.0)
+    ∙ (seen_at r e es (same_row r e.0) refl (λ same. subst (λ (x : Row). copies es x ≡ 0) same (beyond e.0 es h.0)) (count_spread es h.1 r)
+    ∙ ap (λ b. unwrap_or (cond b (Some e.1) (lookup (is_at (row_cmp r)) es)) 0) (same_row_is r e.0)))
+
+-- bags are the same where their maps count the same
+pub same_from_counts : (old new : List (Row × ℕ)) (outs ins : List Row) → IsStrictlySortedBy row_cmp (keys_of old) → IsStrictlySortedBy row_cmp (keys_of new)
+    → ((q : Row) → copies new q + count_of q outs ≡ copies old q + count_of q ins) → SameRows (spread new ++ outs) (spread old ++ ins)
+same_from_counts old new outs ins o n h = record { each = λ r. omega (arith, count_of-append r (spread new) outs, count_of-append r (spread old) ins, count_spread new n r, count_spread old o r, h r) }
+
+-- a cut lacks its row where the map counts none
+pub lacks_is : (es : List (Row × ℕ)) (change : Change) (row : Row) (end : ℕ) → IsStrictlySortedBy row_cmp (keys_of es) → change ≡ Cut row end → LacksRow (spread es) change → copies es row ≡ 0
+lacks_is es change row end o is lacks = sym (count_spread es o row) ∙ subst (LacksRow (spread es)) is lacks
+
+-- a map that counts none of a row lacks what a cut takes
+pub is_lacking : (es : List (Row × ℕ)) (change : Change) (row : Row) (end : ℕ) → IsStrictlySortedBy row_cmp (keys_of es) → change ≡ Cut row end → copies es row ≡ 0 → LacksRow (spread es) change
+is_lacking es change row end o is none = subst (LacksRow (spread es)) (sym is) (count_spread es o row ∙ none)
+
+length_is : (xs : List Row) → sum_by (λ _. 1) xs ≡ length xs
+length_is [] = refl
+length_is (x ∷ xs) = omega (arith, sum_by-cons (λ (_ : Row). 1) x xs, length_is xs)
+
+-- a map that went through a change is counted, where its length did too
+pub counted_after : (c : Change) (old new : List (Row × ℕ)) (len len' : ℕ) → IsCounted old len → IsStrictlySortedBy row_cmp (keys_of new) → EachIsThere new → SameRows (spread new ++ takes c) (spread old ++ puts c)
+    → len' + length (takes c) ≡ len + length (puts c) → IsCounted new len'
+counted_after c old new len len' h ordered there moved sums = record {
+  ordered = ordered;
+  there = there;
+  len_is = let e = h.len_is in omega (arith, sums, sum_by-moved (λ _. 1) c (spread old) (spread new) moved, length_is (spread old), length_is (spread new), length_is (takes c), length_is (puts c));
+}
+
+-- the length after a cut that leaves nothing
+pub counted_gone : (change : Change) (row : Row) (end : ℕ) (old new : List (Row × ℕ)) (len : ℕ) → IsCounted old len → IsStrictlySortedBy row_cmp (keys_of new) → EachIsThere new → SameRows (spread new ++ takes change) (spread old ++ puts change)
+    → change ≡ Cut row end → end ≤ row.begin → IsCounted new (len - 1)
+counted_gone change row end old new len h ordered there moved is gone =
+    let sums = sum_by-moved (λ _. 1) change (spread old) (spread new) moved in
+    let out : length (takes change) ≡ 1 = ap (λ (d : Change). length (takes d)) is in
+    let none : length (puts change) ≡ 0 = ap (λ (d : Change). length (puts d)) is ∙ ap (λ (rows : List Row). length rows) (remnant_none row end gone) in
+    let e = h.len_is in
+    counted_after change old new len (len - 1) h ordered there moved (omega (arith, sums, length_is (spread old), length_is (takes change), length_is (puts change), out, none))
+
+-- the length after a cut that leaves something
+pub counted_cut : (change : Change) (row : Row) (end : ℕ) (old new : List (Row × ℕ)) (len : ℕ) → IsCounted old len → IsStrictlySortedBy row_cmp (keys_of new) → EachIsThere new → SameRows (spread new ++ takes change) (spread old ++ puts change)
+    → change ≡ Cut row end → row.begin < end → IsCounted new len
+counted_cut change row end old new len h ordered there moved is lives =
+    let out : length (takes change) ≡ 1 = ap (λ (d : Change). length (takes d)) is in
+    let one : length (puts change) ≡ 1 = ap (λ (d : Change). length (puts d)) is ∙ ap (λ (rows : List Row). length rows) (remnant_some row end lives) in
+    counted_after change old new len len h ordered there moved (omega (arith, out, one))

@@ -1,0 +1,3 @@
+pub mod BagLemmas
+pub mod CountLemmas
+pub mod OrderLemmas

@@ -1,0 +1,33 @@
+-- A bag as its rows with their counts.
+use Rattle.std.specs.Prelude.{ℕ, ◌≡◌, ◌≢◌, List, Some, unwrap_or, replicate, length}
+use Rattle.std.specs.List.{flat_map}
+use Rattle.std.specs.List.Sorted.{IsStrictlySortedBy}
+use Rattle.std.specs.Map.{lookup, keys_of}
+use Rattle.std.specs.BTreeMap.{is_at}
+use Rattle.cedr_base.specs.declared.row.Row.{Row}
+use Rattle.cedr_base.specs.declared.change.Change.{Change}
+use Rattle.cedr_base.specs.declared.change.Change.TheVariants.{Add, Cut}
+use Rattle.cedr_base.specs.Rows.{row_cmp, count_of}
+
+-- how many copies of a row there are
+abbrev pub copies : List (Row × ℕ) → Row → ℕ
+copies entries q = unwrap_or (lookup (is_at (row_cmp q)) entries) 0
+
+-- each row as often as its count says
+abbrev pub spread : List (Row × ℕ) → List Row
+spread entries = flat_map (λ e. replicate e.1 e.0) entries
+
+-- no row is kept of which there is no copy
+abbrev pub EachIsThere : List (Row × ℕ) → Type 0
+EachIsThere entries = (q : Row) → lookup (is_at (row_cmp q)) entries ≢ Some 0
+
+-- the rows ascend, each is there, and the length is that of the bag
+pub record IsCounted (entries : List (Row × ℕ)) (len : ℕ) : Type 0 where
+  pub ordered : IsStrictlySortedBy row_cmp (keys_of entries)
+  pub there : EachIsThere entries
+  pub len_is : len ≡ length (spread entries)
+
+-- the change cuts a row that isn't there
+abbrev pub LacksRow : List Row → Change → Type 0
+LacksRow rows (Add r) = ⊥
+LacksRow rows (Cut r e) = count_of r rows ≡ 0

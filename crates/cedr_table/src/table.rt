@@ -1,0 +1,91 @@
+ghost use Rattle.std.specs.Prelude.{◌≡◌, ◌++◌, [], length, OnOk, OnErr, IfOk, IsErrOf, ◌↔◌};
+ghost use Rattle.cedr_base.specs.Rows.{count_of, in_order, SameRows};
+ghost use Rattle.cedr_base.specs.Changes.{puts, takes};
+ghost use Rattle.cedr_table.specs.Counted.{LacksRow};
+ghost use Rattle.cedr_table.specs.declared.fault.TableFault.TheVariants.{NoSuchRow};
+
+use crate::counted::{all_rows, change_map, copies_in};
+use crate::fault::TableFault;
+use cedr_base::{Change, OutOfMemory, Row};
+use std::alloc::Global;
+use std::collections::BTreeMap;
+use std::marker::Model;
+
+/// A bag of rows. Contracts see a list of its rows, of which only the counts matter.
+///
+/// It keeps each row once, with the number of its copies.
+#[derive(Drop)]
+pub struct Table {
+    alloc: Global,
+    rows: BTreeMap<Row, usize>,
+    len: usize,
+}
+
+impl Model for Table {
+    ghost use Rattle.std.specs.Prelude.{List};
+    ghost use Rattle.cedr_base.specs.declared.row.Row.{Row};
+    ghost use Rattle.cedr_table.specs.Counted.{spread, IsCounted};
+
+    ghost Value = { List Row };
+
+    ghost view = { λ t. spread t.rows.entries };
+
+    ghost invariant = { λ t. IsCounted t.rows.entries t.len };
+}
+
+impl Table {
+    /// A table with no row. It takes no memory.
+    pub fn new(alloc: Global) -> Table
+        ensures { result ≡ [] }
+    {
+        Table {
+            alloc,
+            rows: BTreeMap::new(alloc),
+            len: 0,
+        }
+    }
+
+    /// Applies a change: an insertion puts a copy of its row, and a retraction takes a copy of its row and
+    /// puts what is left of it. A refusal changes nothing, and to find that a row isn't there takes no
+    /// memory. O(log n) comparisons in the different rows.
+    pub fn apply(&mut self, change: &Change) -> Result<(), TableFault>
+        ensures ok { OnOk result (SameRows (self.new ++ takes change.now) (self.old ++ puts change.now)) }
+        ensures no_such_row { IsErrOf result NoSuchRow ↔ LacksRow self.old change.now }
+        ensures err { OnErr result (self.new ≡ self.old) }
+    {
+        if self.len == usize::MAX && matches!(change, Change::Add(_)) {
+            return Err(TableFault::OutOfMemory);
+        }
+        change_map(self.alloc, &mut self.rows, change)?;
+        match change {
+            Change::Add(_) => self.len += 1,
+            Change::Cut(row, end) => {
+                if *end <= row.begin {
+                    self.len -= 1;
+                }
+            }
+        }
+        Ok(())
+    }
+
+    /// How many copies of a row are in the table. O(log n) comparisons.
+    pub fn count(&self, row: &Row) -> usize
+        ensures { result ≡ count_of row.now self.now }
+    {
+        copies_in(&self.rows, row)
+    }
+
+    /// How many rows there are, each copy counted. O(1).
+    pub fn len(&self) -> usize
+        ensures { result ≡ length self.now }
+    {
+        self.len
+    }
+
+    /// Copies of the rows in canonical order, each as often as it is there. O(n).
+    pub fn canonical(&self) -> Result<Vec<Row>, OutOfMemory>
+        ensures { IfOk result (λ rows. rows.items ≡ in_order self.now) }
+    {
+        all_rows(self.alloc, &self.rows)
+    }
+}
