@@ -1,16 +1,8 @@
 """Files whose answers are written out by hand: the name of the case, the file's bytes and what must come."""
-from typing import NamedTuple
+from program import Case
 
 LINE = 65_536
 LIMIT = 67_108_864
-
-
-class Case(NamedTuple):
-    name: str
-    data: bytes
-    status: int
-    out: bytes
-    err: bytes
 
 
 def accepted(name: str, data: bytes, rows: bytes) -> Case:

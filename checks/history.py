@@ -17,7 +17,7 @@ sys.dont_write_bytecode = True
 import cases
 import random_files
 import reference
-from program import USAGE, Check
+from program import USAGE, Check, check_cases
 
 # The words that match no command. What the usage line names and isn't built is among them.
 NO_COMMAND = [
@@ -41,14 +41,8 @@ def history(check: Check, data: bytes) -> tuple[int, bytes, bytes]:
     return check.run([b"history", b"e.csv"])
 
 
-def check_cases(check: Check, table) -> int:
-    count = 0
-    for case in table:
-        expected = case.status, case.out, case.err
-        check.compare(f"{case.name}, by the reference", case.data, expected, reference.history("e.csv", case.data))
-        check.compare(case.name, case.data, expected, history(check, case.data))
-        count += 1
-    return count
+def by_reference(data: bytes) -> tuple[int, bytes, bytes]:
+    return reference.history("e.csv", data)
 
 
 def check_command_lines(check: Check) -> int:
@@ -74,7 +68,7 @@ def check_random(check: Check, make, count: int) -> int:
     accepted = 0
     for seed in range(count):
         data = make(random.Random(seed))
-        expected = reference.history("e.csv", data)
+        expected = by_reference(data)
         check.compare(f"{make.__name__} of seed {seed}", data, expected, history(check, data))
         accepted += expected[0] == 0
     return accepted
@@ -85,7 +79,7 @@ def check_arrival(check: Check, count: int) -> None:
     for seed in range(count):
         one, other = random_files.shuffled_pair(random.Random(seed))
         first = history(check, one)
-        check.compare(f"one arrival order of seed {seed}", one, reference.history("e.csv", one), first)
+        check.compare(f"one arrival order of seed {seed}", one, by_reference(one), first)
         check.compare(f"another arrival order of seed {seed}", other, first, history(check, other))
 
 
@@ -97,12 +91,12 @@ def main() -> int:
         return 2
     with tempfile.TemporaryDirectory(prefix="cedr-check-") as folder:
         check = Check(program, Path(folder), ".csv")
-        small = check_cases(check, cases.SMALL)
+        small = check_cases(check, cases.SMALL, by_reference, history)
         words = check_command_lines(check)
         good = check_random(check, random_files.small_file, 1_500)
         good_long = check_random(check, random_files.long_file, 20)
         check_arrival(check, 40)
-        large = check_cases(check, cases.large())
+        large = check_cases(check, cases.large(), by_reference, history)
     print(f"history: {small} small and {large} large files by hand, {words} command lines, 1500 random files "
           f"({good} accepted), 20 long ones ({good_long} accepted), 40 in two orders: {check.differences} differences")
     return 1 if check.differences else 0

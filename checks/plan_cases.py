@@ -1,16 +1,8 @@
 """Plans whose answers are written out by hand: the name of the case, the plan's bytes and what must come."""
-from typing import NamedTuple
+from program import Case
 
 LIMIT = 1_048_576
 LONGEST = 2**40
-
-
-class Case(NamedTuple):
-    name: str
-    data: bytes
-    status: int
-    out: bytes
-    err: bytes
 
 
 def accepted(name: str, data: bytes, lines: str) -> Case:

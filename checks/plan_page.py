@@ -3,7 +3,7 @@ import json
 import re
 from pathlib import Path
 
-from plan_cases import Case
+from program import Case
 
 BLOCKS = re.compile("```json\n(.*?)```\n(?:[^`]|`[^`]|``[^`])*?```text\n(.*?)```", re.DOTALL)
 SOURCES = re.compile("```json\n((?:{[^\n]*},\n)+{[^\n]*})\n```")

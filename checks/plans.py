@@ -19,7 +19,7 @@ import plan_cases
 import plan_page
 import plan_reference
 import random_plans
-from program import USAGE, Check
+from program import USAGE, Check, check_cases
 
 ROOT = Path(__file__).resolve().parent.parent
 RANDOM = 1_500
@@ -44,16 +44,6 @@ COMMAND_LINES = [(words, 1, b"", USAGE) for words in (
 def answer(check: Check, data: bytes) -> tuple[int, bytes, bytes]:
     check.write("p.json", data)
     return check.run([b"check", b"p.json"])
-
-
-def check_cases(check: Check, table) -> int:
-    count = 0
-    for case in table:
-        expected = case.status, case.out, case.err
-        check.compare(f"{case.name}, by the reference", case.data, expected, plan_reference.check(case.data))
-        check.compare(case.name, case.data, expected, answer(check, case.data))
-        count += 1
-    return count
 
 
 def check_command_lines(check: Check) -> int:
@@ -88,8 +78,8 @@ def main() -> int:
         return 2
     with tempfile.TemporaryDirectory(prefix="cedr-check-") as folder:
         check = Check(program, Path(folder), ".json")
-        by_hand = check_cases(check, plan_cases.all_cases())
-        on_page = check_cases(check, plan_page.all_cases(ROOT))
+        by_hand = check_cases(check, plan_cases.all_cases(), plan_reference.check, answer)
+        on_page = check_cases(check, plan_page.all_cases(ROOT), plan_reference.check, answer)
         words = check_command_lines(check)
         faults = check_random(check)
     print(f"check: {by_hand} plans by hand, {on_page} of docs/plans.md, {words} command lines, {RANDOM} random plans "

@@ -2,11 +2,21 @@
 import subprocess
 import tempfile
 from pathlib import Path
+from typing import NamedTuple
 
 SHOWN = 5
 SECONDS = 60
 USAGE = (b"usage: cedr history FILE | check PLAN | serial PLAN | run PLAN | stream PLAN | audit PLAN | "
          b"live PLAN SCRIPT | make N\n")
+
+
+class Case(NamedTuple):
+    """A file, and the status and what comes of it."""
+    name: str
+    data: bytes
+    status: int
+    out: bytes
+    err: bytes
 
 
 class Check:
@@ -48,3 +58,14 @@ class Check:
 
 def shown(text: bytes) -> str:
     return repr(text) if len(text) <= 2_000 else f"{text[:500]!r} and on, {len(text)} bytes, kept beside the file"
+
+
+def check_cases(check: Check, table, reference, program) -> int:
+    """Compares each case with what the reference and the program answer, and answers how many cases there are."""
+    count = 0
+    for case in table:
+        expected = case.status, case.out, case.err
+        check.compare(f"{case.name}, by the reference", case.data, expected, reference(case.data))
+        check.compare(case.name, case.data, expected, program(check, case.data))
+        count += 1
+    return count
