@@ -13,7 +13,7 @@ mod row;
 mod text;
 mod time;
 
-pub use change::{Change, Message};
+pub use change::{BadCut, Change, Message};
 pub use field::{Field, FieldType};
 pub use level::Level;
 pub use memory::OutOfMemory;

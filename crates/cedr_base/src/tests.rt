@@ -104,3 +104,35 @@ fn rows_are_sorted(rt: HostRuntime) -> Result<(), Fail> {
     assert_eq!(rt; times.as_slice(), wanted.as_slice());
     Ok(())
 }
+
+#[test]
+fn a_cut_has_an_end_within_the_row(rt: HostRuntime) -> Result<(), Fail> {
+    let alloc = rt.alloc();
+    for (end, refused) in [
+        (2, true),
+        (3, false),
+        (8, false),
+        (9, true),
+        (FOREVER, true),
+    ] {
+        let row = Row::new(3, 9, payload(alloc, &[b"a"])?)?;
+        match Change::cut(row, end) {
+            Ok(change) => {
+                assert!(rt; !refused, "end {end}");
+                assert_eq!(rt; change.sync(), end);
+            }
+            Err(BadCut) => assert!(rt; refused, "end {end}"),
+        }
+    }
+    Ok(())
+}
+
+#[test]
+fn a_change_is_seen_from_its_begin_or_its_new_end(rt: HostRuntime) -> Result<(), Fail> {
+    let alloc = rt.alloc();
+    let added = Change::Add(Row::new(3, 9, payload(alloc, &[b"a"])?)?);
+    assert_eq!(rt; added.copy(alloc)?.sync(), 3);
+    let cut = Change::cut(Row::new(3, FOREVER, payload(alloc, &[b"a"])?)?, 7)?;
+    assert_eq!(rt; cut.copy(alloc)?.sync(), 7);
+    Ok(())
+}
