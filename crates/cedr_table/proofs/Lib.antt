@@ -1,3 +1,4 @@
-pub mod BagLemmas
 pub mod CountLemmas
 pub mod OrderLemmas
+pub mod RowWiseLemmas
+pub mod ChoiceLemmas

@@ -1,14 +1,23 @@
-//! A bag of rows that changes apply to: the table that an operator keeps of what came.
+//! Bags of rows, and what an operator is.
 //!
 //! `Table` counts the copies of each row in an ordered map. Contracts see the list of its rows, of which
-//! only the counts matter.
+//! only the counts matter. `Operator` is a step of a query with its laws: tables on its ports, and a result that it
+//! repairs change by change. `RowWise` makes an operator of what says how one row gives one row or none.
 #![tactic(auto)]
 
 mod counted;
 mod fault;
+mod life;
+mod marks;
+mod operator;
+mod row_wise;
 mod table;
 
 pub use fault::TableFault;
+pub use life::Life;
+pub use marks::least_mark;
+pub use operator::Operator;
+pub use row_wise::RowWise;
 pub use table::Table;
 
 #[cfg(test)]

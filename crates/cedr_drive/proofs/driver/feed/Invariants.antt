@@ -1,0 +1,16 @@
+use Rattle.std.proofs.Common.{◌≡◌, ◌<◌, List, take, length}
+use Rattle.cedr_base.specs.declared.change.Message.{Message}
+use Rattle.cedr_base.specs.Messages.{IsLegalBehind}
+use Rattle.cedr_drive.specs.Lists.{Lists, list_at}
+use Rattle.cedr_drive.specs.Driving.{Works, IsFed}
+use Rattle.cedr_drive.proofs.driver.feed.Given as goal
+
+abbrev pub invariant-loop-message : goal.invariant-loop-message
+invariant-loop-message g l =
+    let op = g.O.Operator in
+    let old = l.initial.op in
+    record {
+      fed : (lists : Lists) (given : List Message) → Works (op.meaning old) (op.stands old) l.initial.marks.items lists given → l.port < length lists → IsLegalBehind (list_at lists l.port) l.taken
+          → IsFed (op.meaning old) (op.stands l.op) l.marks.items lists l.port (take l.message-index l.taken) given l.initial.out.items l.out.items;
+      meaning : op.meaning l.op ≡ op.meaning old;
+    }

@@ -1,0 +1,137 @@
+ghost use Rattle.std.specs.Prelude.{◌≡◌, ◌<◌, ◌++◌, ◌∷◌, [], ℕ, List, OnOk, IfOk, max, length, replicate};
+ghost use Rattle.cedr_base.specs.declared.change.Message.{Message};
+ghost use Rattle.cedr_base.specs.Messages.{IsLegalBehind};
+ghost use Rattle.cedr_stream.specs.Repairs.{wrapped};
+ghost use Rattle.cedr_drive.specs.Lists.{Lists, list_at, mark_above};
+ghost use Rattle.cedr_drive.specs.Driving.{Works, Drives, MayTake, IsFed, Answers};
+
+use cedr_base::{Change, Message, OutOfMemory, Time};
+use cedr_table::Operator;
+use std::alloc::Global;
+
+/// An operator, the last mark of each of its ports, and the last mark that was given.
+#[derive(Drop)]
+pub struct Driver<O> {
+    op: O,
+    marks: Vec<Time>,
+    sent: Time,
+}
+
+/// Appends changes as messages.
+fn push_changes(
+    alloc: Global,
+    changes: &[Change],
+    out: &mut Vec<Message>,
+) -> Result<(), OutOfMemory>
+    ensures { OnOk result (out.new.items ≡ out.old.items ++ wrapped changes.now) }
+{
+    for change in changes {
+        let copied = change.copy(alloc)?;
+        out.push(Message::Change(copied))?;
+    }
+    Ok(())
+}
+
+/// Appends a mark where it is above the last one.
+fn push_mark(bound: Time, sent: &mut Time, out: &mut Vec<Message>) -> Result<(), OutOfMemory>
+    ensures { OnOk result ((out.new.items ≡ out.old.items ++ mark_above sent.old bound) × (sent.new ≡ max sent.old bound)) }
+{
+    if bound > *sent {
+        out.push(Message::Mark(bound))?;
+        *sent = bound;
+    }
+    Ok(())
+}
+
+/// Hands one message to the operator.
+fn feed_one<O: Operator>(
+    alloc: Global,
+    op: &mut O,
+    marks: &mut Vec<Time>,
+    port: usize,
+    message: &Message,
+    out: &mut Vec<Message>,
+) -> Result<(), OutOfMemory>
+    requires { (lists : Lists) × (given : List Message) × Works (O.meaning op.old) (O.stands op.old) marks.old.items lists given × MayTake lists port message.now }
+    ensures fed { OnOk result ((lists : Lists) (given : List Message) → Works (O.meaning op.old) (O.stands op.old) marks.old.items lists given → MayTake lists port message.now → IsFed (O.meaning op.old) (O.stands op.new) marks.new.items lists port (message.now ∷ []) given out.old.items out.new.items) }
+    ensures meaning { OnOk result (O.meaning op.new ≡ O.meaning op.old) }
+{
+    match message {
+        Message::Change(change) => {
+            let mut changes = Vec::new(alloc);
+            op.apply(alloc, port, change, &mut changes)?;
+            push_changes(alloc, changes.as_slice(), out)?;
+            Ok(())
+        }
+        Message::Mark(t) => {
+            marks[port] = *t;
+            Ok(())
+        }
+        Message::End => Ok(()),
+        Message::Broken => Ok(()),
+    }
+}
+
+/// Hands messages to the operator, one after the other.
+fn feed<O: Operator>(
+    alloc: Global,
+    op: &mut O,
+    marks: &mut Vec<Time>,
+    port: usize,
+    taken: &[Message],
+    out: &mut Vec<Message>,
+) -> Result<(), OutOfMemory>
+    requires { (lists : Lists) × (given : List Message) × Works (O.meaning op.old) (O.stands op.old) marks.old.items lists given × (port < length lists) × IsLegalBehind (list_at lists port) taken.now }
+    ensures fed { OnOk result ((lists : Lists) (given : List Message) → Works (O.meaning op.old) (O.stands op.old) marks.old.items lists given → port < length lists → IsLegalBehind (list_at lists port) taken.now → IsFed (O.meaning op.old) (O.stands op.new) marks.new.items lists port taken.now given out.old.items out.new.items) }
+    ensures meaning { OnOk result (O.meaning op.new ≡ O.meaning op.old) }
+{
+    for message in taken {
+        feed_one(alloc, op, marks, port, message, out)?;
+    }
+    Ok(())
+}
+
+/// A mark of 0 for each port.
+fn no_marks(alloc: Global, ports: usize) -> Result<Vec<Time>, OutOfMemory>
+    ensures { IfOk result (λ marks. marks.items ≡ replicate ports 0) }
+{
+    let mut marks = Vec::new(alloc);
+    for _ in 0..ports {
+        marks.push(0)?;
+    }
+    Ok(marks)
+}
+
+impl<O: Operator> Driver<O> {
+    /// An operator that took nothing.
+    pub fn new(alloc: Global, op: O) -> Result<Driver<O>, OutOfMemory>
+    where
+        O: Drop,
+        requires stands { O.stands op (replicate (O.meaning op).ports []) (replicate (O.meaning op).ports 0) }
+        ensures meaning { IfOk result (λ d. O.meaning d.op ≡ O.meaning op) }
+        ensures drives { IfOk result (λ d. Drives (O.meaning d.op) (O.stands d.op) d.marks.items d.sent (replicate (O.meaning op).ports []) []) }
+    {
+        let marks = no_marks(alloc, op.ports())?;
+        Ok(Driver { op, marks, sent: 0 })
+    }
+
+    /// Takes messages on a port, and appends the repairs that they call for, and then a mark where the bound rose.
+    /// Where memory runs out the driver is only to be dropped, and some messages may have been appended.
+    pub fn take(
+        &mut self,
+        alloc: Global,
+        port: usize,
+        taken: &[Message],
+        out: &mut Vec<Message>,
+    ) -> Result<(), OutOfMemory>
+        requires { (lists : Lists) × (given : List Message) × Drives (O.meaning self.old.op) (O.stands self.old.op) self.old.marks.items self.old.sent lists given × (port < length lists) × IsLegalBehind (list_at lists port) taken.now }
+        ensures answers { OnOk result ((lists : Lists) (given : List Message) → Drives (O.meaning self.old.op) (O.stands self.old.op) self.old.marks.items self.old.sent lists given → port < length lists → IsLegalBehind (list_at lists port) taken.now → Answers (O.meaning self.old.op) (O.stands self.new.op) (O.held self.new.op) self.new.marks.items self.old.sent self.new.sent lists port taken.now given out.old.items out.new.items) }
+        ensures meaning { OnOk result (O.meaning self.new.op ≡ O.meaning self.old.op) }
+    {
+        feed(alloc, &mut self.op, &mut self.marks, port, taken, out)?;
+        let bound = self.op.bound(self.marks.as_slice());
+        push_mark(bound, &mut self.sent, out)?;
+        self.op.trim(self.marks.as_slice());
+        Ok(())
+    }
+}

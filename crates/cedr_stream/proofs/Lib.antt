@@ -1,0 +1,5 @@
+pub mod BagSums
+pub mod Moves
+pub mod RepairLemmas
+pub mod Legal
+pub mod AgreeLemmas

@@ -1,0 +1,3 @@
+pub mod Repairs
+pub mod Agreeing
+pub mod Times

@@ -1,0 +1,47 @@
+-- The operators that make each row's valid interval anew, and what they may promise at a mark.
+use Rattle.std.specs.Prelude.{ℕ, ◌≤◌, ◌^◌, ◌/◌, ◌*◌, List, Some, min, nat_lt, nat_eq, if◌then◌else◌}
+use Rattle.cedr_base.specs.declared.time.TheConstants.{FOREVER}
+use Rattle.cedr_base.specs.declared.row.Row.{Row}
+use Rattle.cedr_stream.specs.Times.{later}
+use Rattle.cedr_table.specs.declared.life.Life.{Life}
+use Rattle.cedr_table.specs.RowWise.{made}
+
+-- the row with another interval, and none where that is empty
+abbrev pub with_life : (ℕ → ℕ → Life) → Row → List Row
+with_life life r = made (life r.begin r.end) (Some r.payload)
+
+-- a while is from 1 to 2^40
+pub record IsWhile (d : ℕ) : Type 0 where
+  pub least : 1 ≤ d
+  pub most : d ≤ 2 ^ 40
+
+-- at most for a while from its begin on
+abbrev pub windowed : ℕ → ℕ → ℕ → Life
+windowed width begin end = record { begin = begin; end = min end (later begin width) }
+
+-- a while later
+abbrev pub shifted : ℕ → ℕ → ℕ → Life
+shifted by begin end = record { begin = later begin by; end = later end by }
+
+-- the greatest multiple of a while that isn't above a time
+abbrev pub multiple_below : ℕ → ℕ → ℕ
+multiple_below every time = (time / every) * every
+
+-- for a while from the last multiple of another while on
+abbrev pub hopped : ℕ → ℕ → ℕ → ℕ → Life
+hopped every width begin end = record { begin = multiple_below every begin; end = later (multiple_below every begin) width }
+
+-- from the begin on, for ever
+abbrev pub started : ℕ → ℕ → Life
+started begin end = record { begin = begin; end = FOREVER }
+
+-- from the end on, for ever
+abbrev pub ended : ℕ → ℕ → Life
+ended begin end = record { begin = end; end = FOREVER }
+
+-- at the mark 0 a shift may promise no more than that: the first row may begin a while after it
+abbrev pub shifted_mark : ℕ → ℕ → ℕ
+shifted_mark by mark = if nat_eq mark 0 then 0 else later mark by
+
+abbrev pub hopped_mark : ℕ → ℕ → ℕ
+hopped_mark every mark = if nat_lt mark FOREVER then multiple_below every mark else FOREVER
