@@ -19,7 +19,7 @@ use Rattle.cedr_stream.proofs.Moves.{applied, applied_moves}
 use Rattle.cedr_stream.proofs.RepairLemmas.{takes-append, puts-append}
 use Rattle.cedr_stream.proofs.Legal.{legal-push, changes-append, changes-wrapped, mark-append, mark-wrapped, open-append, open-wrapped, legal_repaired, table_repaired, table_moved, table_stays, may_follow_table}
 use Rattle.cedr_table.specs.Operators.{Tables, Meaning, table_at, mark_at, with_table, CanTake, AllRise, AreTimes, SameTables, OnlyHolds}
-use Rattle.cedr_drive.specs.Lists.{Lists, list_at, with_more, AreTables, AreTablesOfPrefixes, IsReal, mark_above}
+use Rattle.cedr_laws.specs.Lists.{Lists, list_at, with_more, AreTables, AreTablesOfPrefixes, IsReal, mark_above}
 use Rattle.cedr_drive.specs.Driving.{Works, Drives, MayTake, IsFed, Answers}
 
 in_one : (r x : Row) → 0 < count_of r (x ∷ []) → r ≡ x

@@ -7,7 +7,7 @@ use Rattle.cedr_base.specs.Changes.{all_puts}
 use Rattle.cedr_base.specs.Messages.{changes_of, mark_of, IsOpen, IsTableOf, MayCome, IsLegal}
 use Rattle.cedr_stream.specs.Repairs.{wrapped}
 use Rattle.cedr_table.specs.Operators.{Tables, Meaning, AreTimes, SameTables, OnlyHolds}
-use Rattle.cedr_drive.specs.Lists.{Lists, list_at, with_more, AreTables, IsReal, mark_above}
+use Rattle.cedr_laws.specs.Lists.{Lists, list_at, with_more, AreTables, IsReal, mark_above}
 
 -- The operator stands for the tables and the marks of the lists that it took on its ports. What it gave is legal, its
 -- table is the result at these tables, and each row that it ever put there is one of the result at tables that the

@@ -2,7 +2,7 @@ ghost use Rattle.std.specs.Prelude.{◌≡◌, ◌<◌, ◌++◌, ◌∷◌, [],
 ghost use Rattle.cedr_base.specs.declared.change.Message.{Message};
 ghost use Rattle.cedr_base.specs.Messages.{IsLegalBehind};
 ghost use Rattle.cedr_stream.specs.Repairs.{wrapped};
-ghost use Rattle.cedr_drive.specs.Lists.{Lists, list_at, mark_above};
+ghost use Rattle.cedr_laws.specs.Lists.{Lists, list_at, mark_above};
 ghost use Rattle.cedr_drive.specs.Driving.{Works, Drives, MayTake, IsFed, Answers};
 
 use cedr_base::{Change, Message, OutOfMemory, Time};

@@ -55,6 +55,13 @@ impl Tests {
         self.tests.iter().all(|test| test.holds(left, right))
     }
 
+    /// The tests, in the order in which they were given. It takes no memory.
+    pub fn as_slice(&self) -> &[Test]
+        ensures { result.now ≡ self.now }
+    {
+        self.tests.as_slice()
+    }
+
     pub fn copy(&self, alloc: Global) -> Result<Tests, OutOfMemory>
         ensures { IfOk result (λ tests. tests ≡ self.now) }
     {

@@ -27,7 +27,7 @@ abbrev share : ℕ → Row → Row → ℕ
 share t r x = count_of r (row_up_to t x)
 
 -- a row that begins at a time or later is nothing before it
-up_to_late : (t : ℕ) (x : Row) → t ≤ x.begin → row_up_to t x ≡ []
+pub up_to_late : (t : ℕ) (x : Row) → t ≤ x.begin → row_up_to t x ≡ []
 up_to_late t x h = ap {B = List Row} (λ b. cond b (record x { end = min x.end t } ∷ []) []) (le-ltb x.begin (min x.end t) (omega arith))
 
 -- what a cut leaves is the same before its end as the row was

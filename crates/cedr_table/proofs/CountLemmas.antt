@@ -1,5 +1,5 @@
 -- Counts in a map of rows.
-use Rattle.std.proofs.Common.{◌≡◌, ◌≢◌, ℕ, ◌+◌, ◌-◌, ◌*◌, ◌<◌, ◌≤◌, List, [], ◌∷◌, ◌++◌, Bool, true, false, cond, Some, Option, refl, ap, sym, ◌∙◌, subst, arith, length}
+use Rattle.std.proofs.Common.{◌≡◌, ◌≢◌, ℕ, ◌+◌, ◌-◌, ◌*◌, ◌<◌, ◌≤◌, List, [], ◌∷◌, ◌++◌, Bool, true, false, cond, Some, None, Option, refl, ap, sym, ◌∙◌, subst, arith, length, zero, suc}
 use Rattle.std.specs.Prelude.{unwrap_or, sum_by, replicate}
 use Rattle.std.specs.List.Sorted.{IsStrictlySortedBy}
 use Rattle.std.specs.Map.{lookup, keys_of}
@@ -12,6 +12,8 @@ use Rattle.cedr_stream.proofs.BagSums.{same_row_is, same_row_equiv}
 use Rattle.std.proofs.lemmas.List.Sums.{sum_by-cons}
 use Rattle.cedr_base.specs.Changes.{puts, takes}
 use Rattle.cedr_stream.proofs.Moves.{sum_by-moved, remnant_none, remnant_some}
+use Rattle.cedr_base.proofs.Bags.{count_of-cons}
+use Rattle.cedr_stream.proofs.BagSums.{sum_by-same}
 use Rattle.cedr_base.specs.declared.change.Change.{Change}
 use Rattle.cedr_base.specs.declared.change.Change.TheVariants.{Cut}
 use Rattle.std.specs.List.{AllByRecursion}
@@ -121,3 +123,61 @@ counted_cut change row end old new len h ordered there moved is lives =
     let out : length (takes change) ≡ 1 = ap (λ (d : Change). length (takes d)) is in
     let one : length (puts change) ≡ 1 = ap (λ (d : Change). length (puts d)) is ∙ ap (λ (rows : List Row). length rows) (remnant_some row end lives) in
     counted_after change old new len len h ordered there moved (omega (arith, out, one))
+
+taken_all_at : (row q : Row) (old new : List (Row × ℕ)) (b : Bool) → same_row q row ≡ b → lookup (is_at (row_cmp q)) new ≡ cond b None (lookup (is_at (row_cmp q)) old) → copies new q + copies old row * cond b 1 0 ≡ copies old q
+taken_all_at row q old new true h e = let none : copies new q ≡ 0 = ap (λ o. unwrap_or o 0) e in omega (arith, none, ap (copies old) (same_row_exact q row h))
+taken_all_at row q old new false h e = omega (arith, ap (λ o. unwrap_or o 0) e)
+
+-- no copy counts none of its row
+pub taken_all : (row : Row) (old new : List (Row × ℕ)) → IsUpdate row None old new → (q : Row) → copies new q + copies old row * one_if_same q row ≡ copies old q
+taken_all row old new u q = taken_all_at row q old new (same_row q row) refl (u q ∙ ap (λ b. cond b None (lookup (is_at (row_cmp q)) old)) (test_is row q))
+
+-- the same bags have the same length
+pub same_length : (xs ys : List Row) → SameRows xs ys → length xs ≡ length ys
+same_length xs ys h = sym (length_is xs) ∙ (sum_by-same (λ _. 1) xs ys h ∙ length_is ys)
+
+-- one copy more
+pub inserted_is : (row : Row) (old new : List (Row × ℕ)) → IsStrictlySortedBy row_cmp (keys_of old) → IsStrictlySortedBy row_cmp (keys_of new)
+    → ((q : Row) → copies new q ≡ copies old q + one_if_same q row) → SameRows (spread new) (row ∷ spread old)
+inserted_is row old new o n h = record { each = λ q. omega (arith, count_of-cons q row (spread old), count_spread new n q, count_spread old o q, h q) }
+
+pub counted_inserted : (row : Row) (old new : List (Row × ℕ)) (len : ℕ) → IsCounted old len → IsStrictlySortedBy row_cmp (keys_of new) → EachIsThere new → SameRows (spread new) (row ∷ spread old) → IsCounted new (len + 1)
+counted_inserted row old new len h ordered there same = record {
+  ordered = ordered;
+  there = there;
+  len_is = let e = h.len_is in omega (arith, same_length (spread new) (row ∷ spread old) same);
+}
+
+-- all copies less
+pub removed_is : (row : Row) (n : ℕ) (old new : List (Row × ℕ)) → IsStrictlySortedBy row_cmp (keys_of old) → IsStrictlySortedBy row_cmp (keys_of new)
+    → ((q : Row) → copies new q + n * one_if_same q row ≡ copies old q) → SameRows (replicate n row ++ spread new) (spread old)
+removed_is row n old new o k h = record { each = λ q. omega (arith, count_of-append q (replicate n row) (spread new), sum_by-replicate (one_if_same q) n row, count_spread new k q, count_spread old o q, h q) }
+
+replicated : (n : ℕ) (row : Row) (rows : List Row) → length (replicate n row ++ rows) ≡ n + length rows
+replicated zero row rows = omega arith
+replicated (suc n) row rows = omega (arith, replicated n row rows)
+
+pub removed_length : (row : Row) (n len : ℕ) (old new : List (Row × ℕ)) → IsCounted old len → SameRows (replicate n row ++ spread new) (spread old) → length (spread new) + n ≡ len
+removed_length row n len old new h same = let e = h.len_is in omega (arith, replicated n row (spread new), same_length (replicate n row ++ spread new) (spread old) same)
+
+pub counted_removed : (row : Row) (n len : ℕ) (old new : List (Row × ℕ)) → IsCounted old len → IsStrictlySortedBy row_cmp (keys_of new) → EachIsThere new → SameRows (replicate n row ++ spread new) (spread old) → IsCounted new (len - n)
+counted_removed row n len old new h ordered there same = record {
+  ordered = ordered;
+  there = there;
+  len_is = let e = removed_length row n len old new h same in omega arith;
+}
+
+-- one copy less
+pub taken_is : (row : Row) (old new : List (Row × ℕ)) → IsStrictlySortedBy row_cmp (keys_of old) → IsStrictlySortedBy row_cmp (keys_of new)
+    → ((q : Row) → copies new q + one_if_same q row ≡ copies old q) → SameRows (row ∷ spread new) (spread old)
+taken_is row old new o n h = record { each = λ q. omega (arith, count_of-cons q row (spread new), count_spread old o q, count_spread new n q, h q) }
+
+pub counted_taken : (row : Row) (len : ℕ) (old new : List (Row × ℕ)) → IsCounted old len → IsStrictlySortedBy row_cmp (keys_of new) → EachIsThere new → SameRows (row ∷ spread new) (spread old) → IsCounted new (len - 1)
+counted_taken row len old new h ordered there same = record {
+  ordered = ordered;
+  there = there;
+  len_is = let e = h.len_is in omega (arith, same_length (row ∷ spread new) (spread old) same);
+}
+
+pub some_length : (row : Row) (len : ℕ) (old new : List (Row × ℕ)) → IsCounted old len → SameRows (row ∷ spread new) (spread old) → 1 ≤ len
+some_length row len old new h same = let e = h.len_is in omega (arith, same_length (row ∷ spread new) (spread old) same)

@@ -1,9 +1,10 @@
 -- A bag as its rows with their counts.
-use Rattle.std.specs.Prelude.{ℕ, ◌≡◌, ◌≢◌, List, Some, unwrap_or, replicate, length}
+use Rattle.std.specs.Prelude.{ℕ, ◌≡◌, ◌≢◌, ◌<◌, List, true, Some, unwrap_or, replicate, length}
 use Rattle.std.specs.List.{flat_map}
 use Rattle.std.specs.List.Sorted.{IsStrictlySortedBy}
 use Rattle.std.specs.Map.{lookup, keys_of}
 use Rattle.std.specs.BTreeMap.{is_at}
+use Rattle.std.specs.Ordering.{is_le}
 use Rattle.cedr_base.specs.declared.row.Row.{Row}
 use Rattle.cedr_base.specs.declared.change.Change.{Change}
 use Rattle.cedr_base.specs.declared.change.Change.TheVariants.{Add, Cut}
@@ -31,3 +32,8 @@ pub record IsCounted (entries : List (Row × ℕ)) (len : ℕ) : Type 0 where
 abbrev pub LacksRow : List Row → Change → Type 0
 LacksRow rows (Add r) = ⊥
 LacksRow rows (Cut r e) = count_of r rows ≡ 0
+
+-- a row of a bag stands behind no other one in canonical order
+pub record IsFirst (row : Row) (rows : List Row) : Type 0 where
+  pub there : 0 < count_of row rows
+  pub least : (r : Row) → 0 < count_of r rows → is_le (row_cmp row r) ≡ true

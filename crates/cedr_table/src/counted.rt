@@ -1,9 +1,9 @@
-ghost use Rattle.std.specs.Prelude.{◌≡◌, ◌+◌, ◌<◌, ◌++◌, ◌↔◌, OnOk, OnErr, IfOk, IsErrOf, replicate};
+ghost use Rattle.std.specs.Prelude.{◌≡◌, ◌+◌, ◌*◌, ◌<◌, ◌++◌, ◌↔◌, [], OnOk, OnErr, IfOk, IfSome, IfNone, IsErrOf, replicate};
 ghost use Rattle.std.specs.BTreeMap.{IsOrdered};
 ghost use Rattle.cedr_base.specs.declared.row.Row.{Row};
 ghost use Rattle.cedr_base.specs.Rows.{row_cmp, one_if_same, count_of, SameRows};
 ghost use Rattle.cedr_base.specs.Changes.{remnant, puts, takes};
-ghost use Rattle.cedr_table.specs.Counted.{copies, spread, EachIsThere, LacksRow};
+ghost use Rattle.cedr_table.specs.Counted.{copies, spread, EachIsThere, LacksRow, IsFirst};
 ghost use Rattle.cedr_table.specs.declared.fault.TableFault.TheVariants.{NoSuchRow};
 
 use crate::fault::TableFault;
@@ -19,7 +19,7 @@ pub(crate) fn copies_in(map: &BTreeMap<Row, usize>, row: &Row) -> usize
 }
 
 /// Adds a copy of a row. A row with as many copies as a `usize` counts takes no more.
-fn add_one(map: &mut BTreeMap<Row, usize>, row: Row) -> Result<(), OutOfMemory>
+pub(crate) fn add_one(map: &mut BTreeMap<Row, usize>, row: Row) -> Result<(), OutOfMemory>
     requires ordered { IsOrdered row_cmp map.old }
     requires there { EachIsThere map.old.entries }
     ensures ok { OnOk result ((q : Row) → copies map.new.entries q ≡ copies map.old.entries q + one_if_same q row) }
@@ -36,7 +36,7 @@ fn add_one(map: &mut BTreeMap<Row, usize>, row: Row) -> Result<(), OutOfMemory>
 }
 
 /// Takes a copy of a row away.
-fn take_one(map: &mut BTreeMap<Row, usize>, row: &Row)
+pub(crate) fn take_one(map: &mut BTreeMap<Row, usize>, row: &Row)
     requires a_copy { 0 < copies map.old.entries row.now }
     requires there { EachIsThere map.old.entries }
     ensures counts { (q : Row) → copies map.new.entries q + one_if_same q row.now ≡ copies map.old.entries q }
@@ -130,4 +130,28 @@ pub(crate) fn all_rows(alloc: Global, map: &BTreeMap<Row, usize>) -> Result<Vec<
         push_copies(alloc, &mut rows, row, *count)?;
     }
     Ok(rows)
+}
+
+/// The first row in order.
+pub(crate) fn first_row(map: &BTreeMap<Row, usize>) -> Option<&Row>
+    requires ordered { IsOrdered row_cmp map.now }
+    requires there { EachIsThere map.now.entries }
+    ensures some { IfSome result (λ row. IsFirst row.now (spread map.now.entries)) }
+    ensures none { IfNone result (spread map.now.entries ≡ []) }
+{
+    match map.first_key_value() {
+        None => None,
+        Some((row, _)) => Some(row),
+    }
+}
+
+/// Takes all copies of a row away, and says how many there were.
+pub(crate) fn take_all(map: &mut BTreeMap<Row, usize>, row: &Row) -> usize
+    requires there { EachIsThere map.old.entries }
+    ensures count { result ≡ copies map.old.entries row.now }
+    ensures counts { (q : Row) → copies map.new.entries q + result * one_if_same q row.now ≡ copies map.old.entries q }
+    ensures ordered { IsOrdered row_cmp map.new }
+    ensures there { EachIsThere map.new.entries }
+{
+    map.remove(row).unwrap_or(0)
 }

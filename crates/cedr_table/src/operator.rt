@@ -1,10 +1,8 @@
-ghost use Rattle.std.specs.Prelude.{◌≡◌, ◌≤◌, ◌++◌, ◌∷◌, [], ℕ, List, true, OnOk, OnErr, length, replicate};
-ghost use Rattle.cedr_base.specs.declared.time.TheConstants.{FOREVER};
+ghost use Rattle.std.specs.Prelude.{◌≡◌, ◌++◌, ◌∷◌, [], ℕ, List, true, OnOk, OnErr};
 ghost use Rattle.cedr_base.specs.declared.row.Row.{Row};
-ghost use Rattle.cedr_base.specs.declared.change.Change.{Change};
-ghost use Rattle.cedr_base.specs.Rows.{SameRows};
 ghost use Rattle.cedr_stream.specs.Repairs.{IsMoved};
-ghost use Rattle.cedr_table.specs.Operators.{Tables, Meaning, table_at, with_table, CanTake, Gains, AllRise, AreTimes, SameTables, OnlyHolds};
+ghost use Rattle.cedr_table.specs.Operators.{Tables, Meaning, table_at, with_table, CanTake, Gains, AllRise, AreTimes, OnlyHolds};
+ghost use Rattle.cedr_table.specs.OperatorLaws.{OperatorLaws};
 
 use cedr_base::{Change, OutOfMemory, Time};
 use std::alloc::Global;
@@ -61,30 +59,7 @@ pub trait Operator {
         ensures meaning { meaning self.new ≡ meaning self.old }
         ensures stateless { (meaning self.old).stateless ≡ true → self.new ≡ self.old };
 
-    /// There are a table and a mark for each port.
-    ghost sized: { (s : Self) (tables : Tables) (marks : List ℕ) → stands s tables marks → (length tables ≡ (meaning s).ports) × (length marks ≡ (meaning s).ports) };
-
-    /// What stands for some marks stands for greater ones.
-    ghost rising: { (s : Self) (tables : Tables) (marks later : List ℕ) → stands s tables marks → AllRise marks later → stands s tables later };
-
-    /// The state stands for bags.
-    ghost alike: { (s : Self) (tables others : Tables) (marks : List ℕ) → SameTables tables others → stands s tables marks → stands s others marks };
-
-    /// The result depends on bags alone.
-    ghost same_rows: { (s : Self) (tables others : Tables) → SameTables tables others → SameRows ((meaning s).result tables) ((meaning s).result others) };
-
-    /// Nothing comes of empty tables.
-    ghost nothing: { (s : Self) → SameRows ((meaning s).result (replicate (meaning s).ports [])) [] };
-
-    /// The bound never falls while the marks rise.
-    ghost bound_rises: { (s : Self) (tables : Tables) (marks later : List ℕ) → stands s tables marks → AllRise marks later → (meaning s).bound tables marks ≤ (meaning s).bound tables later };
-
-    /// The bound never falls when a legal change comes.
-    ghost bound_stays: { (s : Self) (tables : Tables) (marks : List ℕ) (port : ℕ) (change : Change) (after : List Row) → stands s tables marks → CanTake tables marks port change → IsMoved change (table_at tables port) after → (meaning s).bound tables marks ≤ (meaning s).bound (with_table tables port after) marks };
-
-    /// The bound isn't above `FOREVER`.
-    ghost bound_is_time: { (s : Self) (tables : Tables) (marks : List ℕ) → stands s tables marks → AreTimes marks → (meaning s).bound tables marks ≤ FOREVER };
-
-    /// What echoes has one port, and its bound is that port's mark.
-    ghost echo_bound: { (s : Self) (tables : Tables) (marks : List ℕ) → (meaning s).echoes ≡ true → stands s tables marks → marks ≡ (meaning s).bound tables marks ∷ [] };
+    /// The laws of what it means and of what its state stands for: they depend on bags alone, what stands for some
+    /// marks stands for greater ones, nothing comes of empty tables, and the bound never falls.
+    ghost lawful: { (s : Self) → OperatorLaws (meaning s) (stands s) };
 }

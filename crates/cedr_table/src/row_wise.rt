@@ -213,12 +213,9 @@ fn answer<R: RowWise>(
 }
 
 impl<R: RowWise> Operator for R {
-    ghost use Rattle.std.specs.Prelude.{◌≡◌, length, refl, []};
+    ghost use Rattle.std.specs.Prelude.{[]};
     ghost use Rattle.cedr_table.specs.RowWise.{row_wise, StandsOnOne};
-    ghost use Rattle.cedr_table.specs.Operators.{OnlyHolds};
-    ghost use Rattle.std.proofs.Common.{◌∙◌, refl, arith};
-    ghost use Rattle.cedr_table.specs.PortLaws.{rise_length, rise_at, same_length, same_at, time_at};
-    ghost use Rattle.cedr_stream.proofs.BagSums.{same_flat_map};
+    ghost use Rattle.cedr_table.specs.RowWiseLaws.{row_wise_laws};
 
     ghost meaning = { λ s. row_wise (R.image s) (R.guarantee_at s) };
 
@@ -251,21 +248,5 @@ impl<R: RowWise> Operator for R {
 
     fn trim(&mut self, _marks: &[Time]) {}
 
-    ghost sized = { λ s tables marks h. (h.table, h.mark) };
-
-    ghost rising = { λ s tables marks later h k. record { range = h.range; table = h.table; mark = rise_length marks later k ∙ h.mark } };
-
-    ghost alike = { λ s tables others marks k h. record { range = h.range; table = same_length tables others k ∙ h.table; mark = h.mark } };
-
-    ghost same_rows = { λ s tables others k. same_flat_map (R.image s) _ _ (same_at 0 tables others k) };
-
-    ghost nothing = { λ s. record { each = λ r. refl } };
-
-    ghost bound_rises = { λ s tables marks later h k. R.guarantee_rises s _ _ h.range (rise_at 0 marks later k) };
-
-    ghost bound_stays = { λ s tables marks port change after h k m. Prim.omega arith };
-
-    ghost bound_is_time = { λ s tables marks h k. R.guarantee_is_time s _ h.range (time_at 0 marks k) };
-
-    ghost echo_bound = { λ s tables marks e h. Prim.cc };
+    ghost lawful = { λ s. row_wise_laws (R.in_range s) (R.image s) (R.guarantee_at s) (λ range mark higher. R.guarantee_rises s mark higher range) (λ range mark. R.guarantee_is_time s mark range) };
 }

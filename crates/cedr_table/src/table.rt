@@ -1,10 +1,10 @@
-ghost use Rattle.std.specs.Prelude.{◌≡◌, ◌++◌, [], length, OnOk, OnErr, IfOk, IsErrOf, ◌↔◌};
+ghost use Rattle.std.specs.Prelude.{◌≡◌, ◌<◌, ◌++◌, ◌∷◌, [], length, replicate, OnOk, OnErr, IfOk, IfSome, IfNone, nat_lt, IsErrOf, ◌↔◌};
 ghost use Rattle.cedr_base.specs.Rows.{count_of, in_order, SameRows};
 ghost use Rattle.cedr_base.specs.Changes.{puts, takes};
-ghost use Rattle.cedr_table.specs.Counted.{LacksRow};
+ghost use Rattle.cedr_table.specs.Counted.{LacksRow, IsFirst};
 ghost use Rattle.cedr_table.specs.declared.fault.TableFault.TheVariants.{NoSuchRow};
 
-use crate::counted::{all_rows, change_map, copies_in};
+use crate::counted::{add_one, all_rows, change_map, copies_in, first_row, take_all, take_one};
 use crate::fault::TableFault;
 use cedr_base::{Change, OutOfMemory, Row};
 use std::alloc::Global;
@@ -80,6 +80,51 @@ impl Table {
         ensures { result ≡ length self.now }
     {
         self.len
+    }
+
+    /// Adds a copy of a row. Where memory runs out the table is as before. O(log n) comparisons.
+    pub fn insert(&mut self, row: Row) -> Result<(), OutOfMemory>
+        ensures ok { OnOk result (SameRows self.new (row ∷ self.old)) }
+        ensures err { OnErr result (self.new ≡ self.old) }
+    {
+        if self.len == usize::MAX {
+            return Err(OutOfMemory);
+        }
+        add_one(&mut self.rows, row)?;
+        self.len += 1;
+        Ok(())
+    }
+
+    /// Takes a copy of a row away, and says whether there was one. It takes no memory. O(log n) comparisons.
+    pub fn take(&mut self, row: &Row) -> bool
+        ensures told { result ≡ nat_lt 0 (count_of row.now self.old) }
+        ensures taken { 0 < count_of row.now self.old → SameRows (row.now ∷ self.new) self.old }
+        ensures missing { count_of row.now self.old ≡ 0 → self.new ≡ self.old }
+    {
+        if copies_in(&self.rows, row) == 0 {
+            return false;
+        }
+        take_one(&mut self.rows, row);
+        self.len -= 1;
+        true
+    }
+
+    /// Takes all copies of a row away, and says how many there were. It takes no memory. O(log n) comparisons.
+    pub fn remove(&mut self, row: &Row) -> usize
+        ensures count { result ≡ count_of row.now self.old }
+        ensures removed { SameRows (replicate result row.now ++ self.new) self.old }
+    {
+        let count = take_all(&mut self.rows, row);
+        self.len -= count;
+        count
+    }
+
+    /// The first row in canonical order. It takes no memory. O(log n).
+    pub fn first(&self) -> Option<&Row>
+        ensures some { IfSome result (λ row. IsFirst row.now self.now) }
+        ensures none { IfNone result (self.now ≡ []) }
+    {
+        first_row(&self.rows)
     }
 
     /// Copies of the rows in canonical order, each as often as it is there. O(n).

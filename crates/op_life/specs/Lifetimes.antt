@@ -1,5 +1,5 @@
 -- The operators that make each row's valid interval anew, and what they may promise at a mark.
-use Rattle.std.specs.Prelude.{ℕ, ◌≤◌, ◌^◌, ◌/◌, ◌*◌, List, Some, min, nat_lt, nat_eq, if◌then◌else◌}
+use Rattle.std.specs.Prelude.{ℕ, ◌/◌, ◌*◌, List, Some, min, nat_lt, nat_eq, if◌then◌else◌}
 use Rattle.cedr_base.specs.declared.time.TheConstants.{FOREVER}
 use Rattle.cedr_base.specs.declared.row.Row.{Row}
 use Rattle.cedr_stream.specs.Times.{later}
@@ -9,11 +9,6 @@ use Rattle.cedr_table.specs.RowWise.{made}
 -- the row with another interval, and none where that is empty
 abbrev pub with_life : (ℕ → ℕ → Life) → Row → List Row
 with_life life r = made (life r.begin r.end) (Some r.payload)
-
--- a while is from 1 to 2^40
-pub record IsWhile (d : ℕ) : Type 0 where
-  pub least : 1 ≤ d
-  pub most : d ≤ 2 ^ 40
 
 -- at most for a while from its begin on
 abbrev pub windowed : ℕ → ℕ → ℕ → Life

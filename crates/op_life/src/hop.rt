@@ -1,6 +1,7 @@
 ghost use Rattle.std.specs.Prelude.{◌≡◌, ◌∷◌, [], Some};
 ghost use Rattle.cedr_table.specs.RowWise.{row_wise};
-ghost use Rattle.op_life.specs.Lifetimes.{IsWhile, hopped, hopped_mark, with_life};
+ghost use Rattle.cedr_stream.specs.Times.{IsWhile};
+ghost use Rattle.op_life.specs.Lifetimes.{hopped, hopped_mark, with_life};
 
 use crate::payload::same_payload;
 use cedr_base::{FOREVER, OutOfMemory, Payload, Time, later};

@@ -1,6 +1,7 @@
 ghost use Rattle.std.specs.Prelude.{◌≡◌, ◌∷◌, [], Some};
 ghost use Rattle.cedr_table.specs.RowWise.{row_wise};
-ghost use Rattle.op_life.specs.Lifetimes.{with_life, windowed, IsWhile};
+ghost use Rattle.cedr_stream.specs.Times.{IsWhile};
+ghost use Rattle.op_life.specs.Lifetimes.{with_life, windowed};
 
 use crate::payload::same_payload;
 use cedr_base::{OutOfMemory, Payload, Time, later};

@@ -1,5 +1,5 @@
 -- A change of a port repairs a union.
-use Rattle.std.proofs.Common.{◌≡◌, ℕ, ◌+◌, ◌<◌, ◌≤◌, List, [], ◌∷◌, zero, suc, length, refl, ap, arith}
+use Rattle.std.proofs.Common.{◌≡◌, ℕ, ◌+◌, ◌<◌, ◌≤◌, List, [], ◌∷◌, zero, suc, length, refl, ap, ◌∙◌, arith}
 use Rattle.std.specs.Prelude.{replicate}
 use Rattle.cedr_base.specs.declared.row.Row.{Row}
 use Rattle.cedr_base.specs.declared.change.Change.{Change}
@@ -11,8 +11,9 @@ use Rattle.cedr_stream.specs.Repairs.{IsMoved, Repair}
 use Rattle.cedr_stream.proofs.BagSums.{same_itself}
 use Rattle.cedr_stream.proofs.RepairLemmas.{own_repair}
 use Rattle.cedr_table.specs.Operators.{Tables, table_at, with_table, least_of, SameTables, CanTake}
-use Rattle.cedr_table.specs.PortLaws.{least_below}
-use Rattle.op_row.specs.Unions.{united}
+use Rattle.cedr_table.specs.PortLaws.{least_below, rise_length, same_length, least_rises, least_is_time}
+use Rattle.cedr_table.specs.OperatorLaws.{OperatorLaws}
+use Rattle.op_row.specs.Unions.{united, union_of, StandsOnPorts}
 
 pub same_united : (tables others : Tables) → SameTables tables others → SameRows (united tables) (united others)
 same_united [] [] h = same_itself []
@@ -62,3 +63,16 @@ union_repairs tables marks port c after sizes can moved =
         );
       };
     })
+
+pub union_laws : (ports : ℕ) → OperatorLaws (union_of ports) (StandsOnPorts ports)
+union_laws ports = record {
+  sized = λ tables marks h. (h.table, h.mark);
+  rising = λ tables marks later h k. record { table = h.table; mark = rise_length marks later k ∙ h.mark };
+  alike = λ tables others marks k h. record { table = same_length tables others k ∙ h.table; mark = h.mark };
+  same_rows = same_united;
+  nothing = nothing_united ports;
+  bound_rises = λ tables marks later h k. least_rises marks later k;
+  bound_stays = λ tables marks port change after h k m. omega arith;
+  bound_is_time = λ tables marks h k. least_is_time marks;
+  echo_bound = λ tables marks e h. cc;
+}

@@ -33,11 +33,8 @@ fn hand_on(alloc: Global, change: &Change, out: &mut Vec<Change>) -> Result<(), 
 }
 
 impl Operator for Union {
-    ghost use Rattle.std.proofs.Common.{◌∙◌, arith};
-    ghost use Rattle.cedr_stream.proofs.BagSums.{same_itself};
-    ghost use Rattle.cedr_table.specs.PortLaws.{rise_length, same_length, least_rises, least_is_time};
     ghost use Rattle.op_row.specs.Unions.{StandsOnPorts};
-    ghost use Rattle.op_row.specs.UnionLaws.{same_united, nothing_united};
+    ghost use Rattle.op_row.specs.UnionLaws.{union_laws};
 
     ghost meaning = { λ s. union_of s.ports };
 
@@ -65,21 +62,5 @@ impl Operator for Union {
 
     fn trim(&mut self, _marks: &[Time]) {}
 
-    ghost sized = { λ s tables marks h. (h.table, h.mark) };
-
-    ghost rising = { λ s tables marks later h k. record { table = h.table; mark = rise_length marks later k ∙ h.mark } };
-
-    ghost alike = { λ s tables others marks k h. record { table = same_length tables others k ∙ h.table; mark = h.mark } };
-
-    ghost same_rows = { λ s tables others k. same_united tables others k };
-
-    ghost nothing = { λ s. nothing_united s.ports };
-
-    ghost bound_rises = { λ s tables marks later h k. least_rises marks later k };
-
-    ghost bound_stays = { λ s tables marks port change after h k m. Prim.omega arith };
-
-    ghost bound_is_time = { λ s tables marks h k. least_is_time marks };
-
-    ghost echo_bound = { λ s tables marks e h. Prim.cc };
+    ghost lawful = { λ s. union_laws s.ports };
 }

@@ -1,7 +1,7 @@
 use Rattle.std.proofs.Common.{◌≡◌, ◌<◌, ◌+◌, ◌++◌, ◌∷◌, [], ◌∙◌, ap, sym, subst, refl, List, arith, rules, take, get_or, length}
 use Rattle.std.proofs.lemmas.List.{take_more, take_all}
 use Rattle.cedr_base.specs.declared.change.Message.{Message}
-use Rattle.cedr_drive.specs.Lists.{with_more}
+use Rattle.cedr_laws.specs.Lists.{with_more}
 use Rattle.cedr_drive.specs.Driving.{IsFed}
 use Rattle.cedr_drive.proofs.DriveLemmas.{fed_none, fed_more, works_as, may_take_at}
 use Rattle.cedr_drive.proofs.driver.feed.Goals as goal

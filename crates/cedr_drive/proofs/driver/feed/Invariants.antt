@@ -1,7 +1,7 @@
 use Rattle.std.proofs.Common.{◌≡◌, ◌<◌, List, take, length}
 use Rattle.cedr_base.specs.declared.change.Message.{Message}
 use Rattle.cedr_base.specs.Messages.{IsLegalBehind}
-use Rattle.cedr_drive.specs.Lists.{Lists, list_at}
+use Rattle.cedr_laws.specs.Lists.{Lists, list_at}
 use Rattle.cedr_drive.specs.Driving.{Works, IsFed}
 use Rattle.cedr_drive.proofs.driver.feed.Given as goal
 

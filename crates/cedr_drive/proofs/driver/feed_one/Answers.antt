@@ -39,7 +39,7 @@ returns-in_ok-push_changes-in-Change-clause-fed g c = λ lists given w may0.
       gained = wrapped fixed.changes;
       appended = c.in_ok-push_changes-in-Change.ensures ∙ ap (λ (cs : List Change). c.args.out.now.items ++ wrapped cs) changes_are;
       works = feed_change (op.meaning old) (op.stands old) (op.stands new) marks lists given port w change fixed.changes may stands_now fixed.repair
-          (laws.bound_stays old w.tables marks port change (applied change rows) w.op can moved);
+          ((laws.lawful old).bound_stays w.tables marks port change (applied change rows) w.op can moved);
       no_mark = mark-wrapped fixed.changes;
       echo = λ e. ap (λ (cs : List Change). wrapped cs) (sym changes_are ∙ (c.as_slice.ensures.value ∙ (c.in_ok-apply-in-Change.ensures.echoes e ∙ ap (λ (cs : List Change). cs ++ c.in-Change.change ∷ []) c.new-changes.ensures.items)));
     })
@@ -55,7 +55,7 @@ returns-in-Mark-clause-fed g c = λ lists given w may0.
     subst (λ (m : Message). IsFed (op.meaning old) (op.stands old) (set c.args.marks.now.items c.args.port c.in-Mark.t) lists port (m ∷ []) given c.args.out.now.items c.args.out.now.items) (sym c.in-Mark.is) (record {
       gained = [];
       appended = sym (append-nil c.args.out.now.items);
-      works = feed_mark (op.meaning old) (op.stands old) (op.stands old) marks lists given port w c.in-Mark.t may (laws.rising old w.tables marks _ w.op) (laws.bound_rises old w.tables marks _ w.op);
+      works = feed_mark (op.meaning old) (op.stands old) (op.stands old) marks lists given port w c.in-Mark.t may ((laws.lawful old).rising w.tables marks _ w.op) ((laws.lawful old).bound_rises w.tables marks _ w.op);
       no_mark = refl;
       echo = λ e. refl;
     })

@@ -35,16 +35,16 @@ returns-clause-answers g c = λ lists given d port_is legal.
     let tables = f.works.tables in
     let told : (others : Tables) → SameTables f.works.tables others → c.bound-bound.result ≡ (op.meaning old).bound others marks =
     λ others same.
-    let st = laws.alike mid tables others marks same f.works.op in
+    let st = (laws.lawful mid).alike tables others marks same f.works.op in
     c.bound-bound.ensures others (subst (λ (ms : List ℕ). op.stands mid others ms) (sym c.as_slice.ensures.value) st)
     ∙ (ap (λ (ms : List ℕ). (op.meaning mid).bound others ms) c.as_slice.ensures.value ∙ ap (λ (h : Meaning). h.bound others marks) e.meaning) in
     let alike : (others : Tables) → SameTables f.works.tables others → SameRows ((op.meaning old).result others) ((op.meaning old).result f.works.tables) =
-    λ others same. subst (λ (h : Meaning). SameRows (h.result others) (h.result tables)) e.meaning (laws.same_rows mid others tables (same_tables_back tables others same)) in
+    λ others same. subst (λ (h : Meaning). SameRows (h.result others) (h.result tables)) e.meaning ((laws.lawful mid).same_rows others tables (same_tables_back tables others same)) in
     let time : c.bound-bound.result ≤ FOREVER =
     subst (λ (n : ℕ). n ≤ FOREVER) (sym (told tables (same_tables_itself tables)))
-    (subst (λ (h : Meaning). h.bound tables marks ≤ FOREVER) e.meaning (laws.bound_is_time mid tables marks f.works.op f.works.times)) in
+    (subst (λ (h : Meaning). h.bound tables marks ≤ FOREVER) e.meaning ((laws.lawful mid).bound_is_time tables marks f.works.op f.works.times)) in
     let echo_mark : (op.meaning old).echoes ≡ true → marks ≡ (op.meaning old).bound tables marks ∷ [] =
-    λ h. subst (λ (k : Meaning). marks ≡ k.bound tables marks ∷ []) e.meaning (laws.echo_bound mid tables marks (ap (λ (k : Meaning). k.echoes) e.meaning ∙ h) f.works.op) in
+    λ h. subst (λ (k : Meaning). marks ≡ k.bound tables marks ∷ []) e.meaning ((laws.lawful mid).echo_bound tables marks (ap (λ (k : Meaning). k.echoes) e.meaning ∙ h) f.works.op) in
     let was = subst (λ (ms : List ℕ). op.stands mid tables ms) (sym c.as_slice-2.ensures.value) f.works.op in
     let trimmed = c.trim.ensures.stands tables c.as_slice-2.result.now was (rise_itself c.as_slice-2.result.now) in
     let held = c.trim.ensures.held tables c.as_slice-2.result.now was (rise_itself c.as_slice-2.result.now) in

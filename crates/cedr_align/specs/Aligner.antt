@@ -1,0 +1,33 @@
+-- What an aligner stands for.
+use Rattle.std.specs.Prelude.{◌≡◌, List, [], ◌∷◌, ◌++◌}
+use Rattle.cedr_base.specs.declared.change.Message.{Message}
+use Rattle.cedr_base.specs.Rows.{SameRows}
+use Rattle.cedr_base.specs.Messages.{mark_of, IsLegal}
+use Rattle.cedr_laws.specs.declared.forgotten.Forgotten.{Forgotten}
+use Rattle.cedr_laws.specs.Kept.{high_of, forgotten_of}
+use Rattle.cedr_laws.specs.Pass.{has_end, held, passed_table, passed_of}
+use Rattle.cedr_align.specs.declared.aligner.Aligner.{Aligner}
+use Rattle.cedr_align.specs.declared.fate.Fate.{Fate}
+use Rattle.cedr_align.specs.declared.fate.Fate.TheVariants as fate
+
+-- the aligner stands for a list that it took
+pub record Aligns (a : Aligner) (ms : List Message) : Type 0 where
+  pub legal : IsLegal ms
+  pub mark_is : a.mark ≡ mark_of ms
+  pub high_is : a.high ≡ high_of ms
+  pub ended_is : a.ended ≡ has_end ms
+  pub held_are : SameRows a.held (held a.level ms)
+  pub passed_are : SameRows a.passed (passed_table a.level ms)
+
+-- what a fate lists
+abbrev pub listed : Fate → List Forgotten
+listed fate.Kept = []
+listed (fate.Forgotten f) = f ∷ []
+
+-- the aligner took a message behind a list: it stands for the longer list, passed on what that message passes on,
+-- and said what it forgot
+pub record IsTaken (old new : Aligner) (ms : List Message) (m : Message) (before after : List Message) (fate : Fate) : Type 0 where
+  pub aligns : Aligns new (ms ++ m ∷ [])
+  pub passed_on : after ≡ before ++ passed_of old.level ms m
+  pub fate_is : listed fate ≡ forgotten_of old.level.memory ms m
+  pub same_level : new.level ≡ old.level

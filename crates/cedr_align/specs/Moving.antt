@@ -1,0 +1,32 @@
+-- Rows in order of begin, and rows that move from one list to another.
+use Rattle.std.specs.Prelude.{ℕ, ◌≡◌, ◌<◌, ◌++◌, List, map, replicate, filter, not, Bool, true, false, ◌||◌, nat_lt, Option, Some, None}
+use Rattle.cedr_base.specs.declared.row.Row.{Row}
+use Rattle.cedr_base.specs.declared.change.Change.{Change}
+use Rattle.cedr_base.specs.declared.change.Change.TheVariants.{Add, Cut}
+use Rattle.cedr_base.specs.Rows.{count_of, SameRows}
+
+-- a row with its begin and its end exchanged
+abbrev pub turned : Row → Row
+turned r = record { end = r.begin; begin = r.end; payload = r.payload }
+
+abbrev pub all_turned : List Row → List Row
+all_turned rows = map turned rows
+
+-- a row that a change cuts is there
+abbrev pub HasRow : List Row → Change → Type 0
+HasRow rows (Add r) = Unit {0}
+HasRow rows (Cut r e) = 0 < count_of r rows
+
+-- a row needn't wait for its end, which the mark passed or the list's end did
+abbrev pub has_ended : Bool → ℕ → Row → Bool
+has_ended ended mark r = ended || nat_lt r.end mark
+
+-- All copies of one row that passes a test are taken out of a bag; or none passes, and nothing is.
+abbrev pub IsTakenOut : (Row → Bool) → List Row → List Row → Option (Row × ℕ) → Type 0
+IsTakenOut goes old new None = (new ≡ old) × ((r : Row) → 0 < count_of r old → goes r ≡ false)
+IsTakenOut goes old new (Some p) = (goes p.0 ≡ true) × (0 < p.1) × (p.1 ≡ count_of p.0 old) × SameRows (replicate p.1 p.0 ++ new) old
+
+-- all rows that pass a test moved from one list to another
+pub record IsMovedOut (goes : Row → Bool) (all left before released : List Row) : Type 0 where
+  pub left_are : SameRows left (filter (λ r. not (goes r)) all)
+  pub released_are : SameRows released (before ++ filter goes all)

@@ -1,0 +1,47 @@
+-- What is released from the rows that wait.
+use Rattle.std.specs.Prelude.{ℕ, ◌≡◌, List, [], ◌∷◌, ◌++◌, not, filter, Bool, ◌&&◌, nat_eq, nat_lt, false, if◌then◌else◌, Option, Some, None}
+use Rattle.cedr_base.specs.declared.row.Row.{Row}
+use Rattle.cedr_base.specs.declared.change.Change.{Change}
+use Rattle.cedr_base.specs.declared.change.Change.TheVariants.{Add, Cut}
+use Rattle.cedr_base.specs.Rows.{count_of, SameRows}
+use Rattle.cedr_laws.specs.declared.forgotten.Cause.{Cause}
+use Rattle.cedr_laws.specs.declared.forgotten.Cause.TheVariants.{Late, Orphan}
+use Rattle.cedr_laws.specs.Kept.{is_late}
+use Rattle.cedr_base.specs.declared.change.Message.{Message}
+use Rattle.cedr_laws.specs.Surplus.{Ascend}
+use Rattle.cedr_laws.specs.Pass.{front_at, additions}
+use Rattle.cedr_laws.specs.Lists.{mark_above}
+
+-- the rows that needn't wait, in canonical order
+pub record IsReleased (stays : Row → Bool) (rows released : List Row) : Type 0 where
+  pub ascend : Ascend released
+  pub same : SameRows released (filter (λ r. not (stays r)) rows)
+
+-- the row of a cut is neither held nor passed
+abbrev pub is_missing : List Row → List Row → Change → Bool
+is_missing held passed (Add r) = false
+is_missing held passed (Cut r e) = nat_eq (count_of r held) 0 && nat_eq (count_of r passed) 0
+
+abbrev pub cause_at : Option ℕ → ℕ → List Row → List Row → Change → Option Cause
+cause_at memory high held passed c = if is_late memory high c then Some Late else (if is_missing held passed c then Some Orphan else None)
+
+-- a change that is passed on itself, since its row isn't held; and one of the held rows
+abbrev pub own_of : List Row → Change → List Change
+own_of held (Add r) = []
+own_of held (Cut r e) = if nat_lt 0 (count_of r held) then [] else Cut r e ∷ []
+
+abbrev pub other_of : List Row → Change → List Change
+other_of held (Add r) = Add r ∷ []
+other_of held (Cut r e) = if nat_lt 0 (count_of r held) then Cut r e ∷ [] else []
+
+-- rows were released, put into the passed table and passed on, and then a mark where the front is above another one
+pub record IsSettled (stays : Row → Bool) (ended : Bool) (mark before : ℕ) (held passed : List Row) (out : List Message) (held' passed' : List Row) (out' : List Message) : Type 0 where
+  pub released : List Row
+  pub are : IsReleased stays held released
+  pub held_are : SameRows held' (filter stays held)
+  pub passed_are : SameRows passed' (passed ++ released)
+  pub out_is : out' ≡ out ++ (additions released ++ mark_above before (front_at ended mark held'))
+
+abbrev pub when_kept : Option Cause → List Change → List Change
+when_kept None cs = cs
+when_kept (Some cause) cs = []

@@ -1,0 +1,154 @@
+ghost use Rattle.std.specs.Prelude.{◌≡◌, ◌++◌, ◌∷◌, [], List, IfOk};
+ghost use Rattle.cedr_base.specs.declared.change.Message.{Message};
+ghost use Rattle.cedr_base.specs.declared.change.Message.TheVariants as message;
+ghost use Rattle.cedr_base.specs.Messages.{MayCome};
+ghost use Rattle.cedr_laws.specs.Kept.{high_of};
+ghost use Rattle.cedr_laws.specs.Pass.{front, IsLevel};
+
+use crate::fate::Fate;
+use crate::held::Held;
+use crate::keep::{find_cause, keep_unless};
+use crate::settle::{front_of, settle};
+use cedr_base::{Change, Level, Message, OutOfMemory, Time};
+use cedr_laws::Forgotten;
+use cedr_table::Table;
+use std::alloc::Global;
+
+/// Holds a port's rows back until they may pass.
+///
+/// It stands for the list of messages that it took, which it doesn't keep. Each clause speaks of every list that it
+/// stands for.
+#[derive(Drop)]
+pub struct Aligner {
+    level: Level,
+    mark: Time,
+    high: Time,
+    ended: bool,
+    held: Held,
+    passed: Table,
+}
+
+impl Aligner {
+    ghost use Rattle.cedr_align.specs.Aligner.{Aligns, IsTaken};
+
+    /// An aligner that took nothing. Its block isn't over its memory. It takes no memory.
+    pub fn new(level: Level, alloc: Global) -> Aligner
+        requires { IsLevel level }
+        ensures aligns { Aligns result [] }
+        ensures level { result.level ≡ level }
+    {
+        Aligner {
+            level,
+            mark: 0,
+            high: 0,
+            ended: false,
+            held: Held::new(alloc),
+            passed: Table::new(alloc),
+        }
+    }
+
+    /// The guarantee that is passed on: no row that passes later begins before it. It never falls, and is `FOREVER`
+    /// after `End`. It takes no memory. O(log n) in the rows that wait.
+    pub fn front(&self) -> Time
+        ensures { (ms : List Message) → Aligns self.now ms → result ≡ front self.now.level ms }
+    {
+        front_of(self.ended, self.mark, &self.held)
+    }
+
+    /// The greatest sync or mark that came, 0 at first. It takes no memory.
+    pub fn high(&self) -> Time
+        ensures { (ms : List Message) → Aligns self.now ms → result ≡ high_of ms }
+    {
+        self.high
+    }
+
+    fn take_change(
+        &mut self,
+        alloc: Global,
+        change: Change,
+        out: &mut Vec<Message>,
+    ) -> Result<Fate, OutOfMemory>
+        ensures { IfOk result (λ fate. (ms : List Message) → Aligns self.old ms → MayCome ms (message.Change change) → IsTaken self.old self.new ms (message.Change change) out.old.items out.new.items fate) }
+    {
+        let high = self.high;
+        let before = front_of(self.ended, self.mark, &self.held);
+        let cause = find_cause(self.level.memory, high, &self.held, &self.passed, &change);
+        self.high = high.max(change.sync());
+        keep_unless(alloc, cause, &mut self.held, &mut self.passed, &change, out)?;
+        settle(
+            alloc,
+            self.level.block,
+            self.ended,
+            self.mark,
+            self.high,
+            before,
+            &mut self.held,
+            &mut self.passed,
+            out,
+        )?;
+        match cause {
+            None => Ok(Fate::Kept),
+            Some(cause) => Ok(Fate::Forgotten(Forgotten {
+                change,
+                cause,
+                high,
+            })),
+        }
+    }
+
+    /// Takes a message that may come behind those before it, and appends what it passes on: a retraction of a row
+    /// that passed, the rows that needn't wait any longer in canonical order, the front where it rose, and the end. A
+    /// break passes on itself alone. Where memory runs out the aligner is only to be dropped, and some of this may
+    /// have been appended. O(log n) in the rows that wait and those that passed, for the message and for each row
+    /// that passes.
+    pub fn take(
+        &mut self,
+        alloc: Global,
+        message: Message,
+        out: &mut Vec<Message>,
+    ) -> Result<Fate, OutOfMemory>
+        ensures { IfOk result (λ fate. (ms : List Message) → Aligns self.old ms → MayCome ms message → IsTaken self.old self.new ms message out.old.items out.new.items fate) }
+    {
+        match message {
+            Message::Change(change) => self.take_change(alloc, change, out),
+            Message::Mark(t) => {
+                let before = front_of(self.ended, self.mark, &self.held);
+                self.mark = t;
+                self.high = self.high.max(t);
+                settle(
+                    alloc,
+                    self.level.block,
+                    self.ended,
+                    self.mark,
+                    self.high,
+                    before,
+                    &mut self.held,
+                    &mut self.passed,
+                    out,
+                )?;
+                Ok(Fate::Kept)
+            }
+            Message::End => {
+                let before = front_of(self.ended, self.mark, &self.held);
+                self.ended = true;
+                settle(
+                    alloc,
+                    self.level.block,
+                    self.ended,
+                    self.mark,
+                    self.high,
+                    before,
+                    &mut self.held,
+                    &mut self.passed,
+                    out,
+                )?;
+                out.push(Message::End)?;
+                Ok(Fate::Kept)
+            }
+            Message::Broken => {
+                out.push(Message::Broken)?;
+                Ok(Fate::Kept)
+            }
+        }
+    }
+}

@@ -1,0 +1,252 @@
+ghost use Rattle.std.specs.Prelude.{ℕ, ◌≡◌, ◌<◌, ◌++◌, ◌∷◌, [], List, Option, not, filter, replicate, IfOk, OnOk};
+ghost use Rattle.cedr_base.specs.declared.row.Row.{Row};
+ghost use Rattle.cedr_base.specs.Rows.{count_of, SameRows};
+ghost use Rattle.cedr_base.specs.Changes.{puts, takes};
+ghost use Rattle.cedr_laws.specs.Pass.{is_blocked, is_held, least_begin};
+ghost use Rattle.cedr_align.specs.Moving.{turned, HasRow, has_ended, IsTakenOut, IsMovedOut};
+ghost use Rattle.cedr_align.specs.Released.{IsReleased};
+
+use cedr_base::{Change, OutOfMemory, Row, Time, sort_rows};
+use cedr_table::Table;
+use std::alloc::Global;
+use std::marker::Model;
+
+/// A bag of rows that wait, in two orders: by end, and by begin.
+///
+/// A row leaves by its end where the mark passed it, and by its begin where the block did. The second table has
+/// each row with its begin and its end exchanged, so that its canonical order is that of the begins.
+#[derive(Drop)]
+pub(crate) struct Held {
+    by_end: Table,
+    by_begin: Table,
+}
+
+impl Model for Held {
+    ghost use Rattle.std.specs.Prelude.{List};
+    ghost use Rattle.cedr_base.specs.declared.row.Row.{Row};
+    ghost use Rattle.cedr_base.specs.Rows.{SameRows};
+    ghost use Rattle.cedr_align.specs.Moving.{all_turned};
+
+    ghost Value = { List Row };
+
+    ghost view = { λ h. h.by_end };
+
+    ghost invariant = { λ h. SameRows h.by_begin (all_turned h.by_end) };
+}
+
+/// The block has passed for a row that begins at this time.
+fn has_passed(block: Option<u64>, high: Time, begin: Time) -> bool
+    ensures { (r : Row) → r.begin ≡ begin → result ≡ not (is_blocked block high r) }
+{
+    match block {
+        None => false,
+        Some(block) => begin <= high && block <= high - begin,
+    }
+}
+
+/// The row with its begin and its end exchanged.
+fn turn(row: Row) -> Row
+    ensures { result ≡ turned row }
+{
+    Row {
+        end: row.begin,
+        begin: row.end,
+        payload: row.payload,
+    }
+}
+
+impl Held {
+    /// No row waits. It takes no memory.
+    pub(crate) fn new(alloc: Global) -> Held
+        ensures { result ≡ [] }
+    {
+        Held {
+            by_end: Table::new(alloc),
+            by_begin: Table::new(alloc),
+        }
+    }
+
+    /// How many copies of a row wait.
+    pub(crate) fn count(&self, row: &Row) -> usize
+        ensures { result ≡ count_of row.now self.now }
+    {
+        self.by_end.count(row)
+    }
+
+    /// Adds a row.
+    fn insert(&mut self, alloc: Global, row: &Row) -> Result<(), OutOfMemory>
+        ensures ok { OnOk result (SameRows self.new (row.now ∷ self.old)) }
+    {
+        let other = turn(row.copy(alloc)?);
+        let copied = row.copy(alloc)?;
+        self.by_end.insert(copied)?;
+        match self.by_begin.insert(other) {
+            Ok(()) => Ok(()),
+            Err(OutOfMemory) => {
+                self.by_end.take(row);
+                Err(OutOfMemory)
+            }
+        }
+    }
+
+    /// Takes a copy of a row away.
+    fn take(&mut self, row: &Row, other: &Row)
+        requires there { 0 < count_of row.now self.old }
+        requires other { other.now ≡ turned row.now }
+        ensures { SameRows (row.now ∷ self.new) self.old }
+    {
+        self.by_end.take(row);
+        self.by_begin.take(other);
+    }
+
+    /// Applies a change of a row that waits, or an addition.
+    pub(crate) fn apply(&mut self, alloc: Global, change: &Change) -> Result<(), OutOfMemory>
+        requires { HasRow self.old change.now }
+        ensures ok { OnOk result (SameRows (self.new ++ takes change.now) (self.old ++ puts change.now)) }
+    {
+        match change {
+            Change::Add(row) => self.insert(alloc, row),
+            Change::Cut(row, end) => {
+                let other = turn(row.copy(alloc)?);
+                if row.begin < *end {
+                    let mut shorter = row.copy(alloc)?;
+                    shorter.end = *end;
+                    self.insert(alloc, &shorter)?;
+                }
+                self.take(row, &other);
+                Ok(())
+            }
+        }
+    }
+
+    /// Takes all copies of a row away, and gives the row back with their number.
+    fn remove(&mut self, row: Row) -> (Row, usize)
+        ensures row { result.0 ≡ row }
+        ensures count { result.1 ≡ count_of row self.old }
+        ensures removed { SameRows (replicate result.1 row ++ self.new) self.old }
+    {
+        let count = self.by_end.remove(&row);
+        let other = turn(row);
+        self.by_begin.remove(&other);
+        (turn(other), count)
+    }
+}
+
+/// Appends this many copies of a row.
+fn push_copies(
+    alloc: Global,
+    rows: &mut Vec<Row>,
+    row: &Row,
+    count: usize,
+) -> Result<(), OutOfMemory>
+    ensures { OnOk result (rows.new.items ≡ rows.old.items ++ replicate count row.now) }
+{
+    for _ in 0..count {
+        let copied = row.copy(alloc)?;
+        rows.push(copied)?;
+    }
+    Ok(())
+}
+
+impl Held {
+    /// Takes out the first row by end, where it needn't wait for its end.
+    fn take_ended(
+        &mut self,
+        alloc: Global,
+        ended: bool,
+        mark: Time,
+    ) -> Result<Option<(Row, usize)>, OutOfMemory>
+        ensures { IfOk result (λ found. IsTakenOut (has_ended ended mark) self.old self.new found) }
+    {
+        match self.by_end.first() {
+            Some(row) if ended || row.end < mark => {
+                let row = row.copy(alloc)?;
+                Ok(Some(self.remove(row)))
+            }
+            _ => Ok(None),
+        }
+    }
+
+    /// Takes out the first row by begin, where the block has passed for it.
+    fn take_unblocked(
+        &mut self,
+        alloc: Global,
+        block: Option<u64>,
+        high: Time,
+    ) -> Result<Option<(Row, usize)>, OutOfMemory>
+        ensures { IfOk result (λ found. IsTakenOut (λ r. not (is_blocked block high r)) self.old self.new found) }
+    {
+        match self.by_begin.first() {
+            None => Ok(None),
+            Some(other) => {
+                if !has_passed(block, high, other.end) {
+                    return Ok(None);
+                }
+                let row = turn(other.copy(alloc)?);
+                Ok(Some(self.remove(row)))
+            }
+        }
+    }
+
+    /// Moves out the rows that needn't wait for their ends.
+    fn release_ended(
+        &mut self,
+        alloc: Global,
+        ended: bool,
+        mark: Time,
+        released: &mut Vec<Row>,
+    ) -> Result<(), OutOfMemory>
+        ensures { OnOk result (IsMovedOut (has_ended ended mark) self.old self.new released.old.items released.new.items) }
+    {
+        while let Some((row, count)) = self.take_ended(alloc, ended, mark)? {
+            push_copies(alloc, released, &row, count)?;
+        }
+        Ok(())
+    }
+
+    /// Moves out the rows for which the block has passed.
+    fn release_unblocked(
+        &mut self,
+        alloc: Global,
+        block: Option<u64>,
+        high: Time,
+        released: &mut Vec<Row>,
+    ) -> Result<(), OutOfMemory>
+        ensures { OnOk result (IsMovedOut (λ r. not (is_blocked block high r)) self.old self.new released.old.items released.new.items) }
+    {
+        while let Some((row, count)) = self.take_unblocked(alloc, block, high)? {
+            push_copies(alloc, released, &row, count)?;
+        }
+        Ok(())
+    }
+
+    /// Takes out the rows that needn't wait any longer, in canonical order. O(log n) for each of them and for one
+    /// that stays.
+    pub(crate) fn release(
+        &mut self,
+        alloc: Global,
+        block: Option<u64>,
+        ended: bool,
+        mark: Time,
+        high: Time,
+    ) -> Result<Vec<Row>, OutOfMemory>
+        ensures kept { OnOk result (SameRows self.new (filter (is_held block ended mark high) self.old)) }
+        ensures released { IfOk result (λ rows. IsReleased (is_held block ended mark high) self.old rows.items) }
+    {
+        let mut released = Vec::new(alloc);
+        self.release_ended(alloc, ended, mark, &mut released)?;
+        self.release_unblocked(alloc, block, high, &mut released)?;
+        sort_rows(&mut released)?;
+        Ok(released)
+    }
+
+    /// The least of a time and the begins of the rows.
+    pub(crate) fn least_begin(&self, time: Time) -> Time
+        ensures { result ≡ least_begin time self.now }
+    {
+        match self.by_begin.first() {
+            None => time,
+            Some(other) => time.min(other.end),
+        }
+    }
+}

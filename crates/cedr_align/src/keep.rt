@@ -1,0 +1,109 @@
+ghost use Rattle.std.specs.Prelude.{◌≡◌, ◌++◌, ◌∷◌, [], OnOk, Option};
+ghost use Rattle.cedr_base.specs.Rows.{SameRows};
+ghost use Rattle.cedr_base.specs.declared.change.Message.TheVariants as message;
+ghost use Rattle.cedr_base.specs.Changes.{puts, takes, all_puts, all_takes};
+ghost use Rattle.cedr_stream.specs.Repairs.{wrapped};
+ghost use Rattle.cedr_laws.specs.Kept.{is_late};
+ghost use Rattle.cedr_align.specs.Released.{own_of, other_of, when_kept, cause_at};
+
+use crate::held::Held;
+use cedr_base::{Change, Message, OutOfMemory, Time};
+use cedr_laws::Cause;
+use cedr_table::Table;
+use std::alloc::Global;
+
+/// A change is seen more than the memory before the greatest time that came.
+fn comes_late(memory: Option<u64>, high: Time, change: &Change) -> bool
+    ensures { result ≡ is_late memory high change.now }
+{
+    let sync = change.sync();
+    match memory {
+        None => false,
+        Some(memory) => sync < high && high - sync > memory,
+    }
+}
+
+/// Why a change is forgotten, if it is.
+pub(crate) fn find_cause(
+    memory: Option<u64>,
+    high: Time,
+    held: &Held,
+    passed: &Table,
+    change: &Change,
+) -> Option<Cause>
+    ensures { result ≡ cause_at memory high held.now passed.now change.now }
+{
+    if comes_late(memory, high, change) {
+        return Some(Cause::Late);
+    }
+    match change {
+        Change::Add(_) => None,
+        Change::Cut(row, _) => {
+            if held.count(row) == 0 && passed.count(row) == 0 {
+                Some(Cause::Orphan)
+            } else {
+                None
+            }
+        }
+    }
+}
+
+/// Applies a retraction to the passed rows, and passes it on.
+fn cut_passed(
+    alloc: Global,
+    passed: &mut Table,
+    change: &Change,
+    out: &mut Vec<Message>,
+) -> Result<(), OutOfMemory>
+    ensures passed { OnOk result (SameRows (passed.new ++ takes change.now) (passed.old ++ puts change.now)) }
+    ensures out { OnOk result (out.new.items ≡ out.old.items ++ message.Change change.now ∷ []) }
+{
+    if passed.apply(change).is_err() {
+        return Err(OutOfMemory);
+    }
+    let copied = change.copy(alloc)?;
+    out.push(Message::Change(copied))?;
+    Ok(())
+}
+
+/// Applies a kept change to the held rows or to the passed ones, and passes it on there.
+fn keep(
+    alloc: Global,
+    held: &mut Held,
+    passed: &mut Table,
+    change: &Change,
+    out: &mut Vec<Message>,
+) -> Result<(), OutOfMemory>
+    ensures held { OnOk result (SameRows (held.new ++ all_takes (other_of held.old change.now)) (held.old ++ all_puts (other_of held.old change.now))) }
+    ensures passed { OnOk result (SameRows (passed.new ++ all_takes (own_of held.old change.now)) (passed.old ++ all_puts (own_of held.old change.now))) }
+    ensures out { OnOk result (out.new.items ≡ out.old.items ++ wrapped (own_of held.old change.now)) }
+{
+    match change {
+        Change::Add(_) => held.apply(alloc, change),
+        Change::Cut(row, _) => {
+            if held.count(row) > 0 {
+                return held.apply(alloc, change);
+            }
+            cut_passed(alloc, passed, change, out)
+        }
+    }
+}
+
+/// The same, where there is no cause to forget the change.
+pub(crate) fn keep_unless(
+    alloc: Global,
+    cause: Option<Cause>,
+    held: &mut Held,
+    passed: &mut Table,
+    change: &Change,
+    out: &mut Vec<Message>,
+) -> Result<(), OutOfMemory>
+    ensures held { OnOk result (SameRows (held.new ++ all_takes (when_kept cause (other_of held.old change.now))) (held.old ++ all_puts (when_kept cause (other_of held.old change.now)))) }
+    ensures passed { OnOk result (SameRows (passed.new ++ all_takes (when_kept cause (own_of held.old change.now))) (passed.old ++ all_puts (when_kept cause (own_of held.old change.now)))) }
+    ensures out { OnOk result (out.new.items ≡ out.old.items ++ wrapped (when_kept cause (own_of held.old change.now))) }
+{
+    match cause {
+        None => keep(alloc, held, passed, change, out),
+        Some(_) => Ok(()),
+    }
+}

@@ -1,0 +1,71 @@
+ghost use Rattle.std.specs.Prelude.{◌≡◌, ◌++◌, OnOk, Option};
+ghost use Rattle.cedr_base.specs.Rows.{SameRows};
+ghost use Rattle.cedr_laws.specs.Lists.{mark_above};
+ghost use Rattle.cedr_laws.specs.Pass.{front_at, is_held, additions};
+ghost use Rattle.cedr_align.specs.Released.{IsSettled};
+
+use crate::held::Held;
+use cedr_base::{Change, FOREVER, Message, OutOfMemory, Row, Time};
+use cedr_table::Table;
+use std::alloc::Global;
+
+/// Puts rows into the passed table, and passes on their additions.
+fn add_rows(
+    alloc: Global,
+    rows: &[Row],
+    passed: &mut Table,
+    out: &mut Vec<Message>,
+) -> Result<(), OutOfMemory>
+    ensures passed { OnOk result (SameRows passed.new (passed.old ++ rows.now)) }
+    ensures out { OnOk result (out.new.items ≡ out.old.items ++ additions rows.now) }
+{
+    for row in rows {
+        let copied = row.copy(alloc)?;
+        passed.insert(copied)?;
+        let handed = row.copy(alloc)?;
+        out.push(Message::Change(Change::Add(handed)))?;
+    }
+    Ok(())
+}
+
+/// Passes a mark on where it is above an earlier one.
+fn push_mark(before: Time, front: Time, out: &mut Vec<Message>) -> Result<(), OutOfMemory>
+    ensures { OnOk result (out.new.items ≡ out.old.items ++ mark_above before front) }
+{
+    if front > before {
+        out.push(Message::Mark(front))?;
+    }
+    Ok(())
+}
+
+/// The guarantee that is passed on. O(log n) in the rows that wait.
+pub(crate) fn front_of(ended: bool, mark: Time, held: &Held) -> Time
+    ensures { result ≡ front_at ended mark held.now }
+{
+    if ended {
+        FOREVER
+    } else {
+        held.least_begin(mark)
+    }
+}
+
+/// Lets the rows pass that needn't wait any longer, and then the front where it rose above an earlier one.
+pub(crate) fn settle(
+    alloc: Global,
+    block: Option<u64>,
+    ended: bool,
+    mark: Time,
+    high: Time,
+    before: Time,
+    held: &mut Held,
+    passed: &mut Table,
+    out: &mut Vec<Message>,
+) -> Result<(), OutOfMemory>
+    ensures { OnOk result (IsSettled (is_held block ended mark high) ended mark before held.old passed.old out.old.items held.new passed.new out.new.items) }
+{
+    let rows = held.release(alloc, block, ended, mark, high)?;
+    add_rows(alloc, rows.as_slice(), passed, out)?;
+    let front = front_of(ended, mark, held);
+    push_mark(before, front, out)?;
+    Ok(())
+}

@@ -1,0 +1,232 @@
+ghost use Rattle.cedr_laws.specs.Pass.{IsLevel};
+
+use super::*;
+use cedr_base::{Change, FOREVER, Field, Level, Message, OutOfMemory, Payload, Row, Time};
+use cedr_laws::Cause;
+use std::alloc::Global;
+use std::test::Fail;
+
+/// What a message says: an insertion of a row, a retraction of one to an end, a mark, the end, or a break. A row's
+/// payload is a number, which stands first.
+#[derive(Clone, Copy, Debug, PartialEq, Eq)]
+enum Told {
+    Add(i128, Time, Time),
+    Cut(i128, Time, Time, Time),
+    Mark(Time),
+    End,
+    Broken,
+}
+
+/// What became of a message.
+#[derive(Clone, Copy, Debug, PartialEq, Eq)]
+enum Became {
+    Kept,
+    Late(Time),
+    Orphan(Time),
+}
+
+fn row(alloc: Global, number: i128, begin: Time, end: Time) -> Result<Row, OutOfMemory> {
+    let mut payload = Payload::new(alloc);
+    payload.push(Field::Number(number))?;
+    Ok(Row {
+        end,
+        begin,
+        payload,
+    })
+}
+
+fn message(alloc: Global, told: Told) -> Result<Message, OutOfMemory> {
+    match told {
+        Told::Add(number, begin, end) => {
+            Ok(Message::Change(Change::Add(row(alloc, number, begin, end)?)))
+        }
+        Told::Cut(number, begin, end, earlier) => {
+            Ok(Message::Change(Change::Cut(row(alloc, number, begin, end)?, earlier)))
+        }
+        Told::Mark(time) => Ok(Message::Mark(time)),
+        Told::End => Ok(Message::End),
+        Told::Broken => Ok(Message::Broken),
+    }
+}
+
+fn number_of(row: &Row) -> i128 {
+    match row.payload.fields().first() {
+        Some(Field::Number(number)) => *number,
+        _ => -1,
+    }
+}
+
+fn tell(message: &Message) -> Told {
+    match message {
+        Message::Change(Change::Add(row)) => Told::Add(number_of(row), row.begin, row.end),
+        Message::Change(Change::Cut(row, end)) => {
+            Told::Cut(number_of(row), row.begin, row.end, *end)
+        }
+        Message::Mark(time) => Told::Mark(*time),
+        Message::End => Told::End,
+        Message::Broken => Told::Broken,
+    }
+}
+
+fn tell_fate(fate: Fate) -> Became {
+    match fate {
+        Fate::Kept => Became::Kept,
+        Fate::Forgotten(forgotten) => match forgotten.cause {
+            Cause::Late => Became::Late(forgotten.high),
+            Cause::Orphan => Became::Orphan(forgotten.high),
+        },
+    }
+}
+
+/// What an aligner passes on of a message, and what becomes of it.
+fn take(
+    alloc: Global,
+    aligner: &mut Aligner,
+    told: Told,
+) -> Result<(Vec<Told>, Became), OutOfMemory> {
+    let mut out = Vec::new(alloc);
+    let fate = aligner.take(alloc, message(alloc, told)?, &mut out)?;
+    let mut passed = Vec::new(alloc);
+    for message in &out {
+        passed.push(tell(message))?;
+    }
+    Ok((passed, tell_fate(fate)))
+}
+
+const STRONG: Level = Level {
+    block: None,
+    memory: None,
+};
+
+const MIDDLE: Level = Level {
+    block: Some(0),
+    memory: None,
+};
+
+#[test]
+fn rows_wait_for_a_block(rt: HostRuntime) -> Result<(), Fail> {
+    let alloc = rt.alloc();
+    let level = Level {
+        block: Some(3),
+        memory: None,
+    };
+    let mut aligner = Aligner::new(level, alloc);
+    let (none, _) = take(alloc, &mut aligner, Told::Add(1, 1, 9))?;
+    assert_eq!(rt; none.len(), 0);
+    let (first, _) = take(alloc, &mut aligner, Told::Add(2, 4, 9))?;
+    assert_eq!(rt; first.as_slice(), [Told::Add(1, 1, 9)].as_slice());
+    let (mark, _) = take(alloc, &mut aligner, Told::Mark(2))?;
+    assert_eq!(rt; mark.as_slice(), [Told::Mark(2)].as_slice());
+    let (cut, fate) = take(alloc, &mut aligner, Told::Cut(2, 4, 9, 5))?;
+    assert_eq!(rt; (cut.len(), fate), (0, Became::Kept));
+    let (second, _) = take(alloc, &mut aligner, Told::Mark(7))?;
+    assert_eq!(rt;
+        second.as_slice(),
+        [Told::Add(2, 4, 5), Told::Mark(7)].as_slice()
+    );
+    assert_eq!(rt; (aligner.front(), aligner.high()), (7, 7));
+    Ok(())
+}
+
+#[test]
+fn what_is_late_or_missing_is_forgotten(rt: HostRuntime) -> Result<(), Fail> {
+    let alloc = rt.alloc();
+    let level = Level {
+        block: Some(0),
+        memory: Some(5),
+    };
+    let mut aligner = Aligner::new(level, alloc);
+    for (told, passes, wanted) in [
+        (Told::Add(1, 1, 2), true, Became::Kept),
+        (Told::Add(2, 20, 30), true, Became::Kept),
+        (Told::Add(3, 10, 40), false, Became::Late(20)),
+        (Told::Cut(3, 10, 40, 25), false, Became::Orphan(20)),
+        (Told::Add(4, 20, 21), true, Became::Kept),
+        (Told::Add(5, 19, 21), false, Became::Late(25)),
+    ] {
+        let (passed, fate) = take(alloc, &mut aligner, told)?;
+        assert_eq!(rt; fate, wanted, "{told:?}");
+        let only = if passes { Some(told) } else { None };
+        assert_eq!(rt; passed.as_slice(), only.as_slice(), "{told:?}");
+    }
+    assert_eq!(rt; aligner.high(), 25);
+    Ok(())
+}
+
+#[test]
+fn a_strong_port_waits_for_ends(rt: HostRuntime) -> Result<(), Fail> {
+    let alloc = rt.alloc();
+    let mut aligner = Aligner::new(STRONG, alloc);
+    for told in [
+        Told::Add(1, 1, 5),
+        Told::Add(2, 2, 9),
+        Told::Add(3, 1, 5),
+        Told::Add(4, 0, 6),
+    ] {
+        let (passed, _) = take(alloc, &mut aligner, told)?;
+        assert_eq!(rt; passed.len(), 0);
+    }
+    let (passed, _) = take(alloc, &mut aligner, Told::Mark(6))?;
+    assert_eq!(rt;
+        passed.as_slice(),
+        [Told::Add(1, 1, 5), Told::Add(3, 1, 5)].as_slice()
+    );
+    let (cut, _) = take(alloc, &mut aligner, Told::Cut(2, 2, 9, 6))?;
+    assert_eq!(rt; cut.len(), 0);
+    let (end, _) = take(alloc, &mut aligner, Told::End)?;
+    let wanted = [
+        Told::Add(4, 0, 6),
+        Told::Add(2, 2, 6),
+        Told::Mark(FOREVER),
+        Told::End,
+    ];
+    assert_eq!(rt; end.as_slice(), wanted.as_slice());
+    assert_eq!(rt; aligner.front(), FOREVER);
+    Ok(())
+}
+
+#[test]
+fn a_middle_port_passes_at_once(rt: HostRuntime) -> Result<(), Fail> {
+    let alloc = rt.alloc();
+    let mut aligner = Aligner::new(MIDDLE, alloc);
+    for told in [
+        Told::Add(1, 8, 9),
+        Told::Add(1, 8, 9),
+        Told::Add(2, 3, FOREVER),
+        Told::Cut(1, 8, 9, 8),
+        Told::Mark(4),
+        Told::Cut(2, 3, FOREVER, 4),
+        Told::Broken,
+    ] {
+        let (passed, fate) = take(alloc, &mut aligner, told)?;
+        assert_eq!(rt;
+            (passed.as_slice(), fate),
+            ([told].as_slice(), Became::Kept)
+        );
+    }
+    Ok(())
+}
+
+#[test]
+fn many_rows_are_held_and_released_in_order(rt: HostRuntime) -> Result<(), Fail> {
+    let alloc = rt.alloc();
+    let mut aligner = Aligner::new(STRONG, alloc);
+    let mut out = Vec::new(alloc);
+    for i in 0..65_536u64 {
+        let end = 1 + i * 40_503 % 65_536;
+        aligner.take(
+            alloc,
+            Message::Change(Change::Add(row(alloc, 1, 0, end)?)),
+            &mut out,
+        )?;
+    }
+    assert_eq!(rt; out.len(), 0);
+    for mark in 1..65_538u64 {
+        aligner.take(alloc, Message::Mark(mark), &mut out)?;
+    }
+    assert_eq!(rt; out.len(), 65_537);
+    for (end, message) in (1..65_537u64).zip(&out) {
+        assert!(rt; tell(message) == Told::Add(1, 0, end));
+    }
+    Ok(())
+}

@@ -1,0 +1,10 @@
+pub mod Order
+pub mod Grows
+pub mod Induct
+pub mod Holds
+pub mod Splits
+pub mod Steps
+pub mod Passes
+pub mod Strong
+pub mod Recent
+pub mod PassedAgree

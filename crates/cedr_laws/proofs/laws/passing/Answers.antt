@@ -1,0 +1,15 @@
+use Rattle.cedr_laws.proofs.Passes.{passes}
+use Rattle.cedr_laws.proofs.PassedAgree.{passed_agrees}
+use Rattle.cedr_laws.proofs.laws.passing.Goals as goal
+
+pub returns-clause-legal : goal.returns-clause-legal
+returns-clause-legal c = λ level ms legal. (passes level ms legal).legal
+
+pub returns-clause-table : goal.returns-clause-table
+returns-clause-table c = λ level ms legal. (passes level ms legal).table
+
+pub returns-clause-mark : goal.returns-clause-mark
+returns-clause-mark c = λ level ms legal. (passes level ms legal).mark
+
+pub returns-clause-agree : goal.returns-clause-agree
+returns-clause-agree c = passed_agrees
