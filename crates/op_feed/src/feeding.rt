@@ -1,0 +1,143 @@
+ghost use Rattle.std.specs.Prelude.{◌≡◌, ◌++◌, ◌<◌, [], true, OnOk, IfOk, length, replicate};
+ghost use Rattle.cedr_base.specs.Rows.{IsRow, SameRows};
+ghost use Rattle.cedr_base.specs.Changes.{MayFollow, puts, takes};
+
+use cedr_base::{Change, FOREVER, Field, OutOfMemory, Payload, Row, Time};
+use cedr_table::{Operator, Table};
+use std::alloc::Global;
+
+/// A change that is fed: its port, the begin and the end of its row, where the row is cut to, and the number that is
+/// the row's payload.
+pub type Given = (usize, Time, Time, Option<Time>, i128);
+
+/// A change that is wanted: the begin and the end of its row, where the row is cut to, and the numbers of its payload.
+pub type Wanted<'a> = (Time, Time, Option<Time>, &'a [i128]);
+
+fn is_row(row: &Row) -> bool
+    ensures { result ≡ true → IsRow row.now }
+{
+    row.begin < row.end && row.begin < FOREVER && row.end <= FOREVER
+}
+
+/// Whether a change may come on a port with this table.
+fn may_come(table: &Table, change: &Change) -> bool
+    ensures { result ≡ true → MayFollow table.now [] change.now }
+{
+    match change {
+        Change::Add(row) => is_row(row),
+        Change::Cut(row, end) => {
+            is_row(row) && row.begin <= *end && *end < row.end && table.count(row) > 0
+        }
+    }
+}
+
+/// Applies a change that may come.
+fn note(table: &mut Table, change: &Change) -> Result<(), OutOfMemory>
+    ensures { OnOk result (SameRows (table.new ++ takes change.now) (table.old ++ puts change.now)) }
+{
+    match table.apply(change) {
+        Ok(()) => Ok(()),
+        Err(_) => Err(OutOfMemory),
+    }
+}
+
+/// Feeds an operator with a change where it may come: the answer says whether it was. The tables are those of the
+/// operator's ports, and all marks are 0.
+pub fn feed<O: Operator>(
+    alloc: Global,
+    op: &mut O,
+    tables: &mut Vec<Table>,
+    port: usize,
+    change: &Change,
+    out: &mut Vec<Change>,
+) -> Result<bool, OutOfMemory>
+    requires { O.stands op.old tables.old.items (replicate (length tables.old.items) 0) }
+    ensures { OnOk result (O.stands op.new tables.new.items (replicate (length tables.new.items) 0)) }
+{
+    if port >= tables.len() || !may_come(&tables[port], change) {
+        return Ok(false);
+    }
+    op.apply(alloc, port, change, out)?;
+    note(&mut tables[port], change)?;
+    Ok(true)
+}
+
+/// The tables of an operator's ports to which no change has come.
+pub fn no_tables(alloc: Global, ports: usize) -> Result<Vec<Table>, OutOfMemory>
+    ensures { IfOk result (λ tables. tables.items ≡ replicate ports []) }
+{
+    let mut tables = Vec::new(alloc);
+    for _ in 0..ports {
+        tables.push(Table::new(alloc))?;
+    }
+    Ok(tables)
+}
+
+/// A change of a row whose payload is numbers: to its begin and its end, or cut to an earlier end.
+pub fn change_of(
+    alloc: Global,
+    begin: Time,
+    end: Time,
+    to: Option<Time>,
+    numbers: &[i128],
+) -> Result<Change, OutOfMemory> {
+    let mut payload = Payload::new(alloc);
+    for number in numbers {
+        payload.push(Field::Number(*number))?;
+    }
+    let row = Row {
+        end,
+        begin,
+        payload,
+    };
+    match to {
+        None => Ok(Change::Add(row)),
+        Some(time) => Ok(Change::Cut(row, time)),
+    }
+}
+
+fn is_same(one: &Change, other: &Change) -> bool {
+    match (one, other) {
+        (Change::Add(row), Change::Add(other_row)) => *row == *other_row,
+        (Change::Cut(row, end), Change::Cut(other_row, other_end)) => {
+            *row == *other_row && *end == *other_end
+        }
+        _ => false,
+    }
+}
+
+/// Whether these are the wanted changes, in this order.
+fn are_wanted(alloc: Global, out: &[Change], wanted: &[Wanted]) -> Result<bool, OutOfMemory> {
+    if out.len() != wanted.len() {
+        return Ok(false);
+    }
+    for (i, (begin, end, to, numbers)) in wanted.iter().enumerate() {
+        let change = change_of(alloc, *begin, *end, *to, numbers)?;
+        if !is_same(&out[i], &change) {
+            return Ok(false);
+        }
+    }
+    Ok(true)
+}
+
+/// Feeds a new operator with changes, up to the first one that may not come. Whether all of them were fed, and the
+/// operator answered them by the wanted ones, in this order.
+pub fn gives<O: Operator>(
+    alloc: Global,
+    op: &mut O,
+    ports: usize,
+    given: &[Given],
+    wanted: &[Wanted],
+) -> Result<bool, OutOfMemory>
+    requires { O.stands op.old (replicate ports []) (replicate ports 0) }
+{
+    let mut tables = no_tables(alloc, ports)?;
+    let mut out = Vec::new(alloc);
+    for (port, begin, end, to, number) in given {
+        let change = change_of(alloc, *begin, *end, *to, &[*number])?;
+        if !feed(alloc, op, &mut tables, *port, &change, &mut out)? {
+            return Ok(false);
+        }
+    }
+    are_wanted(alloc, out.as_slice(), wanted)
+}

@@ -1,0 +1,10 @@
+pub mod Times
+pub mod SumLemmas
+pub mod Searches
+pub mod Shown
+pub mod Moved
+pub mod Regions
+pub mod Differences
+pub mod GroupRepairs
+pub mod Bounds
+pub mod Answered

@@ -1,0 +1,108 @@
+-- The cut points of one group, as a map keeps them.
+use Rattle.std.specs.Prelude.{ℕ, ◌≡◌, ◌<◌, ◌≤◌, ◌+◌, ◌-◌, ◌%◌, ◌^◌, List, [], ◌∷◌, ◌++◌, Bool, true, false, cond, Option, Some, None, map, nat_lt, nat_eq, replicate, if◌then◌else◌, IsSome, ◌⊎◌}
+use Rattle.std.specs.Int.{w128, cast_signed}
+use Rattle.std.specs.List.{flat_map}
+use Rattle.std.specs.Map.{lookup}
+use Rattle.std.specs.BTreeMap.{is_at}
+use Rattle.std.specs.Ordering.{nat_cmp}
+use Rattle.cedr_base.specs.declared.field.Field.{Field}
+use Rattle.cedr_base.specs.declared.field.Field.TheVariants.{Number}
+use Rattle.cedr_base.specs.declared.row.Row.{Row}
+use Rattle.cedr_base.specs.declared.change.Change.{Change}
+use Rattle.cedr_base.specs.declared.change.Change.TheVariants.{Add, Cut}
+use Rattle.cedr_base.specs.Rows.{count_of}
+use Rattle.op_group.specs.declared.segment.Segment.{Segment}
+use Rattle.op_group.specs.Groups.{modular}
+
+-- what a map has at a time
+abbrev pub segment_at : ℕ → List (ℕ × Segment) → Option Segment
+segment_at t cuts = lookup (is_at (nat_cmp t)) cuts
+
+-- The map shows these numbers: at a time where some begins and ends stand, how many they are, how many rows live from
+-- there on, and the sums over them; and nothing at any other time.
+pub record Shows (cuts : List (ℕ × Segment)) (edges living : ℕ → ℕ) (sums : ℕ → List ℕ) : Type 0 where
+  pub at : (t : ℕ) → segment_at t cuts ≡ (if nat_eq (edges t) 0 then None else Some (record { edges = edges t; living = living t; totals = sums t }))
+
+-- where no begin and no end stands the rows that live stay the same, and before all of them there are none
+pub record StaysBetweenCuts (width : ℕ) (edges living : ℕ → ℕ) (sums : ℕ → List ℕ) : Type 0 where
+  pub living_stays : (p t : ℕ) → p ≤ t → ((u : ℕ) → p < u → u ≤ t → edges u ≡ 0) → living t ≡ living p
+  pub sums_stay : (p t : ℕ) → p ≤ t → ((u : ℕ) → p < u → u ≤ t → edges u ≡ 0) → sums t ≡ sums p
+  pub none_live : (t : ℕ) → ((u : ℕ) → u ≤ t → edges u ≡ 0) → living t ≡ 0
+  pub none_summed : (t : ℕ) → ((u : ℕ) → u ≤ t → edges u ≡ 0) → sums t ≡ replicate width 0
+
+-- one at a time, and nothing at each other
+abbrev pub one_at : ℕ → ℕ → ℕ
+one_at t u = if nat_eq t u then 1 else 0
+
+-- the fields of a row of the result behind its key
+abbrev pub totals : Bool → ℕ → List ℕ → List Field
+totals counted living sums = (if counted then modular living ∷ [] else []) ++ map (λ n. Number (cast_signed w128 n)) sums
+
+-- a row of the result that begins at a cut point and isn't ended yet
+abbrev pub begun : Bool → List Field → ℕ → Segment → Option (ℕ × List Field)
+begun counted key t segment = if nat_eq segment.living 0 then None else Some (t, key ++ totals counted segment.living segment.totals)
+
+-- the row ends at the next cut point
+abbrev pub ended_at : Option (ℕ × List Field) → ℕ → List Row
+ended_at None t = []
+ended_at (Some row) t = record { end = t; begin = row.0; payload = row.1 } ∷ []
+
+-- the rows of cut points, where one has begun before them
+abbrev pub rows_after : Bool → List Field → Option (ℕ × List Field) → List (ℕ × Segment) → List Row
+rows_after counted key row [] = []
+rows_after counted key row (cut ∷ cuts) = ended_at row cut.0 ++ rows_after counted key (begun counted key cut.0 cut.1) cuts
+
+abbrev pub rows_in : Bool → List Field → List (ℕ × Segment) → List Row
+rows_in counted key cuts = rows_after counted key None cuts
+
+-- sums modulo 2^128, one by one
+abbrev pub summed : List ℕ → List ℕ → List ℕ
+summed [] ys = []
+summed (x ∷ xs) [] = x ∷ xs
+summed (x ∷ xs) (y ∷ ys) = ((x + y) % 2 ^ 128) ∷ summed xs ys
+
+-- a number to be added, or to be taken away, modulo 2^128
+abbrev pub shifted_by : Bool → ℕ → ℕ
+shifted_by true n = n
+shifted_by false n = (2 ^ 128 - n) % 2 ^ 128
+
+-- a row more or a row less
+abbrev pub shifted : Bool → List ℕ → Segment → Segment
+shifted up numbers s = record { edges = s.edges; living = if up then s.living + 1 else s.living - 1; totals = summed s.totals numbers }
+
+-- a begin or an end more
+abbrev pub raised : Segment → Segment
+raised s = record s { edges = s.edges + 1 }
+
+-- the new map has something else at one time alone
+abbrev pub IsEdit : ℕ → Option Segment → List (ℕ × Segment) → List (ℕ × Segment) → Type 0
+IsEdit t w old new = (u : ℕ) → segment_at u new ≡ cond (is_at (nat_cmp t) u) w (segment_at u old)
+
+-- the first cut point from a time on, or the last number where there is none
+pub record IsNextCut (cuts : List (ℕ × Segment)) (t next : ℕ) : Type 0 where
+  pub after : t ≤ next
+  pub none : (u : ℕ) → t ≤ u → u < next → segment_at u cuts ≡ None
+  pub there : (next ≡ 2 ^ 64 - 1) ⊎ IsSome (segment_at next cuts)
+
+-- the last cut point before a time, or 0 where there is none
+pub record IsLastCut (cuts : List (ℕ × Segment)) (t last : ℕ) : Type 0 where
+  pub before : last ≤ t
+  pub none : (u : ℕ) → last < u → u < t → segment_at u cuts ≡ None
+  pub there : (last ≡ 0) ⊎ (IsSome (segment_at last cuts) × (last < t))
+
+-- a segment has what is valid just before a time
+pub record IsCarried (cuts : List (ℕ × Segment)) (t width : ℕ) (s : Segment) : Type 0 where
+  pub one_edge : s.edges ≡ 1
+  pub carried : (((u : ℕ) → u < t → segment_at u cuts ≡ None) × (s.living ≡ 0) × (s.totals ≡ replicate width 0))
+      ⊎ ((p : ℕ) × (before : Segment) × (p < t) × (segment_at p cuts ≡ Some before) × ((u : ℕ) → p < u → u < t → segment_at u cuts ≡ None) × (s.living ≡ before.living) × (s.totals ≡ before.totals))
+
+-- a row of the result is withdrawn where it isn't among others
+abbrev pub withdrawn_unless : List Row → Row → List Change
+withdrawn_unless rows r = if nat_lt 0 (count_of r rows) then [] else Cut r r.begin ∷ []
+
+abbrev pub added_unless : List Row → Row → List Change
+added_unless rows r = if nat_lt 0 (count_of r rows) then [] else Add r ∷ []
+
+-- the changes that make the new rows of the old ones, and leave those that are the same
+abbrev pub differences : List Row → List Row → List Change
+differences olds news = flat_map (withdrawn_unless news) olds ++ flat_map (added_unless olds) news

@@ -1,0 +1,172 @@
+-- The rows that all groups make, one by one.
+use Rattle.std.proofs.Common.{◌≡◌, ℕ, ◌+◌, ◌-◌, ◌%◌, ◌^◌, ◌<◌, ◌≤◌, ◌⊎◌, inl, inr, List, [], ◌∷◌, ◌++◌, Bool, true, false, cond, length, take, refl, ap, sym, ◌∙◌, subst, arith}
+use Rattle.std.specs.Prelude.{nat_lt, map, sum_by, ◌||◌}
+use Rattle.std.specs.declared.cmp.Ordering.{Ordering}
+use Rattle.std.specs.declared.cmp.Ordering.TheVariants.{Less, Equal, Greater}
+use Rattle.std.specs.Ordering.{is_eq}
+use Rattle.std.specs.Int.{w128, cast_signed}
+use Rattle.std.specs.List.{flat_map, list_any}
+use Rattle.std.proofs.lemmas.Cmp.{tied_itself}
+use Rattle.std.proofs.lemmas.Bool.{cases_lt}
+use Rattle.std.proofs.lemmas.List.{length-map, take-append-le, take_all}
+use Rattle.std.proofs.lemmas.List.Sums.{sum_by-cons, sum_by-append}
+use Rattle.cedr_base.specs.declared.field.Field.{Field}
+use Rattle.cedr_base.specs.declared.field.Field.TheVariants.{Number}
+use Rattle.cedr_base.specs.declared.row.Row.{Row}
+use Rattle.cedr_base.specs.Order.{payload_cmp}
+use Rattle.cedr_base.specs.OrderLaws.{payload_total}
+use Rattle.cedr_base.specs.Rows.{one_if_same, count_of, SameRows}
+use Rattle.cedr_base.proofs.RowLemmas.{exact_rows}
+use Rattle.cedr_stream.proofs.BagSums.{sum_by-same}
+use Rattle.op_group.specs.Groups.{Grouping, number_at, key_of, same_payload, distinct, rows_of, segments, grouped}
+use Rattle.op_group.specs.Cuts.{totals}
+use Rattle.op_group.specs.Measures.{edge_at, part_at, edges_of, living_of, sums_of, Fits, is_cut_of, key_in, IsMade}
+use Rattle.op_group.specs.TimeLaws.{same_count}
+use Rattle.op_group.specs.SegmentLaws.{sum_by-filter, fits_alike, segment_fits, fits_segment, map_alike}
+
+from_is_eq : (o : Ordering) → is_eq o ≡ true → o ≡ Equal
+from_is_eq Less h = cc
+from_is_eq Equal h = refl
+from_is_eq Greater h = cc
+
+-- payloads that compare as equal are one
+pub payload_exact : (a b : List Field) → same_payload a b ≡ true → a ≡ b
+payload_exact a b h =
+    let rows = exact_rows (record { end = 0; begin = 0; payload = a }) (record { end = 0; begin = 0; payload = b }) (from_is_eq (payload_cmp a b) h) in
+    ap (λ (r : Row). r.payload) rows
+
+pub payload_itself : (a : List Field) → same_payload a a ≡ true
+payload_itself a = ap is_eq (tied_itself payload_total a)
+
+other_payload : (a b : List Field) (c : Bool) → same_payload a b ≡ c → c ≡ false → a ≡ b → ⊥
+other_payload a b true h k e = cc
+other_payload a b false h k e = let same = sym (ap (same_payload a) e) ∙ payload_itself a in cc
+
+module _ (f : List Field → ℕ) (key : List Field) (only : (other : List Field) → 0 < f other → other ≡ key) where
+  any_of : List (List Field) → Bool
+  any_of keys = list_any (same_payload key) keys
+
+  none_of_other : (k : List Field) → same_payload key k ≡ false → f k ≡ 0
+  none_of_other k other = elim (cases_lt 0 (f k)) [
+    | inl some ↦ absurd (other_payload key k (same_payload key k) refl other (sym (only k some)))
+    | inr none ↦ omega arith
+  ]
+
+  distinct_at : (k : List Field) (keys : List (List Field)) (b c : Bool) → list_any (same_payload k) keys ≡ b → same_payload key k ≡ c
+      → sum_by f (distinct keys) ≡ cond (list_any (same_payload key) keys) (f key) 0
+      → sum_by f (cond b (distinct keys) (k ∷ distinct keys)) ≡ cond (c || list_any (same_payload key) keys) (f key) 0
+  distinct_at k keys true true h e rest =
+      let same = payload_exact key k e in
+      let there : list_any (same_payload key) keys ≡ true = ap (λ j. list_any (same_payload j) keys) same ∙ h in
+      rest ∙ ap {B = ℕ} (λ b. cond b (f key) 0) there
+  distinct_at k keys true false h e rest = rest
+  distinct_at k keys false true h e rest =
+      let same = payload_exact key k e in
+      let gone : list_any (same_payload key) keys ≡ false = ap (λ j. list_any (same_payload j) keys) same ∙ h in
+      omega (arith, sum_by-cons f k (distinct keys), rest, ap {B = ℕ} (λ b. cond b (f key) 0) gone, ap f same)
+  distinct_at k keys false false h e rest = omega (arith, sum_by-cons f k (distinct keys), rest, none_of_other k e)
+
+  -- a sum over distinct keys, only one of which counts
+  pub distinct_sum : (keys : List (List Field)) → sum_by f (distinct keys) ≡ cond (list_any (same_payload key) keys) (f key) 0
+  distinct_sum [] = refl
+  distinct_sum (k ∷ keys) = distinct_at k keys (list_any (same_payload k) keys) (same_payload key k) refl refl (distinct_sum keys)
+
+none_chosen_at : (g : Grouping) (key : List Field) (r : Row) (rows : List Row) (b : Bool) → (b || list_any (same_payload key) (map (key_of g) rows)) ≡ false → (list_any (same_payload key) (map (key_of g) rows) ≡ false → rows_of g key rows ≡ []) → cond b (r ∷ rows_of g key rows) (rows_of g key rows) ≡ []
+none_chosen_at g key r rows true h rest = cc
+none_chosen_at g key r rows false h rest = rest h
+
+-- a group whose key no row has is empty
+none_chosen : (g : Grouping) (key : List Field) (rows : List Row) → list_any (same_payload key) (map (key_of g) rows) ≡ false → rows_of g key rows ≡ []
+none_chosen g key [] h = refl
+none_chosen g key (r ∷ rows) h = none_chosen_at g key r rows (same_payload key (key_of g r)) h (none_chosen g key rows)
+
+width_of : (g : Grouping) (living : ℕ) (sums : List ℕ) → length sums ≡ length g.sums → length (totals g.counted living sums) ≡ cond g.counted 1 0 + length g.sums
+width_of g living sums h = width_at g.counted
+  where
+    width_at : (b : Bool) → length (totals b living sums) ≡ cond b 1 0 + length g.sums
+    width_at true = omega (arith, length-map sums (λ n. Number (cast_signed w128 n)), h)
+    width_at false = omega (arith, length-map sums (λ n. Number (cast_signed w128 n)), h)
+
+before_totals : (key rest : List Field) (n : ℕ) → length rest ≡ n → take (length (key ++ rest) - n) (key ++ rest) ≡ key
+before_totals key rest n h =
+    let long : length (key ++ rest) - n ≡ length key = omega (arith, Rattle.std.proofs.Common.length-append key rest, h) in
+    ap (λ k. take k (key ++ rest)) long ∙ (take-append-le (length key) key rest (omega arith) ∙ take_all (length key) key (omega arith))
+
+-- a row of the result shows its key
+pub key_found : (g : Grouping) (key : List Field) (living : ℕ) (sums : List ℕ) (r : Row) → length sums ≡ length g.sums → r.payload ≡ key ++ totals g.counted living sums → key_in g r ≡ key
+key_found g key living sums r wide is =
+    ap (λ p. take (length p - (cond g.counted 1 0 + length g.sums)) p) is
+    ∙ before_totals key (totals g.counted living sums) (cond g.counted 1 0 + length g.sums) (width_of g living sums wide)
+
+pub fits_key : (g : Grouping) (key : List Field) (rows : List Row) (is_cut : ℕ → Bool) (r : Row) → Fits g.counted key (living_of rows) (sums_of g.sums rows) is_cut r → key_in g r ≡ key
+fits_key g key rows is_cut r fits = key_found g key (living_of rows r.begin) (sums_of g.sums rows r.begin) r (length-map g.sums (λ column. sum_by (part_at (number_at column) r.begin) rows % 2 ^ 128)) fits.payload_is
+
+empty_at : (g : Grouping) (key : List Field) (r : Row) (rows : List Row) (b : Bool) → list_any (same_payload key) (map (key_of g) rows) ≡ b → cond b (count_of r (segments g key (rows_of g key rows))) 0 ≡ count_of r (segments g key (rows_of g key rows))
+empty_at g key r rows true h = refl
+empty_at g key r rows false h = sym (ap (λ (xs : List Row). count_of r (segments g key xs)) (none_chosen g key rows h))
+
+sum_flat_map : (r : Row) (f : List Field → List Row) (keys : List (List Field)) → count_of r (flat_map f keys) ≡ sum_by (λ k. count_of r (f k)) keys
+sum_flat_map r f [] = refl
+sum_flat_map r f (k ∷ keys) = omega (arith, sum_by-append (one_if_same r) (f k) (flat_map f keys), sum_by-cons (λ j. count_of r (f j)) k keys, sum_flat_map r f keys)
+
+-- only one group may make a row
+pub grouped_count : (g : Grouping) (rows : List Row) (r : Row) → count_of r (grouped g rows) ≡ count_of r (segments g (key_in g r) (rows_of g (key_in g r) rows))
+grouped_count g rows r =
+    sum_flat_map r (λ key. segments g key (rows_of g key rows)) (distinct (map (key_of g) rows))
+    ∙ (distinct_sum (λ key. count_of r (segments g key (rows_of g key rows))) (key_in g r)
+    (λ other some. sym (fits_key g other (rows_of g other rows) (is_cut_of (rows_of g other rows)) r (segment_fits g other (rows_of g other rows) r some)))
+    (map (key_of g) rows)
+    ∙ empty_at g (key_in g r) r rows (list_any (same_payload (key_in g r)) (map (key_of g) rows)) refl)
+
+pub made_from_there : (g : Grouping) (rows : List Row) (r : Row) → 0 < count_of r (grouped g rows) → IsMade g rows r
+made_from_there g rows r there = segment_fits g (key_in g r) (rows_of g (key_in g r) rows) r (omega (arith, there, grouped_count g rows r))
+
+pub there_from_made : (g : Grouping) (rows : List Row) (r : Row) → IsMade g rows r → count_of r (grouped g rows) ≡ 1
+there_from_made g rows r made = grouped_count g rows r ∙ fits_segment g (key_in g r) (rows_of g (key_in g r) rows) r made
+
+-- at a time the same begins and ends stand in a group of two tables, and as many rows are valid, with the same sums
+pub record SameAt (g : Grouping) (key : List Field) (xs ys : List Row) (t : ℕ) : Type 0 where
+  pub edges : edges_of (rows_of g key xs) t ≡ edges_of (rows_of g key ys) t
+  pub living : living_of (rows_of g key xs) t ≡ living_of (rows_of g key ys) t
+  pub sums : sums_of g.sums (rows_of g key xs) t ≡ sums_of g.sums (rows_of g key ys) t
+
+-- sums over a group that are the same make it the same
+pub same_at : (g : Grouping) (key : List Field) (xs ys : List Row) (t : ℕ) → sum_by (edge_at t) (rows_of g key xs) ≡ sum_by (edge_at t) (rows_of g key ys)
+    → sum_by (part_at (λ _. 1) t) (rows_of g key xs) ≡ sum_by (part_at (λ _. 1) t) (rows_of g key ys)
+    → ((column : ℕ) → sum_by (part_at (number_at column) t) (rows_of g key xs) ≡ sum_by (part_at (number_at column) t) (rows_of g key ys)) → SameAt g key xs ys t
+same_at g key xs ys t e l s = record {
+  edges = e;
+  living = l;
+  sums = map_alike (λ column. sum_by (part_at (number_at column) t) (rows_of g key xs) % 2 ^ 128) (λ column. sum_by (part_at (number_at column) t) (rows_of g key ys) % 2 ^ 128) g.sums (λ column. ap (λ n. n % 2 ^ 128) (s column));
+}
+
+pub same_back_at : (g : Grouping) (key : List Field) (xs ys : List Row) (t : ℕ) → SameAt g key xs ys t → SameAt g key ys xs t
+same_back_at g key xs ys t same = record { edges = sym same.edges; living = sym same.living; sums = sym same.sums }
+
+-- a row is made of two tables alike, where its group is the same all the while
+pub made_alike : (g : Grouping) (xs ys : List Row) (r : Row) → ((t : ℕ) → r.begin ≤ t → t ≤ r.end → SameAt g (key_in g r) xs ys t) → IsMade g xs r → IsMade g ys r
+made_alike g xs ys r same made =
+    let key = key_in g r in
+    let order = made.order in
+    let first = same r.begin (omega arith) (omega arith) in
+    fits_alike g.counted (key_in g r) (living_of (rows_of g (key_in g r) xs)) (living_of (rows_of g (key_in g r) ys)) (sums_of g.sums (rows_of g (key_in g r) xs)) (sums_of g.sums (rows_of g (key_in g r) ys))
+    (is_cut_of (rows_of g (key_in g r) xs)) (is_cut_of (rows_of g (key_in g r) ys)) r
+    (λ t over under. ap (nat_lt 0) (same t over under).edges) first.living first.sums made
+
+pub count_alike : (g : Grouping) (xs ys : List Row) (r : Row) → ((t : ℕ) → r.begin ≤ t → t ≤ r.end → SameAt g (key_in g r) xs ys t) → count_of r (grouped g xs) ≡ count_of r (grouped g ys)
+count_alike g xs ys r same = same_count (count_of r (grouped g xs)) (count_of r (grouped g ys))
+    (λ some. there_from_made g ys r (made_alike g xs ys r same (made_from_there g xs r some)))
+    (λ some. there_from_made g xs r (made_alike g ys xs r (λ t over under. same_back_at g (key_in g r) xs ys t (same t over under)) (made_from_there g ys r some)))
+
+-- a sum over a group depends on the bag alone
+pub group_sum : (g : Grouping) (key : List Field) (w : Row → ℕ) (xs ys : List Row) → SameRows xs ys → sum_by w (rows_of g key xs) ≡ sum_by w (rows_of g key ys)
+group_sum g key w xs ys same =
+    sum_by-filter w (λ r. same_payload key (key_of g r)) xs
+    ∙ (sum_by-same (λ x. cond (same_payload key (key_of g x)) (w x) 0) xs ys same
+    ∙ sym (sum_by-filter w (λ r. same_payload key (key_of g r)) ys))
+
+-- two tables that are the same bag make the same result
+pub same_grouped : (g : Grouping) (xs ys : List Row) → SameRows xs ys → SameRows (grouped g xs) (grouped g ys)
+same_grouped g xs ys same = record {
+  each = λ r. count_alike g xs ys r (λ t over under. same_at g (key_in g r) xs ys t (group_sum g (key_in g r) (edge_at t) xs ys same) (group_sum g (key_in g r) (part_at (λ _. 1) t) xs ys same) (λ column. group_sum g (key_in g r) (part_at (number_at column) t) xs ys same));
+}

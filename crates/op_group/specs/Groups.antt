@@ -1,0 +1,112 @@
+-- Groups of rows: what each group makes of its rows, and what may be promised at a mark.
+use Rattle.std.specs.Prelude.{ℕ, ◌%◌, ◌^◌, List, [], ◌∷◌, ◌++◌, Bool, true, false, ◌&&◌, Option, Some, None, length, map, sum_by, min, nat_lt, nat_le, nat_eq, if◌then◌else◌}
+use Rattle.std.specs.Int.{w128, cast_unsigned, cast_signed}
+use Rattle.std.specs.List.{filter, flat_map, list_any, slice_get}
+use Rattle.std.specs.Ordering.{is_eq}
+use Rattle.cedr_base.specs.declared.field.Field.{Field}
+use Rattle.cedr_base.specs.declared.field.Field.TheVariants.{Number, Bytes}
+use Rattle.cedr_base.specs.declared.row.Row.{Row}
+use Rattle.cedr_base.specs.Order.{payload_cmp}
+use Rattle.cedr_expr.specs.Columns.{kept}
+use Rattle.cedr_table.specs.Operators.{Meaning, table_at, mark_at}
+
+-- What is asked of groups.
+-- keys: the columns of the key.
+-- counted: whether the rows are counted.
+-- sums: the columns to be summed.
+pub record Grouping : Type 0 where
+  pub keys : List ℕ
+  pub counted : Bool
+  pub sums : List ℕ
+
+abbrev pub grouping_by : List ℕ → Bool → List ℕ → Grouping
+grouping_by keys counted sums = record { keys = keys; counted = counted; sums = sums }
+
+abbrev pub key_of : Grouping → Row → List Field
+key_of grouping r = kept grouping.keys r.payload
+
+abbrev pub same_payload : List Field → List Field → Bool
+same_payload a b = is_eq (payload_cmp a b)
+
+-- each of the payloads once
+abbrev pub distinct : List (List Field) → List (List Field)
+distinct [] = []
+distinct (key ∷ keys) = if list_any (same_payload key) keys then distinct keys else key ∷ distinct keys
+
+-- the rows of one group: their key fields are equal
+abbrev pub rows_of : Grouping → List Field → List Row → List Row
+rows_of grouping key rows = filter (λ r. same_payload key (key_of grouping r)) rows
+
+-- a time among times that ascend, at its place, once
+abbrev pub put_time : ℕ → List ℕ → List ℕ
+put_time t [] = t ∷ []
+put_time t (s ∷ ts) = if nat_lt t s then t ∷ s ∷ ts else (if nat_eq t s then s ∷ ts else s ∷ put_time t ts)
+
+-- all begins and ends of rows, each once, in order
+abbrev pub cut_points : List Row → List ℕ
+cut_points [] = []
+cut_points (r ∷ rows) = put_time r.begin (put_time r.end (cut_points rows))
+
+-- each two neighbours
+abbrev pub neighbours : List ℕ → List (ℕ × ℕ)
+neighbours [] = []
+neighbours (p ∷ []) = []
+neighbours (p ∷ q ∷ ts) = (p, q) ∷ neighbours (q ∷ ts)
+
+-- a row is valid from one time to another at least
+abbrev pub spans : ℕ → ℕ → Row → Bool
+spans p q r = nat_le r.begin p && nat_le q r.end
+
+-- a number modulo 2^128, in two's complement
+abbrev pub modular : ℕ → Field
+modular n = Number (cast_signed w128 (n % 2 ^ 128))
+
+-- what a field adds to a sum, modulo 2^128: nothing where it isn't there or isn't a number
+abbrev pub number_of : Option Field → ℕ
+number_of None = 0
+number_of (Some (Number n)) = cast_unsigned w128 n % 2 ^ 128
+number_of (Some (Bytes text)) = 0
+
+abbrev pub number_at : ℕ → Row → ℕ
+number_at column r = number_of (slice_get r.payload column)
+
+-- the count of rows, where it is asked for, and then each sum over them
+abbrev pub totals_of : Grouping → List Row → List Field
+totals_of grouping rows = (if grouping.counted then modular (length rows) ∷ [] else []) ++ map (λ column. modular (sum_by (number_at column) rows)) grouping.sums
+
+-- the row of two neighbouring cut points and of the rows that are valid between them: none where there are no such rows
+abbrev pub row_between : Grouping → List Field → ℕ → ℕ → List Row → List Row
+row_between grouping key p q [] = []
+row_between grouping key p q (r ∷ rows) = record { end = q; begin = p; payload = key ++ totals_of grouping (r ∷ rows) } ∷ []
+
+-- the rows that one group makes
+abbrev pub segments : Grouping → List Field → List Row → List Row
+segments grouping key rows = flat_map (λ n. row_between grouping key n.0 n.1 (filter (spans n.0 n.1) rows)) (neighbours (cut_points rows))
+
+-- the rows that all groups make
+abbrev pub grouped : Grouping → List Row → List Row
+grouped grouping rows = flat_map (λ key. segments grouping key (rows_of grouping key rows)) (distinct (map (key_of grouping) rows))
+
+-- the least of a time and of others
+abbrev pub least_from : ℕ → List ℕ → ℕ
+least_from t [] = t
+least_from t (s ∷ ts) = min s (least_from t ts)
+
+-- a row of the result begins before a mark and doesn't end before it: its begin is the group's greatest cut point
+-- below the mark, and a later retraction may take its end away
+abbrev pub is_open : ℕ → Row → Bool
+is_open mark r = nat_lt r.begin mark && nat_le mark r.end
+
+-- the least of the mark and of the begins of the rows that are open at it
+abbrev pub open_from : ℕ → List Row → ℕ
+open_from mark rows = least_from mark (map (λ (r : Row). r.begin) (filter (is_open mark) rows))
+
+abbrev pub group_of : Grouping → Meaning
+group_of grouping = record {
+  ports = 1;
+  result = λ tables. grouped grouping (table_at tables 0);
+  bound = λ tables marks. open_from (mark_at marks 0) (grouped grouping (table_at tables 0));
+  may_hold = λ _ _ _ _. true;
+  echoes = false;
+  stateless = false;
+}

@@ -1,0 +1,10 @@
+pub mod Groups
+pub mod Cuts
+pub mod Measures
+pub mod TimeLaws
+pub mod CutLaws
+pub mod SegmentLaws
+pub mod GroupLaws
+pub mod BoundLaws
+pub mod State
+pub mod StateLaws

@@ -1,0 +1,220 @@
+ghost use Rattle.std.specs.Prelude.{◌≡◌, ◌++◌, ◌≤◌, ◌<◌, ◌∷◌, [], ℕ, List, OnOk, OnErr, Some, None, IfOk, cond, length, take};
+ghost use Rattle.std.specs.BTreeMap.{is_at, IsOrdered, values};
+ghost use Rattle.std.specs.Ordering.{nat_cmp};
+ghost use Rattle.cedr_base.specs.declared.row.Row.{Row};
+ghost use Rattle.cedr_base.specs.declared.field.Field.{Field};
+ghost use Rattle.cedr_base.specs.Order.{payload_cmp};
+ghost use Rattle.cedr_base.specs.Changes.{IsChange, MayFollow};
+ghost use Rattle.cedr_stream.specs.Repairs.{IsMoved};
+ghost use Rattle.op_group.specs.Groups.{grouping_by, group_of, key_of, rows_of};
+ghost use Rattle.op_group.specs.State.{AreRows, ShowsRows, ShowsAll, AllOrdered, Answers, cuts_of, row_of, open_begin, least_open};
+
+use crate::answer::{push_differences, rows_between};
+use crate::cuts::{Cuts, add_row, cut_before, cut_from, cut_row};
+use crate::segment::numbers;
+use cedr_base::{Change, OutOfMemory, Payload, Row, Time};
+use cedr_expr::Keep;
+use cedr_table::Operator;
+use std::alloc::Global;
+use std::collections::BTreeMap;
+
+/// The groups by their keys. No group is kept that has no cut point.
+pub(crate) type Groups = BTreeMap<Payload, Cuts>;
+
+/// Counts and sums of groups: the rows with equal key fields form one group, and each two neighbouring cut points of
+/// it between which some of its rows are valid give one row, with the key, the count and the sums of these rows.
+///
+/// It keeps no rows, but the cut points of each group with what is valid from each of them on.
+#[derive(Drop)]
+pub struct Group {
+    keys: Keep,
+    count: bool,
+    sums: Vec<usize>,
+    groups: Groups,
+}
+
+impl Group {
+    /// Groups by the fields that `keys` keeps, with the number of rows where `count` asks for it, and then the sum of
+    /// each of the columns `sums`. It takes no memory.
+    pub fn new(alloc: Global, keys: Keep, count: bool, sums: Vec<usize>) -> Group
+        ensures meaning { ⟦<Group as Operator>⟧.meaning result ≡ group_of (grouping_by keys count sums.items) }
+        ensures stands { ⟦<Group as Operator>⟧.stands result ([] ∷ []) (0 ∷ []) }
+    {
+        Group {
+            keys,
+            count,
+            sums,
+            groups: BTreeMap::new(alloc),
+        }
+    }
+}
+
+/// The cut points of a group take a change.
+fn change_cuts(
+    alloc: Global,
+    sums: &[usize],
+    cuts: &mut Cuts,
+    change: &Change,
+) -> Result<(), OutOfMemory>
+    ensures { OnOk result ((old new : List Row) → ShowsRows sums.now cuts.old.entries old → MayFollow old [] change.now → IsMoved change.now old new → ShowsRows sums.now cuts.new.entries new) }
+{
+    match change {
+        Change::Add(row) => {
+            let numbers = numbers(alloc, sums, &row.payload, true)?;
+            add_row(alloc, cuts, row.begin, row.end, numbers.as_slice())
+        }
+        Change::Cut(row, end) => {
+            let numbers = numbers(alloc, sums, &row.payload, false)?;
+            cut_row(alloc, cuts, row.begin, row.end, *end, numbers.as_slice())
+        }
+    }
+}
+
+/// The row of a change.
+fn row_in(change: &Change) -> &Row
+    ensures { result.now ≡ row_of change.now }
+{
+    match change {
+        Change::Add(row) => row,
+        Change::Cut(row, _) => row,
+    }
+}
+
+/// One group takes a change, and appends what answers it.
+fn answer_in(
+    alloc: Global,
+    count: bool,
+    sums: &[usize],
+    key: &Payload,
+    cuts: &mut Cuts,
+    change: &Change,
+    out: &mut Vec<Change>,
+) -> Result<(), OutOfMemory>
+    requires { IsChange change.now }
+    ensures shown { OnOk result ((old new : List Row) → ShowsRows sums.now cuts.old.entries old → MayFollow old [] change.now → IsMoved change.now old new → ShowsRows sums.now cuts.new.entries new) }
+    ensures answers { OnOk result ((old new : List Row) → ShowsRows sums.now cuts.old.entries old → MayFollow old [] change.now → IsMoved change.now old new → AreRows old → AreRows new → Answers count sums.now key.now old new out.old.items out.new.items) }
+    ensures ordered { OnOk result (IsOrdered nat_cmp cuts.new) }
+    ensures kept { take (length out.old.items) out.new.items ≡ out.old.items }
+{
+    let from = cut_before(cuts, change.sync());
+    let to = cut_from(cuts, row_in(change).end + 1);
+    let olds = rows_between(alloc, count, key, cuts, from, to)?;
+    change_cuts(alloc, sums, cuts, change)?;
+    let news = rows_between(alloc, count, key, cuts, from, to)?;
+    push_differences(alloc, olds.as_slice(), news.as_slice(), out)
+}
+
+/// Takes the cut points of a group out of the groups.
+fn take_group(alloc: Global, groups: &mut Groups, key: &Payload) -> Cuts
+    ensures cuts { result.entries ≡ cuts_of groups.old.entries key.now }
+    ensures others { (other : List Field) → cuts_of groups.new.entries other ≡ cond (is_at (payload_cmp key.now) other) [] (cuts_of groups.old.entries other) }
+{
+    match groups.remove(key) {
+        Some(cuts) => cuts,
+        None => BTreeMap::new(alloc),
+    }
+}
+
+/// Puts the cut points of a group among the groups, where it has any.
+fn put_group(groups: &mut Groups, key: Payload, cuts: Cuts) -> Result<(), OutOfMemory>
+    requires { cuts_of groups.old.entries key ≡ [] }
+    ensures { OnOk result ((other : List Field) → cuts_of groups.new.entries other ≡ cond (is_at (payload_cmp key) other) cuts.entries (cuts_of groups.old.entries other)) }
+{
+    if cuts.is_empty() {
+        return Ok(());
+    }
+    groups.insert(key, cuts)?;
+    Ok(())
+}
+
+/// The groups take a change, and append what answers it. Where memory runs out some of that may stand there.
+pub(crate) fn answer(
+    alloc: Global,
+    keys: &Keep,
+    count: bool,
+    sums: &[usize],
+    groups: &mut Groups,
+    change: &Change,
+    out: &mut Vec<Change>,
+) -> Result<(), OutOfMemory>
+    requires { IsChange change.now }
+    ensures shown { OnOk result ((old new : List Row) → ShowsAll (grouping_by keys.now count sums.now) groups.old.entries old → MayFollow old [] change.now → IsMoved change.now old new → ShowsAll (grouping_by keys.now count sums.now) groups.new.entries new) }
+    ensures ordered { OnOk result (AllOrdered groups.old.entries → AllOrdered groups.new.entries) }
+    ensures answers { OnOk result ((old new : List Row) → ShowsAll (grouping_by keys.now count sums.now) groups.old.entries old → MayFollow old [] change.now → IsMoved change.now old new → AreRows old
+        → let key = key_of (grouping_by keys.now count sums.now) (row_of change.now) in Answers count sums.now key (rows_of (grouping_by keys.now count sums.now) key old) (rows_of (grouping_by keys.now count sums.now) key new) out.old.items out.new.items) }
+    ensures err { OnErr result (take (length out.old.items) out.new.items ≡ out.old.items) }
+{
+    let key = keys.apply(alloc, &row_in(change).payload)?;
+    let mut cuts = take_group(alloc, groups, &key);
+    answer_in(alloc, count, sums, &key, &mut cuts, change, out)?;
+    put_group(groups, key, cuts)
+}
+
+/// The begin of the row of one group that is open at a mark, and the mark where there is none. O(log n).
+fn open_in(cuts: &Cuts, mark: Time) -> Time
+    ensures { result ≡ open_begin mark cuts.now.entries }
+{
+    match cuts.range(..mark).next_back() {
+        Some((at, segment)) => { if segment.living == 0 { mark } else { *at } }
+        None => mark,
+    }
+}
+
+/// The least of the mark and of the begins of the rows that are open at it. It looks at each group.
+fn least_begin(groups: &Groups, mark: Time) -> Time
+    ensures least { result ≡ least_open mark mark (values groups.now) }
+    ensures ordered { IsOrdered payload_cmp groups.now }
+{
+    let mut least = mark;
+    for cuts in groups.values() {
+        least = least.min(open_in(cuts, mark));
+    }
+    least
+}
+
+impl Operator for Group {
+    ghost use Rattle.op_group.specs.Groups.{grouping_by, group_of};
+    ghost use Rattle.op_group.specs.State.{StandsForGroups};
+    ghost use Rattle.op_group.specs.StateLaws.{group_laws};
+
+    ghost meaning = { λ s. group_of (grouping_by s.keys s.count s.sums.items) };
+
+    ghost stands = { λ s tables marks. StandsForGroups (grouping_by s.keys s.count s.sums.items) s.groups.entries tables marks };
+
+    ghost held = { λ _. [] };
+
+    fn ports(&self) -> usize {
+        1
+    }
+
+    fn apply(
+        &mut self,
+        alloc: Global,
+        _port: usize,
+        change: &Change,
+        out: &mut Vec<Change>,
+    ) -> Result<(), OutOfMemory> {
+        let before = out.len();
+        let result = answer(
+            alloc,
+            &self.keys,
+            self.count,
+            self.sums.as_slice(),
+            &mut self.groups,
+            change,
+            out,
+        );
+        if result.is_err() {
+            out.truncate(before);
+        }
+        result
+    }
+
+    fn bound(&self, marks: &[Time]) -> Time {
+        least_begin(&self.groups, marks[0])
+    }
+
+    fn trim(&mut self, _marks: &[Time]) {}
+
+    ghost lawful = { λ s. group_laws (grouping_by s.keys s.count s.sums.items) s.groups.entries };
+}

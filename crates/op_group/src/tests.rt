@@ -1,0 +1,209 @@
+ghost use Rattle.cedr_base.specs.Changes.{IsChange};
+
+use crate::group::{Groups, answer};
+use cedr_base::{Change, FOREVER, Field, FieldType, OutOfMemory, Payload, Row, Text, Time};
+use cedr_expr::Keep;
+use cedr_table::Table;
+use std::alloc::Global;
+use std::collections::BTreeMap;
+use std::process::Abort;
+use std::test::Fail;
+
+/// A row of a text and of numbers.
+fn row(
+    alloc: Global,
+    text: &[u8],
+    numbers: &[i128],
+    begin: Time,
+    end: Time,
+) -> Result<Row, OutOfMemory> {
+    let mut payload = Payload::new(alloc);
+    payload.push(Field::Bytes(Text::from_slice(alloc, text)?))?;
+    for number in numbers {
+        payload.push(Field::Number(*number))?;
+    }
+    Ok(Row {
+        end,
+        begin,
+        payload,
+    })
+}
+
+/// Groups by the first column, counted, with what they made so far.
+#[derive(Drop)]
+struct Counted {
+    alloc: Global,
+    keys: Keep,
+    sums: Vec<usize>,
+    groups: Groups,
+    made: Table,
+}
+
+impl Counted {
+    fn new(alloc: Global, sums: &[usize]) -> Result<Counted, Fail> {
+        let first = vec![in alloc; 0usize]?;
+        let keys = Keep::new(first, &[FieldType::Bytes])?;
+        Ok(Counted {
+            alloc,
+            keys,
+            sums: Vec::from_slice(alloc, sums)?,
+            groups: BTreeMap::new(alloc),
+            made: Table::new(alloc),
+        })
+    }
+
+    fn take(&mut self, change: &Change) -> Result<usize, Fail>
+        requires { IsChange change.now }
+    {
+        let mut out = Vec::new(self.alloc);
+        let sums = self.sums.as_slice();
+        answer(
+            self.alloc,
+            &self.keys,
+            true,
+            sums,
+            &mut self.groups,
+            change,
+            &mut out,
+        )?;
+        for answered in &out {
+            self.made.apply(answered)?;
+        }
+        Ok(out.len())
+    }
+
+    /// Adds a row, and says how many changes that gave.
+    fn add(&mut self, row: Row) -> Result<usize, Fail> {
+        if row.begin >= row.end || row.end > FOREVER {
+            return Ok(0);
+        }
+        self.take(&Change::Add(row))
+    }
+
+    /// Cuts a row, and says how many changes that gave.
+    fn cut(&mut self, row: Row, end: Time) -> Result<usize, Fail> {
+        if row.begin >= row.end || row.end > FOREVER || end < row.begin || end >= row.end {
+            return Ok(0);
+        }
+        self.take(&Change::Cut(row, end))
+    }
+
+    /// The rows made so far are these.
+    fn check(&self, rt: &impl Abort, rows: &[(&[u8], &[i128], Time, Time)]) -> Result<(), Fail> {
+        let found = self.made.canonical()?;
+        assert_eq!(rt; found.len(), rows.len());
+        for (made, (text, numbers, begin, end)) in found.iter().zip(rows) {
+            assert!(rt; *made == row(self.alloc, text, numbers, *begin, *end)?);
+        }
+        Ok(())
+    }
+}
+
+#[test]
+fn rows_are_counted_between_cut_points(rt: HostRuntime) -> Result<(), Fail> {
+    let alloc = rt.alloc();
+    let mut groups = Counted::new(alloc, &[])?;
+    groups.add(row(alloc, b"x", &[], 0, 10)?)?;
+    groups.check(&rt, &[(b"x", &[1], 0, 10)])?;
+    groups.add(row(alloc, b"x", &[], 5, 7)?)?;
+    groups.check(
+        &rt,
+        &[(b"x", &[1], 0, 5), (b"x", &[2], 5, 7), (b"x", &[1], 7, 10)],
+    )?;
+    groups.cut(row(alloc, b"x", &[], 5, 7)?, 5)?;
+    groups.check(&rt, &[(b"x", &[1], 0, 10)])
+}
+
+#[test]
+fn numbers_are_summed(rt: HostRuntime) -> Result<(), Fail> {
+    let alloc = rt.alloc();
+    let mut groups = Counted::new(alloc, &[1])?;
+    groups.add(row(alloc, b"x", &[-3], 0, 4)?)?;
+    groups.add(row(alloc, b"x", &[10], 2, 4)?)?;
+    groups.check(&rt, &[(b"x", &[1, -3], 0, 2), (b"x", &[2, 7], 2, 4)])?;
+    groups.cut(row(alloc, b"x", &[-3], 0, 4)?, 3)?;
+    groups.check(
+        &rt,
+        &[
+            (b"x", &[1, -3], 0, 2),
+            (b"x", &[2, 7], 2, 3),
+            (b"x", &[1, 10], 3, 4),
+        ],
+    )
+}
+
+#[test]
+fn sums_wrap_at_128_bits(rt: HostRuntime) -> Result<(), Fail> {
+    let alloc = rt.alloc();
+    let mut groups = Counted::new(alloc, &[1])?;
+    groups.add(row(alloc, b"x", &[i128::MAX], 0, 4)?)?;
+    groups.add(row(alloc, b"x", &[1], 0, 4)?)?;
+    groups.check(&rt, &[(b"x", &[2, i128::MIN], 0, 4)])?;
+    groups.cut(row(alloc, b"x", &[1], 0, 4)?, 0)?;
+    groups.check(&rt, &[(b"x", &[1, i128::MAX], 0, 4)])
+}
+
+#[test]
+fn what_is_no_number_adds_nothing(rt: HostRuntime) -> Result<(), Fail> {
+    let alloc = rt.alloc();
+    let mut groups = Counted::new(alloc, &[0, 2])?;
+    groups.add(row(alloc, b"xyz", &[5], 1, 3)?)?;
+    groups.check(&rt, &[(b"xyz", &[1, 0, 0], 1, 3)])
+}
+
+#[test]
+fn groups_stand_apart(rt: HostRuntime) -> Result<(), Fail> {
+    let alloc = rt.alloc();
+    let mut groups = Counted::new(alloc, &[])?;
+    groups.add(row(alloc, b"x", &[], 0, 10)?)?;
+    groups.add(row(alloc, b"y", &[], 5, 10)?)?;
+    groups.check(&rt, &[(b"x", &[1], 0, 10), (b"y", &[1], 5, 10)])?;
+    groups.cut(row(alloc, b"x", &[], 0, 10)?, 0)?;
+    groups.check(&rt, &[(b"y", &[1], 5, 10)])
+}
+
+#[test]
+fn a_gap_makes_no_row(rt: HostRuntime) -> Result<(), Fail> {
+    let alloc = rt.alloc();
+    let mut groups = Counted::new(alloc, &[])?;
+    groups.add(row(alloc, b"x", &[], 0, 3)?)?;
+    groups.add(row(alloc, b"x", &[], 5, FOREVER)?)?;
+    groups.check(&rt, &[(b"x", &[1], 0, 3), (b"x", &[1], 5, FOREVER)])
+}
+
+#[test]
+fn equal_neighbours_stay_two_rows(rt: HostRuntime) -> Result<(), Fail> {
+    let alloc = rt.alloc();
+    let mut groups = Counted::new(alloc, &[])?;
+    groups.add(row(alloc, b"x", &[], 0, 5)?)?;
+    groups.add(row(alloc, b"x", &[], 5, 9)?)?;
+    groups.check(&rt, &[(b"x", &[1], 0, 5), (b"x", &[1], 5, 9)])
+}
+
+#[test]
+fn a_cut_point_stays_with_its_last_row(rt: HostRuntime) -> Result<(), Fail> {
+    let alloc = rt.alloc();
+    let mut groups = Counted::new(alloc, &[])?;
+    groups.add(row(alloc, b"x", &[], 0, 9)?)?;
+    groups.add(row(alloc, b"x", &[], 1, 5)?)?;
+    groups.add(row(alloc, b"x", &[], 2, 5)?)?;
+    groups.cut(row(alloc, b"x", &[], 2, 5)?, 2)?;
+    groups.check(
+        &rt,
+        &[(b"x", &[1], 0, 1), (b"x", &[2], 1, 5), (b"x", &[1], 5, 9)],
+    )
+}
+
+#[test]
+fn only_the_touched_rows_change(rt: HostRuntime) -> Result<(), Fail> {
+    let alloc = rt.alloc();
+    let mut groups = Counted::new(alloc, &[])?;
+    groups.add(row(alloc, b"x", &[], 0, 2)?)?;
+    groups.add(row(alloc, b"x", &[], 4, 6)?)?;
+    groups.add(row(alloc, b"x", &[], 8, 10)?)?;
+    assert_eq!(rt; groups.add(row(alloc, b"x", &[], 4, 6)?)?, 2);
+    groups.check(
+        &rt,
+        &[(b"x", &[1], 0, 2), (b"x", &[2], 4, 6), (b"x", &[1], 8, 10)],
+    )
+}

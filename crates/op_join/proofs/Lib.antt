@@ -1,0 +1,7 @@
+pub mod KeyLemmas
+pub mod FiledLemmas
+pub mod SumLemmas
+pub mod CutLemmas
+pub mod PairLemmas
+pub mod JoinLemmas
+pub mod PortLemmas

@@ -1,0 +1,5 @@
+pub mod Keys
+pub mod Filed
+pub mod Pairs
+pub mod Joins
+pub mod JoinLaws

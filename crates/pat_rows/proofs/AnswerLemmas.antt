@@ -1,0 +1,79 @@
+-- Changes by which whole rows join or leave a result.
+use Rattle.std.proofs.Common.{◌≡◌, ℕ, ◌≤◌, inl, inr, List, [], ◌∷◌, ◌++◌, refl, ap, arith}
+use Rattle.std.specs.Prelude.{map}
+use Rattle.std.specs.List.{flat_map}
+use Rattle.cedr_base.specs.declared.row.Row.{Row}
+use Rattle.cedr_base.specs.Rows.{IsRow, count_of, SameRows}
+use Rattle.cedr_base.specs.Changes.{all_puts, all_takes}
+use Rattle.cedr_stream.specs.Repairs.{AllFrom}
+use Rattle.cedr_stream.proofs.Moves.{remnant_none}
+use Rattle.cedr_stream.proofs.RepairLemmas.{AllChanges, Turns, takes_adds, puts_adds}
+use Rattle.pat_rows.specs.declared.answer.Way.{Way}
+use Rattle.pat_rows.specs.declared.answer.Way.TheVariants.{Comes, Goes}
+use Rattle.pat_rows.specs.Answers.{answered}
+
+-- each is a row that doesn't begin before a time
+abbrev pub AllLate : ℕ → List Row → Type 0
+AllLate t [] = Unit {0}
+AllLate t (r ∷ rows) = (IsRow r × (t ≤ r.begin)) × AllLate t rows
+
+pub late-append : (t : ℕ) (xs ys : List Row) → AllLate t xs → AllLate t ys → AllLate t (xs ++ ys)
+late-append t [] ys h k = k
+late-append t (x ∷ xs) ys h k = (h.0, late-append t xs ys h.1 k)
+
+pub late-flat_map : {X : Type 0} (t : ℕ) (f : X → List Row) (xs : List X) → ((x : X) → AllLate t (f x)) → AllLate t (flat_map f xs)
+late-flat_map t f [] h = tt
+late-flat_map t f (x ∷ xs) h = late-append t (f x) (flat_map f xs) (h x) (late-flat_map t f xs h)
+
+-- what begins from a time on does so from an earlier one on
+pub late_earlier : (s t : ℕ) (rows : List Row) → s ≤ t → AllLate t rows → AllLate s rows
+late_earlier s t [] less h = tt
+late_earlier s t (r ∷ rows) less h = ((h.0.0, let from = h.0.1 in omega arith), late_earlier s t rows less h.1)
+
+pub late_changes : (way : Way) (t : ℕ) (rows : List Row) → AllLate t rows → AllChanges (map (answered way) rows)
+late_changes way t [] h = tt
+late_changes Comes t (r ∷ rows) h = (h.0.0, late_changes Comes t rows h.1)
+late_changes Goes t (r ∷ rows) h = ((h.0.0, omega arith, h.0.0.lives), late_changes Goes t rows h.1)
+
+pub late_from : (way : Way) (t : ℕ) (rows : List Row) → AllLate t rows → AllFrom t (map (answered way) rows)
+late_from way t [] h = tt
+late_from Comes t (r ∷ rows) h = (h.0.1, late_from Comes t rows h.1)
+late_from Goes t (r ∷ rows) h = (h.0.1, late_from Goes t rows h.1)
+
+takes_gone : (rows : List Row) → all_takes (map (answered Goes) rows) ≡ rows
+takes_gone [] = refl
+takes_gone (r ∷ rows) = ap (λ xs. r ∷ xs) (takes_gone rows)
+
+puts_gone : (rows : List Row) → all_puts (map (answered Goes) rows) ≡ []
+puts_gone [] = refl
+puts_gone (r ∷ rows) = (λ i. remnant_none r r.begin (omega arith) i ++ puts_gone rows i)
+
+-- additions turn nothing into their rows
+pub come_turns : (t : ℕ) (rows news : List Row) → AllLate t rows → SameRows rows news → Turns t [] news (map (answered Comes) rows)
+come_turns t rows news late same = record {
+  changes = late_changes Comes t rows late;
+  from = late_from Comes t rows late;
+  sums = λ r. omega (arith, same.each r, ap (count_of r) (takes_adds rows), ap (count_of r) (puts_adds rows));
+  there = λ r. omega (arith, ap (count_of r) (takes_adds rows));
+  apart = λ r. inl (ap (count_of r) (takes_adds rows));
+}
+
+-- cuts to the begin turn their rows into nothing
+pub go_turns : (t : ℕ) (rows olds : List Row) → AllLate t rows → SameRows rows olds → Turns t olds [] (map (answered Goes) rows)
+go_turns t rows olds late same = record {
+  changes = late_changes Goes t rows late;
+  from = late_from Goes t rows late;
+  sums = λ r. omega (arith, same.each r, ap (count_of r) (takes_gone rows), ap (count_of r) (puts_gone rows));
+  there = λ r. omega (arith, same.each r, ap (count_of r) (takes_gone rows));
+  apart = λ r. inr (ap (count_of r) (puts_gone rows));
+}
+
+-- where the rows stay the same, nothing has to change
+pub same_turns : (t : ℕ) (olds news : List Row) → SameRows olds news → Turns t olds news []
+same_turns t olds news same = record {
+  changes = tt;
+  from = tt;
+  sums = λ r. omega (arith, same.each r);
+  there = λ r. omega arith;
+  apart = λ r. inl refl;
+}

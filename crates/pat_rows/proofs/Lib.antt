@@ -1,0 +1,5 @@
+pub mod FlatLemmas
+pub mod WithinLemmas
+pub mod StepLemmas
+pub mod EndlessLemmas
+pub mod AnswerLemmas

@@ -1,0 +1,11 @@
+//! What patterns share: the rows of a port in order of begin, and whole rows that join or leave a result.
+//!
+//! A pattern reads a row's begin and its payload alone. So `ByBegin` keeps each row as if it never ended, and a
+//! retraction that leaves something of its row changes nothing here.
+#![tactic(auto)]
+
+mod answer;
+mod by_begin;
+
+pub use answer::{Way, push_answers};
+pub use by_begin::ByBegin;

@@ -1,0 +1,3 @@
+pub mod MatchLemmas
+pub mod FindLemmas
+pub mod RepairLemmas

@@ -1,0 +1,3 @@
+pub mod Sequences
+pub mod SequenceLaws
+pub mod Steps

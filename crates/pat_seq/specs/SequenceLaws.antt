@@ -1,0 +1,29 @@
+-- The laws of sequences.
+use Rattle.std.proofs.Common.{ℕ, zero, suc, List, [], refl, replicate, length, arith}
+use Rattle.cedr_base.specs.Rows.{SameRows}
+use Rattle.cedr_table.specs.Choices.{chosen}
+use Rattle.cedr_table.proofs.ChoiceLemmas.{nothing_chosen, same_chosen}
+use Rattle.cedr_table.specs.Operators.{Tables}
+use Rattle.cedr_table.specs.OperatorLaws.{OperatorLaws}
+use Rattle.cedr_table.specs.PortLaws.{least_rises, least_is_time}
+use Rattle.pat_rows.specs.Answers.{StandsByBegin}
+use Rattle.pat_rows.proofs.EndlessLemmas.{stands_later, stands_alike}
+use Rattle.cedr_expr.specs.declared.test.Test.{Test}
+use Rattle.pat_seq.specs.Sequences.{sequence, sequence_of, IsSequence}
+
+pub no_sequence : (scope : ℕ) (tests : List Test) (ports : ℕ) → SameRows (chosen (sequence scope tests) (replicate ports [])) []
+no_sequence scope tests zero = record { each = λ r. refl }
+no_sequence scope tests (suc ports) = nothing_chosen (sequence scope tests) ports
+
+pub sequence_laws : (scope : ℕ) (tests : List Test) (kept : Tables) → OperatorLaws (sequence_of (length kept) scope tests) (StandsByBegin (IsSequence (length kept) scope) kept)
+sequence_laws scope tests kept = record {
+  sized = λ tables marks h. (h.table, h.mark);
+  rising = λ tables marks later h k. stands_later kept tables marks later h k;
+  alike = λ tables others marks k h. stands_alike kept tables others marks k h;
+  same_rows = λ tables others k. same_chosen (sequence scope tests) tables others k;
+  nothing = no_sequence scope tests (length kept);
+  bound_rises = λ tables marks later h k. least_rises marks later k;
+  bound_stays = λ tables marks port change after h k m. omega arith;
+  bound_is_time = λ tables marks h k. least_is_time marks;
+  echo_bound = λ tables marks e h. cc;
+}

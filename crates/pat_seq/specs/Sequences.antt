@@ -1,0 +1,52 @@
+-- Sequences.
+use Rattle.std.specs.Prelude.{ℕ, ◌≤◌, List, [], ◌∷◌, Bool, true, false, ◌&&◌, nat_lt, if◌then◌else◌}
+use Rattle.std.specs.List.{flat_map}
+use Rattle.cedr_base.specs.declared.field.Field.{Field}
+use Rattle.cedr_base.specs.declared.row.Row.{Row}
+use Rattle.cedr_stream.specs.Times.{later}
+use Rattle.cedr_table.specs.Operators.{Meaning, least_of}
+use Rattle.cedr_table.specs.Choices.{chosen}
+use Rattle.cedr_expr.specs.declared.test.Test.{Test}
+use Rattle.cedr_expr.specs.Tests.{passes}
+use Rattle.cedr_stream.specs.Times.{IsWhile}
+
+-- after < e1.begin < e2.begin < .. < ek.begin < limit
+abbrev pub ascends : ℕ → ℕ → List Row → Bool
+ascends after limit [] = nat_lt after limit
+ascends after limit (e ∷ es) = nat_lt after e.begin && ascends e.begin limit es
+
+-- the begin of the last row, and the time itself where there is none
+abbrev pub last_begin : ℕ → List Row → ℕ
+last_begin after [] = after
+last_begin after (e ∷ es) = last_begin e.begin es
+
+-- the payloads of the rows, one after the other
+abbrev pub joined : List Row → List Field
+joined rows = flat_map (λ r. r.payload) rows
+
+-- the row of a choice: it begins with the last row, and ends when the scope of the first one does
+abbrev pub whole : ℕ → Row → List Row → Row
+whole scope e es = record { end = later e.begin scope; begin = last_begin e.begin es; payload = joined (e ∷ es) }
+
+-- the choice's row, where its rows begin one after the other within the scope of the first one and their payloads
+-- pass the tests
+abbrev pub sequence : ℕ → List Test → List Row → List Row
+sequence scope tests [] = []
+sequence scope tests (e ∷ es) = if ascends e.begin (later e.begin scope) es && passes tests (joined (e ∷ es)) [] then whole scope e es ∷ [] else []
+
+-- one row for each such choice of one row of each port
+abbrev pub sequence_of : ℕ → ℕ → List Test → Meaning
+sequence_of ports scope tests = record {
+  ports = ports;
+  result = chosen (sequence scope tests);
+  bound = λ _ marks. least_of marks;
+  may_hold = λ _ _ _ _. true;
+  echoes = false;
+  stateless = false;
+}
+
+-- a sequence has 2 to 4 ports, and its scope is a while
+pub record IsSequence (ports scope : ℕ) : Type 0 where
+  pub least : 2 ≤ ports
+  pub most : ports ≤ 4
+  pub scope_is : IsWhile scope

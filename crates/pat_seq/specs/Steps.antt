@@ -1,0 +1,55 @@
+-- How the choices with one changed row are found, port by port.
+use Rattle.std.specs.Prelude.{ℕ, zero, suc, ◌≡◌, ◌++◌, ◌+◌, ◌-◌, List, [], ◌∷◌, Bool, ◌&&◌, nat_lt, nat_eq, drop, if◌then◌else◌, map}
+use Rattle.std.specs.List.{flat_map, filter}
+use Rattle.cedr_base.specs.declared.row.Row.{Row}
+use Rattle.cedr_stream.specs.Times.{later}
+use Rattle.cedr_table.specs.Operators.{Tables, table_at, with_table}
+use Rattle.cedr_expr.specs.declared.test.Test.{Test}
+use Rattle.cedr_expr.specs.Tests.{passes}
+use Rattle.cedr_base.specs.declared.change.Change.{Change}
+use Rattle.cedr_base.specs.Rows.{SameRows}
+use Rattle.cedr_base.specs.Changes.{puts, takes}
+use Rattle.pat_rows.specs.declared.answer.Way.{Way}
+use Rattle.pat_rows.specs.Answers.{answered}
+use Rattle.pat_rows.specs.Starts.{begins_within, all_endless}
+
+-- the row so far of a choice that begins with this row
+abbrev pub begun : ℕ → Row → Row
+begun scope e = record { end = later e.begin scope; begin = e.begin; payload = e.payload }
+
+-- the row so far with one row more, where that begins later and within the scope
+abbrev pub next : Row → Row → List Row
+next so_far e = if nat_lt so_far.begin e.begin && nat_lt e.begin so_far.end then record { end = so_far.end; begin = e.begin; payload = so_far.payload ++ e.payload } ∷ [] else []
+
+-- the rows so far with one row more of a table
+abbrev pub grown : List Row → List Row → List Row
+grown so_far rows = flat_map (λ p. flat_map (next p) rows) so_far
+
+abbrev pub grown_all : List Row → Tables → List Row
+grown_all so_far [] = so_far
+grown_all so_far (t ∷ ts) = grown_all (grown so_far t) ts
+
+-- the row so far is a row of the result
+abbrev pub is_match : List Test → Row → Bool
+is_match tests p = nat_lt p.begin p.end && passes tests p.payload []
+
+-- the tables with a changed row alone on its port, and on the ports before it the rows that begin before that row
+abbrev pub near : Row → ℕ → Tables → Tables
+near x port [] = []
+near x zero (t ∷ ts) = (x ∷ []) ∷ ts
+near x (suc port) (t ∷ ts) = filter (λ r. nat_lt r.begin x.begin) t ∷ near x port ts
+
+-- the rows of the first port of which the changed one may be in the scope
+abbrev pub firsts : ℕ → Row → ℕ → List Row → List Row
+firsts scope x port rows = if nat_eq port 0 then x ∷ [] else filter (begins_within (x.begin + 1 - scope) x.begin) rows
+
+-- the rows of the result of the choices with a changed row on its port
+abbrev pub matches : ℕ → List Test → Row → ℕ → Tables → List Row
+matches scope tests x port tables = filter (is_match tests) (grown_all (map (begun scope) (firsts scope x port (table_at tables 0))) (drop 1 (near x port tables)))
+
+-- the rows of one port went through a change, and the rows of the choices with the changed row were answered
+pub record IsAnswered (scope : ℕ) (tests : List Test) (kept kept_after : Tables) (port : ℕ) (change : Change) (way : Way) (x : Row) (before after : List Change) : Type 0 where
+  pub rows : List Row
+  pub kept_is : kept_after ≡ with_table kept port rows
+  pub step : SameRows (rows ++ all_endless (takes change)) (table_at kept port ++ all_endless (puts change))
+  pub answers : after ≡ before ++ map (answered way) (matches scope tests x port kept)

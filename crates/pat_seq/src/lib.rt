@@ -1,0 +1,10 @@
+//! The pattern sequence: one row of each port, one after the other within a scope.
+#![tactic(auto)]
+
+mod matches;
+mod sequence;
+
+pub use sequence::Sequence;
+
+#[cfg(test)]
+mod tests;

@@ -1,0 +1,219 @@
+ghost use Rattle.std.specs.Prelude.{◌≡◌, ◌≤◌, ◌<◌, ◌++◌, ◌^◌, ◌∷◌, [], OnOk, IfOk, map, replicate, length};
+ghost use Rattle.std.specs.List.{flat_map, filter};
+ghost use Rattle.cedr_base.specs.declared.time.TheConstants.{FOREVER};
+ghost use Rattle.cedr_table.specs.Operators.{table_at};
+ghost use Rattle.pat_rows.specs.Starts.{begins_within};
+ghost use Rattle.pat_seq.specs.Steps.{begun, next, grown, near, firsts, is_match, matches};
+
+use cedr_base::{OutOfMemory, Payload, Row, Time, later};
+use cedr_expr::Tests;
+use pat_rows::ByBegin;
+use std::alloc::Global;
+
+/// The row so far of a choice that begins with this row: it ends when the scope does.
+fn begun(alloc: Global, scope: u64, row: &Row) -> Result<Row, OutOfMemory>
+    requires begin { row.now.begin ≤ FOREVER }
+    requires scope { scope ≤ 2 ^ 40 }
+    ensures { IfOk result (λ r. r ≡ begun scope row.now) }
+{
+    let payload = row.payload.copy(alloc)?;
+    Ok(Row {
+        end: later(row.begin, scope),
+        begin: row.begin,
+        payload,
+    })
+}
+
+/// Appends the row so far of a choice that begins with this row, once for each copy of the row.
+fn push_begun(
+    alloc: Global,
+    scope: u64,
+    row: &Row,
+    count: usize,
+    rows: &mut Vec<Row>,
+) -> Result<(), OutOfMemory>
+    requires begin { row.now.begin ≤ FOREVER }
+    requires scope { scope ≤ 2 ^ 40 }
+    ensures { OnOk result (rows.new.items ≡ rows.old.items ++ replicate count (begun scope row.now)) }
+{
+    for _ in 0..count {
+        let first = begun(alloc, scope, row)?;
+        rows.push(first)?;
+    }
+    Ok(())
+}
+
+/// The rows so far of the choices that begin with a row within these times.
+fn begun_within(
+    alloc: Global,
+    scope: u64,
+    kept: &ByBegin,
+    from: Time,
+    before: Time,
+) -> Result<Vec<Row>, OutOfMemory>
+    requires before { before ≤ FOREVER }
+    requires scope { scope ≤ 2 ^ 40 }
+    ensures { IfOk result (λ rows. rows.items ≡ map (begun scope) (filter (begins_within from before) kept.now)) }
+{
+    let mut rows = Vec::new(alloc);
+    for (row, count) in kept.within(alloc, from, before) {
+        push_begun(alloc, scope, row, *count, &mut rows)?;
+    }
+    Ok(rows)
+}
+
+/// The rows so far of the choices in which a changed row may stand on its port.
+fn first_rows(
+    alloc: Global,
+    scope: u64,
+    kept: &ByBegin,
+    changed: usize,
+    row: &Row,
+) -> Result<Vec<Row>, OutOfMemory>
+    requires begin { row.now.begin < FOREVER }
+    requires scope { scope ≤ 2 ^ 40 }
+    ensures { IfOk result (λ rows. rows.items ≡ map (begun scope) (firsts scope row.now changed kept.now)) }
+{
+    if changed == 0 {
+        let mut rows = Vec::new(alloc);
+        push_begun(alloc, scope, row, 1, &mut rows)?;
+        Ok(rows)
+    } else {
+        let from = (row.begin + 1).saturating_sub(scope);
+        begun_within(alloc, scope, kept, from, row.begin)
+    }
+}
+
+/// Appends the row so far with one row more, once for each copy of the row.
+fn push_joined(
+    alloc: Global,
+    so_far: &Row,
+    row: &Row,
+    count: usize,
+    rows: &mut Vec<Row>,
+) -> Result<(), OutOfMemory>
+    ensures { OnOk result (rows.new.items ≡ rows.old.items ++ replicate count (record { end = so_far.now.end; begin = row.now.begin; payload = so_far.now.payload ++ row.now.payload })) }
+{
+    for _ in 0..count {
+        let payload = so_far.payload.joined(alloc, &row.payload)?;
+        rows.push(Row {
+            end: so_far.end,
+            begin: row.begin,
+            payload,
+        })?;
+    }
+    Ok(())
+}
+
+/// The same, where the row begins later and within the scope.
+fn push_next(
+    alloc: Global,
+    so_far: &Row,
+    row: &Row,
+    count: usize,
+    rows: &mut Vec<Row>,
+) -> Result<(), OutOfMemory>
+    ensures { OnOk result (rows.new.items ≡ rows.old.items ++ flat_map (next so_far.now) (replicate count row.now)) }
+{
+    if so_far.begin < row.begin && row.begin < so_far.end {
+        push_joined(alloc, so_far, row, count, rows)
+    } else {
+        Ok(())
+    }
+}
+
+/// The same for each row that begins before a time.
+fn push_before(
+    alloc: Global,
+    kept: &ByBegin,
+    so_far: &Row,
+    before: Time,
+    rows: &mut Vec<Row>,
+) -> Result<(), OutOfMemory>
+    ensures { OnOk result (rows.new.items ≡ rows.old.items ++ flat_map (next so_far.now) (filter (begins_within so_far.now.begin before) kept.now)) }
+{
+    for (row, count) in kept.within(alloc, so_far.begin, before) {
+        push_next(alloc, so_far, row, *count, rows)?;
+    }
+    Ok(())
+}
+
+/// The same for each row of a port, of which the changed row is to stand on its own port.
+fn push_port(
+    alloc: Global,
+    kept: &[ByBegin],
+    changed: usize,
+    row: &Row,
+    port: usize,
+    so_far: &Row,
+    rows: &mut Vec<Row>,
+) -> Result<(), OutOfMemory>
+    requires { port < length kept.now }
+    ensures { OnOk result (rows.new.items ≡ rows.old.items ++ flat_map (next so_far.now) (table_at (near row.now changed kept.now) port)) }
+{
+    if port == changed {
+        push_next(alloc, so_far, row, 1, rows)
+    } else if port < changed {
+        let before = so_far.end.min(row.begin);
+        push_before(alloc, &kept[port], so_far, before, rows)
+    } else {
+        push_before(alloc, &kept[port], so_far, so_far.end, rows)
+    }
+}
+
+/// The rows so far with one row more of a port.
+fn grown(
+    alloc: Global,
+    kept: &[ByBegin],
+    changed: usize,
+    row: &Row,
+    port: usize,
+    so_far: &[Row],
+) -> Result<Vec<Row>, OutOfMemory>
+    requires { port < length kept.now }
+    ensures { IfOk result (λ rows. rows.items ≡ grown so_far.now (table_at (near row.now changed kept.now) port)) }
+{
+    let mut rows = Vec::new(alloc);
+    for partial in so_far {
+        push_port(alloc, kept, changed, row, port, partial, &mut rows)?;
+    }
+    Ok(rows)
+}
+
+/// Whether a row so far is a row of the result.
+fn is_match(tests: &Tests, nothing: &Payload, row: &Row) -> bool
+    requires { nothing.now ≡ [] }
+    ensures { result ≡ is_match tests.now row.now }
+{
+    row.begin < row.end && tests.holds(&row.payload, nothing)
+}
+
+/// Keeps the rows of the result.
+fn keep_matches(alloc: Global, tests: &Tests, rows: &mut Vec<Row>)
+    ensures { rows.new.items ≡ filter (is_match tests.now) rows.old.items }
+{
+    let nothing = Payload::new(alloc);
+    rows.retain(|row| is_match(tests, &nothing, row));
+}
+
+/// The rows of the result of the choices with a changed row on its port.
+pub(crate) fn find_matches(
+    alloc: Global,
+    scope: u64,
+    tests: &Tests,
+    kept: &[ByBegin],
+    changed: usize,
+    row: &Row,
+) -> Result<Vec<Row>, OutOfMemory>
+    requires begin { row.now.begin < FOREVER }
+    requires scope { scope ≤ 2 ^ 40 }
+    requires changed { changed < length kept.now }
+    ensures { IfOk result (λ rows. rows.items ≡ matches scope tests.now row.now changed kept.now) }
+{
+    let mut rows = first_rows(alloc, scope, &kept[0], changed, row)?;
+    for port in 1..kept.len() {
+        rows = grown(alloc, kept, changed, row, port, rows.as_slice())?;
+    }
+    keep_matches(alloc, tests, &mut rows);
+    Ok(rows)
+}

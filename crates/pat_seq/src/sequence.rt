@@ -1,0 +1,130 @@
+ghost use Rattle.std.specs.Prelude.{◌≡◌, ◌≤◌, ◌<◌, ◌++◌, ◌^◌, [], length, replicate, OnOk, OnErr, IfOk};
+ghost use Rattle.cedr_base.specs.declared.time.TheConstants.{FOREVER};
+ghost use Rattle.cedr_base.specs.Rows.{SameRows};
+ghost use Rattle.cedr_base.specs.Changes.{puts, takes};
+ghost use Rattle.cedr_table.specs.Operators.{table_at, with_table};
+ghost use Rattle.pat_rows.specs.Starts.{all_endless, HasRow};
+ghost use Rattle.cedr_stream.specs.Times.{IsWhile};
+ghost use Rattle.pat_seq.specs.Sequences.{sequence_of, IsSequence};
+ghost use Rattle.pat_seq.specs.Steps.{IsAnswered};
+
+use crate::matches::find_matches;
+use cedr_base::{Change, OutOfMemory, Row, Time};
+use cedr_expr::Tests;
+use cedr_table::{Operator, least_mark};
+use pat_rows::{ByBegin, Way, push_answers};
+use std::alloc::Global;
+
+/// One row for each choice of one row of each port, where they begin one after the other within the scope of the
+/// first one and their payloads pass the tests: `[ek.begin, later(e1.begin, scope))`, with the payloads joined in
+/// the order of the ports. The bound is the least mark.
+///
+/// It keeps the rows of its ports without their ends. A change of a row looks at rows that begin within the scope of
+/// it alone: for each ascending choice of the first ports, with that row on its port, O(log n) and the rows that may
+/// be the next one. A retraction that leaves something of its row takes O(1).
+#[derive(Drop)]
+pub struct Sequence {
+    scope: u64,
+    tests: Tests,
+    kept: Vec<ByBegin>,
+}
+
+impl Sequence {
+    /// A sequence has 2 to 4 ports. The scope is in application time, from 1 to 2^40. The tests see all payloads
+    /// joined as the left payload, and an empty right one.
+    pub fn new(
+        alloc: Global,
+        ports: usize,
+        scope: u64,
+        tests: Tests,
+    ) -> Result<Sequence, OutOfMemory>
+        requires ports { (2 ≤ ports) × (ports ≤ 4) }
+        requires scope { IsWhile scope }
+        ensures meaning { IfOk result (λ s. ⟦<Sequence as Operator>⟧.meaning s ≡ sequence_of ports scope tests) }
+        ensures stands { IfOk result (λ s. ⟦<Sequence as Operator>⟧.stands s (replicate ports []) (replicate ports 0)) }
+    {
+        let kept = empty_bags(alloc, ports)?;
+        Ok(Sequence { scope, tests, kept })
+    }
+
+    /// Takes a change, and appends a change for the row of each choice with the changed row.
+    fn answer(
+        &mut self,
+        alloc: Global,
+        port: usize,
+        change: &Change,
+        way: Way,
+        row: &Row,
+        out: &mut Vec<Change>,
+    ) -> Result<(), OutOfMemory>
+        requires begin { row.now.begin < FOREVER }
+        requires scope { self.old.scope ≤ 2 ^ 40 }
+        requires port { port < length self.old.kept.items }
+        requires there { HasRow (table_at self.old.kept.items port) change.now }
+        ensures ok { OnOk result ((self.new.scope ≡ self.old.scope) × (self.new.tests ≡ self.old.tests) × IsAnswered self.old.scope self.old.tests self.old.kept.items self.new.kept.items port change.now way row.now out.old.items out.new.items) }
+        ensures err { OnErr result (out.new.items ≡ out.old.items) }
+    {
+        let rows = find_matches(
+            alloc,
+            self.scope,
+            &self.tests,
+            self.kept.as_slice(),
+            port,
+            row,
+        )?;
+        self.kept[port].apply(alloc, change)?;
+        push_answers(way, rows, out)
+    }
+}
+
+/// As many bags with no row.
+fn empty_bags(alloc: Global, count: usize) -> Result<Vec<ByBegin>, OutOfMemory>
+    ensures { IfOk result (λ bags. bags.items ≡ replicate count []) }
+{
+    let mut bags = Vec::new(alloc);
+    for _ in 0..count {
+        bags.push(ByBegin::new(alloc))?;
+    }
+    Ok(bags)
+}
+
+impl Operator for Sequence {
+    ghost use Rattle.pat_rows.specs.Answers.{StandsByBegin};
+    ghost use Rattle.pat_seq.specs.SequenceLaws.{sequence_laws};
+
+    ghost meaning = { λ s. sequence_of (length s.kept.items) s.scope s.tests };
+
+    ghost stands = { λ s tables marks. StandsByBegin (IsSequence (length s.kept.items) s.scope) s.kept.items tables marks };
+
+    ghost held = { λ s. s.kept.items };
+
+    fn ports(&self) -> usize {
+        self.kept.len()
+    }
+
+    fn apply(
+        &mut self,
+        alloc: Global,
+        port: usize,
+        change: &Change,
+        out: &mut Vec<Change>,
+    ) -> Result<(), OutOfMemory> {
+        match change {
+            Change::Add(row) => self.answer(alloc, port, change, Way::Comes, row, out),
+            Change::Cut(row, end) => {
+                if row.begin < *end {
+                    return Ok(());
+                }
+                self.answer(alloc, port, change, Way::Goes, row, out)
+            }
+        }
+    }
+
+    fn bound(&self, marks: &[Time]) -> Time {
+        least_mark(marks)
+    }
+
+    fn trim(&mut self, _marks: &[Time]) {}
+
+    ghost lawful = { λ s. sequence_laws s.scope s.tests s.kept.items };
+}

@@ -1,0 +1,311 @@
+-- Changes of blocked and freed rows repair the result.
+use Rattle.std.proofs.Common.{◌≡◌, ℕ, ◌+◌, ◌<◌, ◌≤◌, List, [], ◌∷◌, ◌++◌, length, Bool, true, false, cond, refl, ap, sym, ◌∙◌, subst, arith}
+use Rattle.std.specs.Prelude.{map, sum_by, nat_lt, ◌&&◌, ◌||◌}
+use Rattle.std.specs.List.{flat_map}
+use Rattle.std.proofs.lemmas.Bool.{ltb-true, and_parts}
+use Rattle.std.proofs.lemmas.List.{append-nil}
+use Rattle.std.proofs.lemmas.List.Sums.{sum_by-cons}
+use Rattle.cedr_base.specs.declared.time.TheConstants.{FOREVER}
+use Rattle.cedr_base.specs.declared.row.Row.{Row}
+use Rattle.cedr_base.specs.declared.change.Change.{Change}
+use Rattle.cedr_base.specs.declared.change.Change.TheVariants.{Add, Cut}
+use Rattle.cedr_base.specs.Rows.{IsRow, count_of, one_if_same, SameRows}
+use Rattle.cedr_base.specs.Changes.{IsChange, sync_of, puts, takes, MayFollow}
+use Rattle.cedr_base.proofs.Bags.{count_of-append, count_of-cons}
+use Rattle.cedr_stream.specs.Repairs.{IsMoved, Repair}
+use Rattle.cedr_stream.specs.Times.{later}
+use Rattle.cedr_stream.proofs.BagSums.{sum_by-flat_map, same_flat_map, same_itself}
+use Rattle.cedr_stream.proofs.Moves.{sum_by-moved, sum_by-there, remnant_none, may_is}
+use Rattle.cedr_stream.proofs.RepairLemmas.{Turns, repair_by_turns}
+use Rattle.cedr_table.specs.Operators.{Tables, Gains, CanTake, table_at, mark_at, with_table, least_of}
+use Rattle.cedr_table.specs.PortLaws.{least_below, table_at-with, table_at-with_other}
+use Rattle.cedr_expr.specs.declared.test.Test.{Test}
+use Rattle.cedr_expr.specs.Tests.{passes}
+use Rattle.pat_rows.specs.declared.answer.Way.TheVariants.{Comes, Goes}
+use Rattle.pat_rows.specs.Starts.{endless, all_endless, endless_tables, HasRow}
+use Rattle.pat_rows.specs.Answers.{answered, StandsByBegin}
+use Rattle.pat_rows.proofs.FlatLemmas.{flat_map-like, flat_map-map}
+use Rattle.pat_rows.proofs.AnswerLemmas.{AllLate, late-flat_map, come_turns, go_turns, same_turns}
+use Rattle.pat_rows.proofs.EndlessLemmas.{kept_at, kept_moved, stands_after, stands_has, tables_ends, endless_at}
+use Rattle.pat_unless.specs.declared.terms.Terms.{Terms}
+use Rattle.pat_unless.specs.Blocking.{blocks, is_blocked, waited, unblocked, all_unblocked, AreWhiles}
+use Rattle.pat_unless.specs.BlockingLaws.{any_same, unblocked_same, same_unblocked}
+use Rattle.pat_unless.specs.Steps.{only_blocked, decided, IsStep, Appends}
+
+-- whether a row is blocked doesn't depend on ends
+blocked_endless : (scope : ℕ) (tests : List Test) (blockers : List Row) (a : Row) → is_blocked scope tests (all_endless blockers) a ≡ is_blocked scope tests blockers a
+blocked_endless scope tests [] a = refl
+blocked_endless scope tests (b ∷ blockers) a = ap (λ c. blocks scope tests a b || c) (blocked_endless scope tests blockers a)
+
+-- nor on more than what is kept of the blockers
+kept_blocked : (scope : ℕ) (tests : List Test) (kept blockers : List Row) (a : Row) → SameRows kept (all_endless blockers) → is_blocked scope tests kept a ≡ is_blocked scope tests blockers a
+kept_blocked scope tests kept blockers a same = any_same (blocks scope tests a) kept (all_endless blockers) same ∙ blocked_endless scope tests blockers a
+
+kept_unblocked : (scope hold : ℕ) (tests : List Test) (kept blockers : List Row) (a : Row) → SameRows kept (all_endless blockers) → unblocked scope hold tests kept a ≡ unblocked scope hold tests blockers a
+kept_unblocked scope hold tests kept blockers a same = ap (λ b. cond b [] (waited scope hold a)) (kept_blocked scope tests kept blockers a same)
+
+-- the result at tables with another one on a port
+with_rows : (scope hold : ℕ) (tests : List Test) (tables : Tables) (after : List Row) → length tables ≡ 2 → all_unblocked scope hold tests (with_table tables 0 after) ≡ flat_map (unblocked scope hold tests (table_at tables 1)) after
+with_rows scope hold tests tables after two = λ i. flat_map (unblocked scope hold tests (table_at-with_other tables 0 1 after (λ same. omega arith) i)) (table_at-with tables 0 after (omega arith) i)
+
+with_blockers : (scope hold : ℕ) (tests : List Test) (tables : Tables) (after : List Row) → length tables ≡ 2 → all_unblocked scope hold tests (with_table tables 1 after) ≡ flat_map (unblocked scope hold tests after) (table_at tables 0)
+with_blockers scope hold tests tables after two = λ i. flat_map (unblocked scope hold tests (table_at-with tables 1 after (omega arith) i)) (table_at-with_other tables 1 0 after (λ same. omega arith) i)
+
+late_life : (t begin end : ℕ) (a : Row) (b : Bool) → nat_lt begin end ≡ b → end ≤ FOREVER → t ≤ begin → AllLate t (cond b (record { end = end; begin = begin; payload = a.payload } ∷ []) [])
+late_life t begin end a true h time from = let lives = ltb-true begin end h in ((record { lives = lives; begins = omega arith; ends = time }, from), tt)
+late_life t begin end a false h time from = tt
+
+late_waited : (t scope hold : ℕ) (a : Row) → t ≤ later a.begin scope → AllLate t (waited scope hold a)
+late_waited t scope hold a from = late_life t (later a.begin scope) (later (later a.begin scope) hold) a (nat_lt (later a.begin scope) (later (later a.begin scope) hold)) refl (omega arith) from
+
+late_at : (t : ℕ) (b : Bool) (rows : List Row) → AllLate t rows → AllLate t (cond b [] rows)
+late_at t true rows late = tt
+late_at t false rows late = late
+
+late_unblocked : (t scope hold : ℕ) (tests : List Test) (blockers : List Row) (a : Row) → t ≤ later a.begin scope → AllLate t (unblocked scope hold tests blockers a)
+late_unblocked t scope hold tests blockers a from = late_at t (is_blocked scope tests blockers a) (waited scope hold a) (late_waited t scope hold a from)
+
+late_only : (t scope hold : ℕ) (tests : List Test) (others : List Row) (b a : Row) (blocking : Bool) → blocks scope tests a b ≡ blocking → t ≤ b.begin → AllLate t (cond blocking (unblocked scope hold tests others a) [])
+late_only t scope hold tests others b a true h from =
+    let both = and_parts (nat_lt a.begin b.begin) (nat_lt b.begin (later a.begin scope) && passes tests a.payload b.payload) h in
+    let within = ltb-true b.begin (later a.begin scope) (and_parts (nat_lt b.begin (later a.begin scope)) (passes tests a.payload b.payload) both.1).0 in
+    late_unblocked t scope hold tests others a (omega arith)
+late_only t scope hold tests others b a false h from = tt
+
+-- the rows of which a blocker decides don't begin before it
+late_decided : (t scope hold : ℕ) (tests : List Test) (others : List Row) (b : Row) (rows : List Row) → t ≤ b.begin → AllLate t (decided scope hold tests others b rows)
+late_decided t scope hold tests others b rows from = late-flat_map t (only_blocked scope hold tests others b) rows (λ a. late_only t scope hold tests others b a (blocks scope tests a b) refl from)
+
+-- the rows of which a blocker decides, of what is kept and of the tables
+kept_decided : (scope hold : ℕ) (tests : List Test) (kept_others others : List Row) (b : Row) (kept rows : List Row) → SameRows kept_others (all_endless others) → SameRows kept (all_endless rows)
+    → SameRows (decided scope hold tests kept_others b kept) (decided scope hold tests others b rows)
+kept_decided scope hold tests kept_others others b kept rows same_others same_rows = record {
+  each = λ r.
+      ap (count_of r) (flat_map-like (only_blocked scope hold tests kept_others b) (only_blocked scope hold tests others b) kept (λ a. ap (λ found. cond (blocks scope tests a b) found []) (kept_unblocked scope hold tests kept_others others a same_others)))
+      ∙ ((same_flat_map (only_blocked scope hold tests others b) kept (all_endless rows) same_rows).each r
+      ∙ ap (count_of r) (flat_map-map (only_blocked scope hold tests others b) endless rows));
+}
+
+-- with one blocker more a row is blocked by that one or by another
+one_more : (r : Row) (blocking blocked : Bool) (rows : List Row) → count_of r (cond (blocking || blocked) [] rows) + count_of r (cond blocking (cond blocked [] rows) []) ≡ count_of r (cond blocked [] rows)
+one_more r true true rows = refl
+one_more r true false rows = omega arith
+one_more r false true rows = refl
+one_more r false false rows = omega arith
+
+blocker_counts : (scope hold : ℕ) (tests : List Test) (all others : List Row) (b a r : Row) → SameRows all (b ∷ others) → count_of r (unblocked scope hold tests all a) + count_of r (only_blocked scope hold tests others b a) ≡ count_of r (unblocked scope hold tests others a)
+blocker_counts scope hold tests all others b a r same =
+    ap (λ found. count_of r found + count_of r (only_blocked scope hold tests others b a)) (unblocked_same scope hold tests all (b ∷ others) a same)
+    ∙ one_more r (blocks scope tests a b) (is_blocked scope tests others a) (waited scope hold a)
+
+sum_by-both : (f g h : Row → ℕ) (xs : List Row) → ((x : Row) → f x + g x ≡ h x) → sum_by f xs + sum_by g xs ≡ sum_by h xs
+sum_by-both f g h [] same = refl
+sum_by-both f g h (x ∷ xs) same = omega (arith, sum_by-cons f x xs, sum_by-cons g x xs, sum_by-cons h x xs, same x, sum_by-both f g h xs same)
+
+-- all rows without those of which a blocker decides are those that are left with it
+decided_counts : (scope hold : ℕ) (tests : List Test) (all others : List Row) (b r : Row) (rows : List Row) → SameRows all (b ∷ others)
+    → count_of r (flat_map (unblocked scope hold tests all) rows) + count_of r (decided scope hold tests others b rows) ≡ count_of r (flat_map (unblocked scope hold tests others) rows)
+decided_counts scope hold tests all others b r rows same =
+    (λ i. sum_by-flat_map (one_if_same r) (unblocked scope hold tests all) rows i + sum_by-flat_map (one_if_same r) (only_blocked scope hold tests others b) rows i)
+    ∙ (sum_by-both (λ a. count_of r (unblocked scope hold tests all a)) (λ a. count_of r (only_blocked scope hold tests others b a)) (λ a. count_of r (unblocked scope hold tests others a)) rows (λ a. blocker_counts scope hold tests all others b a r same)
+    ∙ sym (sum_by-flat_map (one_if_same r) (unblocked scope hold tests others) rows))
+
+-- a row that comes or goes on port 0 repairs what each row gives by itself
+rows_repair : (f : Row → List Row) (c : Change) (old after : List Row) (t : ℕ) (cs : List Change) → MayFollow old [] c → IsMoved c old after → Turns t (flat_map f (takes c)) (flat_map f (puts c)) cs → Repair (flat_map f old) (flat_map f after) t cs
+rows_repair f c old after t cs may moved turns = repair_by_turns (flat_map f old) (flat_map f after) (flat_map f (takes c)) (flat_map f (puts c)) t cs turns
+    (λ r. omega (
+      arith,
+      sum_by-flat_map (one_if_same r) f old,
+      sum_by-flat_map (one_if_same r) f after,
+      sum_by-flat_map (one_if_same r) f (takes c),
+      sum_by-flat_map (one_if_same r) f (puts c),
+      sum_by-moved (λ x. count_of r (f x)) c old after moved.sums,
+    ))
+    (λ r. omega (arith, sum_by-flat_map (one_if_same r) f old, sum_by-flat_map (one_if_same r) f (takes c), sum_by-there (λ x. count_of r (f x)) c old may))
+
+-- a row that comes on port 0 adds the row that it gives
+comes_at : (scope hold : ℕ) (tests : List Test) (kept_rows kept_blockers : List Row) (tables : Tables) (marks : List ℕ) (c : Change) (x : Row) (after : List Row) (given gained : List Change)
+    → c ≡ Add x → StandsByBegin (AreWhiles scope hold) (kept_rows ∷ kept_blockers ∷ []) tables marks → Appends Comes (unblocked scope hold tests kept_blockers x) given gained → CanTake tables marks 0 c → IsMoved c (table_at tables 0) after
+    → Gains (all_unblocked scope hold tests tables) (all_unblocked scope hold tests (with_table tables 0 after)) (least_of marks) given gained
+comes_at scope hold tests kept_rows kept_blockers tables marks c x after given gained is stands appends can moved =
+    let two = stands.table in
+    let lengths = stands.mark in
+    let f = unblocked scope hold tests (table_at tables 1) in
+    let given_by_it = unblocked scope hold tests kept_blockers x in
+    let row : IsRow x = subst IsChange is (may_is (table_at tables 0) [] c can.legal) in
+    let from : mark_at marks 0 ≤ x.begin = subst (λ (d : Change). mark_at marks 0 ≤ sync_of d) is can.from in
+    let least = least_below 0 marks (omega arith) in
+    let finite = row.begins in
+    let late : AllLate (least_of marks) given_by_it = late_unblocked (least_of marks) scope hold tests kept_blockers x (omega arith) in
+    let same : given_by_it ≡ f x = kept_unblocked scope hold tests kept_blockers (table_at tables 1) x (kept_at (kept_rows ∷ kept_blockers ∷ []) tables marks 1 stands) in
+    record {
+      changes = map (answered Comes) given_by_it;
+      appended = appends.answers;
+      repair =
+          subst (λ (new : List Row). Repair (all_unblocked scope hold tests tables) new (least_of marks) (map (answered Comes) given_by_it)) (sym (with_rows scope hold tests tables after two))
+          (rows_repair f c (table_at tables 0) after (least_of marks) (map (answered Comes) given_by_it) can.legal moved
+          (subst (λ (d : Change). Turns (least_of marks) (flat_map f (takes d)) (flat_map f (puts d)) (map (answered Comes) given_by_it)) (sym is)
+          (come_turns (least_of marks) given_by_it (f x ++ []) late (record { each = λ r. ap (count_of r) (same ∙ sym (append-nil (f x))) }))));
+    }
+
+pub row_comes : (scope hold : ℕ) (tests : List Test) (kept_rows kept_blockers : List Row) (tables : Tables) (marks : List ℕ) (port : ℕ) (c : Change) (x : Row) (after : List Row) (given gained : List Change)
+    → port ≡ 0 → c ≡ Add x → StandsByBegin (AreWhiles scope hold) (kept_rows ∷ kept_blockers ∷ []) tables marks → Appends Comes (unblocked scope hold tests kept_blockers x) given gained → CanTake tables marks port c → IsMoved c (table_at tables port) after
+    → Gains (all_unblocked scope hold tests tables) (all_unblocked scope hold tests (with_table tables port after)) (least_of marks) given gained
+row_comes scope hold tests kept_rows kept_blockers tables marks port c x after given gained at is stands appends =
+    subst (λ (port : ℕ). CanTake tables marks port c → IsMoved c (table_at tables port) after → Gains (all_unblocked scope hold tests tables) (all_unblocked scope hold tests (with_table tables port after)) (least_of marks) given gained) (sym at)
+    (comes_at scope hold tests kept_rows kept_blockers tables marks c x after given gained is stands appends)
+
+-- a row that goes on port 0 takes it
+goes_at : (scope hold : ℕ) (tests : List Test) (kept_rows kept_blockers : List Row) (tables : Tables) (marks : List ℕ) (c : Change) (x : Row) (end : ℕ) (after : List Row) (given gained : List Change)
+    → c ≡ Cut x end → end ≤ x.begin → StandsByBegin (AreWhiles scope hold) (kept_rows ∷ kept_blockers ∷ []) tables marks → Appends Goes (unblocked scope hold tests kept_blockers x) given gained → CanTake tables marks 0 c → IsMoved c (table_at tables 0) after
+    → Gains (all_unblocked scope hold tests tables) (all_unblocked scope hold tests (with_table tables 0 after)) (least_of marks) given gained
+goes_at scope hold tests kept_rows kept_blockers tables marks c x end after given gained is gone stands appends can moved =
+    let two = stands.table in
+    let lengths = stands.mark in
+    let f = unblocked scope hold tests (table_at tables 1) in
+    let given_by_it = unblocked scope hold tests kept_blockers x in
+    let row : IsRow x = (subst IsChange is (may_is (table_at tables 0) [] c can.legal)).0 in
+    let from : mark_at marks 0 ≤ end = subst (λ (d : Change). mark_at marks 0 ≤ sync_of d) is can.from in
+    let least = least_below 0 marks (omega arith) in
+    let finite = row.begins in
+    let late : AllLate (least_of marks) given_by_it = late_unblocked (least_of marks) scope hold tests kept_blockers x (omega arith) in
+    let same : given_by_it ≡ f x = kept_unblocked scope hold tests kept_blockers (table_at tables 1) x (kept_at (kept_rows ∷ kept_blockers ∷ []) tables marks 1 stands) in
+    record {
+      changes = map (answered Goes) given_by_it;
+      appended = appends.answers;
+      repair =
+          subst (λ (new : List Row). Repair (all_unblocked scope hold tests tables) new (least_of marks) (map (answered Goes) given_by_it)) (sym (with_rows scope hold tests tables after two))
+          (rows_repair f c (table_at tables 0) after (least_of marks) (map (answered Goes) given_by_it) can.legal moved
+          (subst (λ (d : Change). Turns (least_of marks) (flat_map f (takes d)) (flat_map f (puts d)) (map (answered Goes) given_by_it)) (sym is)
+          (subst (λ (left : List Row). Turns (least_of marks) (f x ++ []) (flat_map f left) (map (answered Goes) given_by_it)) (sym (remnant_none x end gone))
+          (go_turns (least_of marks) given_by_it (f x ++ []) late (record { each = λ r. ap (count_of r) (same ∙ sym (append-nil (f x))) })))));
+    }
+
+pub row_goes : (scope hold : ℕ) (tests : List Test) (kept_rows kept_blockers : List Row) (tables : Tables) (marks : List ℕ) (port : ℕ) (c : Change) (x : Row) (end : ℕ) (after : List Row) (given gained : List Change)
+    → port ≡ 0 → c ≡ Cut x end → end ≤ x.begin → StandsByBegin (AreWhiles scope hold) (kept_rows ∷ kept_blockers ∷ []) tables marks → Appends Goes (unblocked scope hold tests kept_blockers x) given gained → CanTake tables marks port c → IsMoved c (table_at tables port) after
+    → Gains (all_unblocked scope hold tests tables) (all_unblocked scope hold tests (with_table tables port after)) (least_of marks) given gained
+row_goes scope hold tests kept_rows kept_blockers tables marks port c x end after given gained at is gone stands appends =
+    subst (λ (port : ℕ). CanTake tables marks port c → IsMoved c (table_at tables port) after → Gains (all_unblocked scope hold tests tables) (all_unblocked scope hold tests (with_table tables port after)) (least_of marks) given gained) (sym at)
+    (goes_at scope hold tests kept_rows kept_blockers tables marks c x end after given gained is gone stands appends)
+
+-- a blocker that comes takes the rows that it alone blocks
+blocks_at : (scope hold : ℕ) (tests : List Test) (kept_rows kept_blockers : List Row) (tables : Tables) (marks : List ℕ) (c : Change) (b : Row) (after : List Row) (given gained : List Change)
+    → c ≡ Add b → StandsByBegin (AreWhiles scope hold) (kept_rows ∷ kept_blockers ∷ []) tables marks → Appends Goes (decided scope hold tests kept_blockers b kept_rows) given gained → CanTake tables marks 1 c → IsMoved c (table_at tables 1) after
+    → Gains (all_unblocked scope hold tests tables) (all_unblocked scope hold tests (with_table tables 1 after)) (least_of marks) given gained
+blocks_at scope hold tests kept_rows kept_blockers tables marks c b after given gained is stands appends can moved =
+    let two = stands.table in
+    let lengths = stands.mark in
+    let rows = table_at tables 0 in
+    let others = table_at tables 1 in
+    let found = decided scope hold tests kept_blockers b kept_rows in
+    let from : mark_at marks 1 ≤ b.begin = subst (λ (d : Change). mark_at marks 1 ≤ sync_of d) is can.from in
+    let least = least_below 1 marks (omega arith) in
+    let added : IsMoved (Add b) others after = subst (λ (d : Change). IsMoved d others after) is moved in
+    let all : SameRows after (b ∷ others) = record { each = λ r. omega (arith, added.sums.each r, count_of-append r after [], count_of-append r others (b ∷ []), count_of-cons r b others, count_of-cons r b []) } in
+    let same = kept_decided scope hold tests kept_blockers others b kept_rows rows (kept_at (kept_rows ∷ kept_blockers ∷ []) tables marks 1 stands) (kept_at (kept_rows ∷ kept_blockers ∷ []) tables marks 0 stands) in
+    record {
+      changes = map (answered Goes) found;
+      appended = appends.answers;
+      repair =
+          subst (λ (new : List Row). Repair (all_unblocked scope hold tests tables) new (least_of marks) (map (answered Goes) found)) (sym (with_blockers scope hold tests tables after two))
+          (repair_by_turns (flat_map (unblocked scope hold tests others) rows) (flat_map (unblocked scope hold tests after) rows) (decided scope hold tests others b rows) [] (least_of marks) (map (answered Goes) found)
+          (go_turns (least_of marks) found (decided scope hold tests others b rows) (late_decided (least_of marks) scope hold tests kept_blockers b kept_rows (omega arith)) same)
+          (λ r. omega (arith, decided_counts scope hold tests after others b r rows all))
+          (λ r. omega (arith, decided_counts scope hold tests after others b r rows all)));
+    }
+
+one_port : (tables : Tables) (marks : List ℕ) (port : ℕ) (c : Change) → length tables ≡ 2 → (port ≡ 0 → ⊥) → CanTake tables marks port c → port ≡ 1
+one_port tables marks port c two other can = let within = can.port_is in omega arith
+
+pub row_blocks : (scope hold : ℕ) (tests : List Test) (kept_rows kept_blockers : List Row) (tables : Tables) (marks : List ℕ) (port : ℕ) (c : Change) (b : Row) (after : List Row) (given gained : List Change)
+    → (port ≡ 0 → ⊥) → c ≡ Add b → StandsByBegin (AreWhiles scope hold) (kept_rows ∷ kept_blockers ∷ []) tables marks → Appends Goes (decided scope hold tests kept_blockers b kept_rows) given gained → CanTake tables marks port c → IsMoved c (table_at tables port) after
+    → Gains (all_unblocked scope hold tests tables) (all_unblocked scope hold tests (with_table tables port after)) (least_of marks) given gained
+row_blocks scope hold tests kept_rows kept_blockers tables marks port c b after given gained other is stands appends can moved =
+    subst (λ (port : ℕ). CanTake tables marks port c → IsMoved c (table_at tables port) after → Gains (all_unblocked scope hold tests tables) (all_unblocked scope hold tests (with_table tables port after)) (least_of marks) given gained) (sym (one_port tables marks port c stands.table other can))
+    (blocks_at scope hold tests kept_rows kept_blockers tables marks c b after given gained is stands appends) can moved
+
+-- a blocker that goes adds the rows that no other one blocks
+frees_at : (scope hold : ℕ) (tests : List Test) (kept_rows kept_blockers kept_others : List Row) (tables : Tables) (marks : List ℕ) (c : Change) (b : Row) (end : ℕ) (after : List Row) (given gained : List Change)
+    → c ≡ Cut b end → end ≤ b.begin → StandsByBegin (AreWhiles scope hold) (kept_rows ∷ kept_blockers ∷ []) tables marks → IsStep c kept_blockers kept_others → Appends Comes (decided scope hold tests kept_others b kept_rows) given gained → CanTake tables marks 1 c → IsMoved c (table_at tables 1) after
+    → Gains (all_unblocked scope hold tests tables) (all_unblocked scope hold tests (with_table tables 1 after)) (least_of marks) given gained
+frees_at scope hold tests kept_rows kept_blockers kept_others tables marks c b end after given gained is gone stands step appends can moved =
+    let two = stands.table in
+    let lengths = stands.mark in
+    let rows = table_at tables 0 in
+    let blockers = table_at tables 1 in
+    let found = decided scope hold tests kept_others b kept_rows in
+    let from : mark_at marks 1 ≤ end = subst (λ (d : Change). mark_at marks 1 ≤ sync_of d) is can.from in
+    let least = least_below 1 marks (omega arith) in
+    let taken : IsMoved (Cut b end) blockers after = subst (λ (d : Change). IsMoved d blockers after) is moved in
+    let none = remnant_none b end gone in
+    let all : SameRows blockers (b ∷ after) = record { each = λ r. omega (arith, taken.sums.each r, ap (count_of r) none, count_of-append r after (b ∷ []), count_of-append r blockers (puts (Cut b end)), count_of-cons r b after, count_of-cons r b []) } in
+    let others : SameRows kept_others (all_endless after) = kept_moved c kept_blockers kept_others blockers after (kept_at (kept_rows ∷ kept_blockers ∷ []) tables marks 1 stands) step.sums moved in
+    let same = kept_decided scope hold tests kept_others after b kept_rows rows others (kept_at (kept_rows ∷ kept_blockers ∷ []) tables marks 0 stands) in
+    record {
+      changes = map (answered Comes) found;
+      appended = appends.answers;
+      repair =
+          subst (λ (new : List Row). Repair (all_unblocked scope hold tests tables) new (least_of marks) (map (answered Comes) found)) (sym (with_blockers scope hold tests tables after two))
+          (repair_by_turns (flat_map (unblocked scope hold tests blockers) rows) (flat_map (unblocked scope hold tests after) rows) [] (decided scope hold tests after b rows) (least_of marks) (map (answered Comes) found)
+          (come_turns (least_of marks) found (decided scope hold tests after b rows) (late_decided (least_of marks) scope hold tests kept_others b kept_rows (omega arith)) same)
+          (λ r. omega (arith, decided_counts scope hold tests blockers after b r rows all))
+          (λ r. omega arith));
+    }
+
+pub row_frees : (scope hold : ℕ) (tests : List Test) (kept_rows kept_blockers kept_others : List Row) (tables : Tables) (marks : List ℕ) (port : ℕ) (c : Change) (b : Row) (end : ℕ) (after : List Row) (given gained : List Change)
+    → (port ≡ 0 → ⊥) → c ≡ Cut b end → end ≤ b.begin → StandsByBegin (AreWhiles scope hold) (kept_rows ∷ kept_blockers ∷ []) tables marks → IsStep c kept_blockers kept_others → Appends Comes (decided scope hold tests kept_others b kept_rows) given gained → CanTake tables marks port c → IsMoved c (table_at tables port) after
+    → Gains (all_unblocked scope hold tests tables) (all_unblocked scope hold tests (with_table tables port after)) (least_of marks) given gained
+row_frees scope hold tests kept_rows kept_blockers kept_others tables marks port c b end after given gained other is gone stands step appends can moved =
+    subst (λ (port : ℕ). CanTake tables marks port c → IsMoved c (table_at tables port) after → Gains (all_unblocked scope hold tests tables) (all_unblocked scope hold tests (with_table tables port after)) (least_of marks) given gained) (sym (one_port tables marks port c stands.table other can))
+    (frees_at scope hold tests kept_rows kept_blockers kept_others tables marks c b end after given gained is gone stands step appends) can moved
+
+-- the result doesn't depend on ends
+result_endless : (scope hold : ℕ) (tests : List Test) (tables : Tables) → all_unblocked scope hold tests (endless_tables tables) ≡ all_unblocked scope hold tests tables
+result_endless scope hold tests tables =
+    (λ i. flat_map (unblocked scope hold tests (endless_at tables 1 i)) (endless_at tables 0 i))
+    ∙ (flat_map-map (unblocked scope hold tests (all_endless (table_at tables 1))) endless (table_at tables 0)
+    ∙ flat_map-like (λ a. unblocked scope hold tests (all_endless (table_at tables 1)) (endless a)) (unblocked scope hold tests (table_at tables 1)) (table_at tables 0)
+    (λ a. ap (λ b. cond b [] (waited scope hold a)) (blocked_endless scope tests (table_at tables 1) a)))
+
+-- a row that ends earlier changes nothing of the result
+pub row_stays : (scope hold : ℕ) (tests : List Test) (tables : Tables) (marks : List ℕ) (port : ℕ) (c : Change) (x : Row) (end : ℕ) (after : List Row) (given : List Change)
+    → c ≡ Cut x end → x.begin < end → CanTake tables marks port c → IsMoved c (table_at tables port) after
+    → Gains (all_unblocked scope hold tests tables) (all_unblocked scope hold tests (with_table tables port after)) (least_of marks) given given
+row_stays scope hold tests tables marks port c x end after given is lives can moved =
+    let next = with_table tables port after in
+    let same = same_unblocked scope hold tests (endless_tables tables) (endless_tables next) (tables_ends tables port c x end after is lives moved) in
+    record {
+      changes = [];
+      appended = sym (append-nil given);
+      repair = repair_by_turns (all_unblocked scope hold tests tables) (all_unblocked scope hold tests next) [] [] (least_of marks) [] (same_turns (least_of marks) [] [] (same_itself []))
+          (λ r. omega (arith, same.each r, ap (count_of r) (result_endless scope hold tests tables), ap (count_of r) (result_endless scope hold tests next)))
+          (λ r. omega arith);
+    }
+
+-- the kept rows stand for the tables after an answered change
+pub rows_stand : (terms terms' : Terms) (kept_rows kept_rows' kept_blockers kept_blockers' : List Row) (tables : Tables) (marks : List ℕ) (port : ℕ) (c : Change) (after : List Row)
+    → port ≡ 0 → terms' ≡ terms → kept_blockers' ≡ kept_blockers → IsStep c kept_rows kept_rows' → StandsByBegin (AreWhiles terms.scope terms.hold) (kept_rows ∷ kept_blockers ∷ []) tables marks → IsMoved c (table_at tables port) after
+    → StandsByBegin (AreWhiles terms'.scope terms'.hold) (kept_rows' ∷ kept_blockers' ∷ []) (with_table tables port after) marks
+rows_stand terms terms' kept_rows kept_rows' kept_blockers kept_blockers' tables marks port c after at same_terms same_blockers step stands =
+    subst (λ (t : Terms). IsMoved c (table_at tables port) after → StandsByBegin (AreWhiles t.scope t.hold) (kept_rows' ∷ kept_blockers' ∷ []) (with_table tables port after) marks) (sym same_terms)
+    (subst (λ (bs : List Row). IsMoved c (table_at tables port) after → StandsByBegin (AreWhiles terms.scope terms.hold) (kept_rows' ∷ bs ∷ []) (with_table tables port after) marks) (sym same_blockers)
+    (subst (λ (p : ℕ). IsMoved c (table_at tables p) after → StandsByBegin (AreWhiles terms.scope terms.hold) (kept_rows' ∷ kept_blockers ∷ []) (with_table tables p after) marks) (sym at)
+    (stands_after (kept_rows ∷ kept_blockers ∷ []) tables marks 0 c kept_rows' after stands step.sums)))
+
+pub blockers_stand : (terms terms' : Terms) (kept_rows kept_rows' kept_blockers kept_blockers' : List Row) (tables : Tables) (marks : List ℕ) (port : ℕ) (c : Change) (after : List Row)
+    → (port ≡ 0 → ⊥) → terms' ≡ terms → kept_rows' ≡ kept_rows → IsStep c kept_blockers kept_blockers' → StandsByBegin (AreWhiles terms.scope terms.hold) (kept_rows ∷ kept_blockers ∷ []) tables marks → CanTake tables marks port c → IsMoved c (table_at tables port) after
+    → StandsByBegin (AreWhiles terms'.scope terms'.hold) (kept_rows' ∷ kept_blockers' ∷ []) (with_table tables port after) marks
+blockers_stand terms terms' kept_rows kept_rows' kept_blockers kept_blockers' tables marks port c after other same_terms same_rows step stands can =
+    subst (λ (t : Terms). IsMoved c (table_at tables port) after → StandsByBegin (AreWhiles t.scope t.hold) (kept_rows' ∷ kept_blockers' ∷ []) (with_table tables port after) marks) (sym same_terms)
+    (subst (λ (rs : List Row). IsMoved c (table_at tables port) after → StandsByBegin (AreWhiles terms.scope terms.hold) (rs ∷ kept_blockers' ∷ []) (with_table tables port after) marks) (sym same_rows)
+    (subst (λ (p : ℕ). IsMoved c (table_at tables p) after → StandsByBegin (AreWhiles terms.scope terms.hold) (kept_rows ∷ kept_blockers' ∷ []) (with_table tables p after) marks) (sym (one_port tables marks port c stands.table other can))
+    (stands_after (kept_rows ∷ kept_blockers ∷ []) tables marks 1 c kept_blockers' after stands step.sums)))
+
+-- the row that a change of a port cuts is kept there
+pub has_rows : {range : Type 0} (kept_rows kept_blockers : List Row) (tables : Tables) (marks : List ℕ) (port : ℕ) (c : Change) → port ≡ 0 → StandsByBegin range (kept_rows ∷ kept_blockers ∷ []) tables marks → CanTake tables marks port c → HasRow kept_rows c
+has_rows kept_rows kept_blockers tables marks port c at stands can =
+    subst (λ (p : ℕ). MayFollow (table_at tables p) [] c → HasRow kept_rows c) (sym at) (stands_has (kept_rows ∷ kept_blockers ∷ []) tables marks 0 c stands) can.legal
+
+pub has_blockers : {range : Type 0} (kept_rows kept_blockers : List Row) (tables : Tables) (marks : List ℕ) (port : ℕ) (c : Change) → (port ≡ 0 → ⊥) → StandsByBegin range (kept_rows ∷ kept_blockers ∷ []) tables marks → CanTake tables marks port c → HasRow kept_blockers c
+has_blockers kept_rows kept_blockers tables marks port c other stands can =
+    subst (λ (p : ℕ). MayFollow (table_at tables p) [] c → HasRow kept_blockers c) (sym (one_port tables marks port c stands.table other can)) (stands_has (kept_rows ∷ kept_blockers ∷ []) tables marks 1 c stands) can.legal

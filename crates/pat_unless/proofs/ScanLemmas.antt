@@ -1,0 +1,111 @@
+-- What the scans of kept rows find.
+use Rattle.std.proofs.Common.{◌≡◌, ℕ, zero, suc, ◌+◌, ◌-◌, ◌<◌, ◌≤◌, inl, inr, List, [], ◌∷◌, ◌++◌, Bool, true, false, cond, refl, ap, sym, ◌∙◌, subst, arith}
+use Rattle.std.specs.Prelude.{replicate, nat_lt, nat_le, not, ◌&&◌, ◌||◌}
+use Rattle.std.specs.List.{flat_map, filter, list_any}
+use Rattle.std.proofs.lemmas.Bool.{leb-true, leb-false, lt-ltb, le-ltb, and_parts, and_cases}
+use Rattle.std.proofs.lemmas.Bool.Decides.{nat_tests}
+use Rattle.cedr_base.specs.declared.time.TheConstants.{FOREVER}
+use Rattle.cedr_base.specs.declared.row.Row.{Row}
+use Rattle.cedr_stream.specs.Times.{later}
+use Rattle.cedr_table.specs.Counted.{spread}
+use Rattle.cedr_expr.specs.declared.test.Test.{Test}
+use Rattle.cedr_expr.specs.Tests.{passes}
+use Rattle.pat_rows.specs.Starts.{begins_within, AreWithin}
+use Rattle.pat_rows.proofs.FlatLemmas.{flat_map-filter, same_copies, no_copies}
+use Rattle.pat_unless.specs.Blocking.{blocks, is_blocked, waited, unblocked}
+use Rattle.pat_unless.specs.Steps.{only_blocked, freed, decided}
+
+-- one of several tests decides with another
+any_one : (b : Bool) (q : Row → Bool) (x : Row) (xs : List Row) (p : Bool) → p ≡ (b && q x) → (p || list_any q xs) ≡ list_any q (cond b (x ∷ xs) xs)
+any_one true q x xs p h = ap (λ c. c || list_any q xs) h
+any_one false q x xs p h = ap (λ c. c || list_any q xs) h
+
+any_filter : (p q w : Row → Bool) (xs : List Row) → ((x : Row) → p x ≡ (w x && q x)) → list_any p xs ≡ list_any q (filter w xs)
+any_filter p q w [] same = refl
+any_filter p q w (x ∷ xs) same = ap (λ b. p x || b) (any_filter p q w xs same) ∙ any_one (w x) q x (filter w xs) (p x) (same x)
+
+next_time : (a b : ℕ) → nat_lt a b ≡ nat_le (a + 1) b
+next_time a b = grind (arith, nat_tests)
+
+and_together : (a b c : Bool) → (a && (b && c)) ≡ ((a && b) && c)
+and_together true b c = refl
+and_together false b c = refl
+
+-- the rows that may block one begin within its scope
+pub blocked_within : (scope : ℕ) (tests : List Test) (blockers : List Row) (a : Row) (until : ℕ) (entries : List (Row × ℕ)) → until ≡ later a.begin scope → spread entries ≡ filter (begins_within (a.begin + 1) until) blockers
+    → is_blocked scope tests blockers a ≡ list_any (λ b. passes tests a.payload b.payload) (spread entries)
+blocked_within scope tests blockers a until entries is rows =
+    any_filter (blocks scope tests a) (λ b. passes tests a.payload b.payload) (begins_within (a.begin + 1) until) blockers
+    (λ b. and_together (nat_lt a.begin b.begin) (nat_lt b.begin (later a.begin scope)) (passes tests a.payload b.payload)
+    ∙ (λ i. (next_time a.begin b.begin i && nat_lt b.begin (sym is i)) && passes tests a.payload b.payload))
+    ∙ ap (list_any (λ b. passes tests a.payload b.payload)) (sym rows)
+
+any_behind : (q : Row → Bool) (count : ℕ) (x : Row) (xs : List Row) → q x ≡ false → list_any q (replicate count x ++ xs) ≡ list_any q xs
+any_behind q zero x xs h = refl
+any_behind q (suc count) x xs h = ap (λ b. b || list_any q (replicate count x ++ xs)) h ∙ any_behind q count x xs h
+
+any_first : (q : Row → Bool) (count : ℕ) (x : Row) (xs : List Row) → 0 < count → q x ≡ true → list_any q (replicate count x ++ xs) ≡ true
+any_first q zero x xs some h = absurd (omega arith)
+any_first q (suc count) x xs some h = ap (λ b. b || list_any q (replicate count x ++ xs)) h
+
+-- an entry that doesn't block
+pub scan_goes_on : (q : Row → Bool) (entries entries' : List (Row × ℕ)) (x : Row) (count : ℕ) (blocked : Bool) → entries ≡ (x, count) ∷ entries' → q x ≡ false → blocked ≡ list_any q (spread entries) → blocked ≡ list_any q (spread entries')
+scan_goes_on q entries entries' x count blocked is h was = was ∙ (ap (λ es. list_any q (spread es)) is ∙ any_behind q count x (spread entries') h)
+
+-- one that does
+pub scan_ends : (q : Row → Bool) (entries entries' : List (Row × ℕ)) (x : Row) (count from before : ℕ) (blocked : Bool) → entries ≡ (x, count) ∷ entries' → AreWithin from before entries → q x ≡ true → blocked ≡ list_any q (spread entries) → blocked ≡ true
+scan_ends q entries entries' x count from before blocked is within h was =
+    was ∙ (ap (λ es. list_any q (spread es)) is ∙ any_first q count x (spread entries') (subst (AreWithin from before) is within).0.0 h)
+
+-- the row that a row gives
+pub waited_copies : (scope hold : ℕ) (a : Row) (count begin end : ℕ) → begin ≡ later a.begin scope → end ≡ later begin hold → begin < end → replicate count (record { end = end; begin = begin; payload = a.payload }) ≡ flat_map (waited scope hold) (replicate count a)
+waited_copies scope hold a zero begin end begins ends lives = refl
+waited_copies scope hold a (suc count) begin end begins ends lives =
+    let until : end ≡ later (later a.begin scope) hold = ends ∙ ap (λ time. later time hold) begins in
+    let alive : nat_lt (later a.begin scope) (later (later a.begin scope) hold) ≡ true = lt-ltb (later a.begin scope) (later (later a.begin scope) hold) (omega arith) in
+    λ i. cond {A = List Row} (sym alive i) (record { end = until i; begin = begins i; payload = a.payload } ∷ []) [] ++ waited_copies scope hold a count begin end begins ends lives i
+
+pub waited_none : (scope hold : ℕ) (a : Row) (count begin end : ℕ) → begin ≡ later a.begin scope → end ≡ later begin hold → end ≤ begin → flat_map (waited scope hold) (replicate count a) ≡ []
+waited_none scope hold a count begin end begins ends empty =
+    no_copies (waited scope hold) count a
+    (ap {B = List Row} (λ b. cond b (record { end = later (later a.begin scope) hold; begin = later a.begin scope; payload = a.payload } ∷ []) []) (le-ltb (later a.begin scope) (later (later a.begin scope) hold) (omega arith)))
+
+-- a row that only a blocker blocks, and one that it doesn't or another one does
+pub freed_copies : (scope hold : ℕ) (tests : List Test) (others : List Row) (b a : Row) (count : ℕ) → passes tests a.payload b.payload ≡ true → is_blocked scope tests others a ≡ false → flat_map (freed scope hold tests others b) (replicate count a) ≡ flat_map (waited scope hold) (replicate count a)
+freed_copies scope hold tests others b a count pass free =
+    same_copies (freed scope hold tests others b) (waited scope hold) count a (λ i. cond (pass i && not (free i)) (waited scope hold a) [])
+
+pub unfreed_copies : (scope hold : ℕ) (tests : List Test) (others : List Row) (b a : Row) (count : ℕ) → (passes tests a.payload b.payload && not (is_blocked scope tests others a)) ≡ false → flat_map (freed scope hold tests others b) (replicate count a) ≡ []
+unfreed_copies scope hold tests others b a count h = no_copies (freed scope hold tests others b) count a (ap (λ c. cond c (waited scope hold a) []) h)
+
+freed_cases : (pass blocked : Bool) (rows : List Row) → cond (pass && not blocked) rows [] ≡ cond pass (cond blocked [] rows) []
+freed_cases true true rows = refl
+freed_cases true false rows = refl
+freed_cases false blocked rows = refl
+
+blocks_inside : (scope : ℕ) (tests : List Test) (a b : Row) → b.begin < FOREVER → begins_within (b.begin + 1 - scope) b.begin a ≡ true → blocks scope tests a b ≡ passes tests a.payload b.payload
+blocks_inside scope tests a b finite h =
+    let both = and_parts (nat_le (b.begin + 1 - scope) a.begin) (nat_lt a.begin b.begin) h in
+    let from = leb-true (b.begin + 1 - scope) a.begin both.0 in
+    λ i. both.1 i && (lt-ltb b.begin (later a.begin scope) (omega arith) i && passes tests a.payload b.payload)
+
+blocks_outside : (scope : ℕ) (tests : List Test) (a b : Row) → begins_within (b.begin + 1 - scope) b.begin a ≡ false → blocks scope tests a b ≡ false
+blocks_outside scope tests a b h = elim (and_cases (nat_le (b.begin + 1 - scope) a.begin) (nat_lt a.begin b.begin) h) [
+  | inl early ↦ (let before = leb-false (b.begin + 1 - scope) a.begin early in
+      let late : nat_lt b.begin (later a.begin scope) ≡ false = le-ltb b.begin (later a.begin scope) (omega arith) in
+      ap (λ c. nat_lt a.begin b.begin && (c && passes tests a.payload b.payload)) late ∙ none_and (nat_lt a.begin b.begin))
+  | inr late ↦ ap (λ c. c && (nat_lt b.begin (later a.begin scope) && passes tests a.payload b.payload)) late
+]
+  where
+    none_and : (b : Bool) → (b && false) ≡ false
+    none_and true = refl
+    none_and false = refl
+
+-- the rows of which a blocker decides have it in their scope
+pub decided_within : (scope hold : ℕ) (tests : List Test) (others : List Row) (b : Row) (kept : List Row) (from : ℕ) (entries : List (Row × ℕ)) → b.begin < FOREVER → from ≡ b.begin + 1 - scope → spread entries ≡ filter (begins_within from b.begin) kept
+    → flat_map (freed scope hold tests others b) (spread entries) ≡ decided scope hold tests others b kept
+decided_within scope hold tests others b kept from entries finite is rows =
+    ap (flat_map (freed scope hold tests others b)) (rows ∙ ap (λ (time : ℕ). filter (begins_within time b.begin) kept) is)
+    ∙ flat_map-filter (freed scope hold tests others b) (only_blocked scope hold tests others b) (begins_within (b.begin + 1 - scope) b.begin) kept
+    (λ a inside. freed_cases (passes tests a.payload b.payload) (is_blocked scope tests others a) (waited scope hold a) ∙ ap (λ c. cond c (unblocked scope hold tests others a) []) (sym (blocks_inside scope tests a b finite inside)))
+    (λ a outside. sym (ap (λ c. cond c (unblocked scope hold tests others a) []) (blocks_outside scope tests a b outside)))

@@ -1,0 +1,13 @@
+use Rattle.std.proofs.Common.{◌≡◌, ◌+◌}
+use Rattle.std.specs.List.{list_any}
+use Rattle.cedr_table.specs.Counted.{spread}
+use Rattle.cedr_expr.specs.Tests.{passes}
+use Rattle.pat_rows.specs.Starts.{AreWithin}
+use Rattle.pat_unless.specs.Blocking.{is_blocked}
+use Rattle.pat_unless.proofs.terms.Terms.is_blocked.Given as goal
+
+abbrev pub invariant-loop-blocker : goal.invariant-loop-blocker
+invariant-loop-blocker l = record {
+  rest : is_blocked l.self.scope l.self.tests l.blockers l.row ≡ list_any (λ b. passes l.self.tests l.row.payload b.payload) (spread l.blocker-iterator);
+  within : AreWithin (l.row.begin + 1) l.until l.blocker-iterator;
+}

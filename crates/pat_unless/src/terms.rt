@@ -1,0 +1,142 @@
+ghost use Rattle.std.specs.Prelude.{◌≡◌, ◌≤◌, ◌<◌, ◌++◌, ◌^◌, OnOk, IfOk, replicate};
+ghost use Rattle.std.specs.List.{flat_map};
+ghost use Rattle.cedr_base.specs.declared.time.TheConstants.{FOREVER};
+ghost use Rattle.pat_unless.specs.Blocking.{is_blocked, waited, unblocked, AreWhiles};
+ghost use Rattle.pat_unless.specs.Steps.{freed, decided};
+
+use cedr_base::{OutOfMemory, Payload, Row, Time, later};
+use cedr_expr::Tests;
+use pat_rows::ByBegin;
+use std::alloc::Global;
+
+/// For how long a row waits for a blocker, for how long it is held then, and which rows block.
+#[derive(Drop)]
+pub(crate) struct Terms {
+    pub(crate) scope: u64,
+    pub(crate) hold: u64,
+    pub(crate) tests: Tests,
+}
+
+/// Appends this many copies of a row.
+fn push_copies(
+    alloc: Global,
+    begin: Time,
+    end: Time,
+    payload: &Payload,
+    count: usize,
+    rows: &mut Vec<Row>,
+) -> Result<(), OutOfMemory>
+    ensures { OnOk result (rows.new.items ≡ rows.old.items ++ replicate count (record { end = end; begin = begin; payload = payload.now })) }
+{
+    for _ in 0..count {
+        let payload = payload.copy(alloc)?;
+        rows.push(Row {
+            end,
+            begin,
+            payload,
+        })?;
+    }
+    Ok(())
+}
+
+impl Terms {
+    /// Whether a row blocks this one. O(log n) comparisons, and O(1) and the tests for each row that begins within
+    /// its scope.
+    fn is_blocked(&self, alloc: Global, blockers: &ByBegin, row: &Row) -> bool
+        requires whiles { AreWhiles self.now.scope self.now.hold }
+        requires begin { row.now.begin < FOREVER }
+        ensures { result ≡ is_blocked self.now.scope self.now.tests blockers.now row.now }
+    {
+        let until = later(row.begin, self.scope);
+        for (blocker, _) in blockers.within(alloc, row.begin + 1, until) {
+            if self.tests.holds(&row.payload, &blocker.payload) {
+                return true;
+            }
+        }
+        false
+    }
+
+    /// Appends the row that a row gives where nothing blocks it, once for each copy of the row.
+    fn push_waited(
+        &self,
+        alloc: Global,
+        row: &Row,
+        count: usize,
+        rows: &mut Vec<Row>,
+    ) -> Result<(), OutOfMemory>
+        requires whiles { AreWhiles self.now.scope self.now.hold }
+        requires begin { row.now.begin < FOREVER }
+        ensures { OnOk result (rows.new.items ≡ rows.old.items ++ flat_map (waited self.now.scope self.now.hold) (replicate count row.now)) }
+    {
+        let begin = later(row.begin, self.scope);
+        let end = later(begin, self.hold);
+        if begin < end {
+            push_copies(alloc, begin, end, &row.payload, count, rows)
+        } else {
+            Ok(())
+        }
+    }
+
+    /// The row that a row gives, where nothing blocks it.
+    pub(crate) fn unblocked(
+        &self,
+        alloc: Global,
+        blockers: &ByBegin,
+        row: &Row,
+    ) -> Result<Vec<Row>, OutOfMemory>
+        requires whiles { AreWhiles self.now.scope self.now.hold }
+        requires begin { row.now.begin < FOREVER }
+        ensures { IfOk result (λ rows. rows.items ≡ unblocked self.now.scope self.now.hold self.now.tests blockers.now row.now) }
+    {
+        let mut rows = Vec::new(alloc);
+        if !self.is_blocked(alloc, blockers, row) {
+            self.push_waited(alloc, row, 1, &mut rows)?;
+        }
+        Ok(rows)
+    }
+
+    /// Appends the row that a row with a blocker in its scope gives where no other row blocks it, once for each
+    /// copy of the row.
+    fn push_freed(
+        &self,
+        alloc: Global,
+        others: &ByBegin,
+        blocker: &Row,
+        row: &Row,
+        count: usize,
+        rows: &mut Vec<Row>,
+    ) -> Result<(), OutOfMemory>
+        requires whiles { AreWhiles self.now.scope self.now.hold }
+        requires begin { row.now.begin < FOREVER }
+        ensures { OnOk result (rows.new.items ≡ rows.old.items ++ flat_map (freed self.now.scope self.now.hold self.now.tests others.now blocker.now) (replicate count row.now)) }
+    {
+        if self.tests.holds(&row.payload, &blocker.payload)
+            && !self.is_blocked(alloc, others, row)
+        {
+            self.push_waited(alloc, row, count, rows)
+        } else {
+            Ok(())
+        }
+    }
+
+    /// The rows of the result of which a blocker decides. O(log n) comparisons, O(1) and the tests for each row with
+    /// the blocker in its scope, and for each of them that passes, the search for another blocker.
+    pub(crate) fn decided(
+        &self,
+        alloc: Global,
+        others: &ByBegin,
+        blocker: &Row,
+        kept: &ByBegin,
+    ) -> Result<Vec<Row>, OutOfMemory>
+        requires whiles { AreWhiles self.now.scope self.now.hold }
+        requires begin { blocker.now.begin < FOREVER }
+        ensures { IfOk result (λ rows. rows.items ≡ decided self.now.scope self.now.hold self.now.tests others.now blocker.now kept.now) }
+    {
+        let from = (blocker.begin + 1).saturating_sub(self.scope);
+        let mut rows = Vec::new(alloc);
+        for (row, count) in kept.within(alloc, from, blocker.begin) {
+            self.push_freed(alloc, others, blocker, row, *count, &mut rows)?;
+        }
+        Ok(rows)
+    }
+}

@@ -1,0 +1,159 @@
+ghost use Rattle.std.specs.Prelude.{◌≡◌, ◌<◌, ◌∷◌, [], OnOk, OnErr};
+ghost use Rattle.cedr_base.specs.declared.time.TheConstants.{FOREVER};
+ghost use Rattle.pat_rows.specs.Starts.{HasRow};
+ghost use Rattle.cedr_stream.specs.Times.{IsWhile};
+ghost use Rattle.pat_rows.specs.declared.answer.Way.TheVariants.{Comes, Goes};
+ghost use Rattle.pat_unless.specs.Blocking.{unless_of, unblocked, AreWhiles};
+ghost use Rattle.pat_unless.specs.Steps.{decided, IsStep, Appends};
+
+use crate::terms::Terms;
+use cedr_base::{Change, OutOfMemory, Row, Time};
+use cedr_expr::Tests;
+use cedr_table::{Operator, least_mark};
+use pat_rows::{ByBegin, Way, push_answers};
+use std::alloc::Global;
+
+/// For each row a of port 0 such that no row b of port 1 has `a.begin < b.begin < later(a.begin, scope)` and passes
+/// the tests with it: `[later(a.begin, scope), later(later(a.begin, scope), hold))` with a's payload, and none where
+/// that is empty. The bound is the least mark.
+///
+/// It keeps the rows of its ports without their ends. A change on port 0 takes O(log n) and the rows of port 1 within
+/// the scope of its row, up to the first one that blocks. A change on port 1 takes O(log n) and the rows of port 0
+/// with its row in their scope, and for each of them that passes the tests with it, the search for another blocker. A
+/// retraction that leaves something of its row takes O(1).
+#[derive(Drop)]
+pub struct Unless {
+    terms: Terms,
+    rows: ByBegin,
+    blockers: ByBegin,
+}
+
+impl Unless {
+    /// The scope and the hold are in application time, from 1 to 2^40. The tests see a row of port 0 as the left
+    /// payload, and one of port 1 as the right one. It takes no memory.
+    pub fn new(alloc: Global, scope: u64, hold: u64, tests: Tests) -> Unless
+        requires scope { IsWhile scope }
+        requires hold { IsWhile hold }
+        ensures meaning { ⟦<Unless as Operator>⟧.meaning result ≡ unless_of scope hold tests }
+        ensures stands { ⟦<Unless as Operator>⟧.stands result ([] ∷ [] ∷ []) (0 ∷ 0 ∷ []) }
+    {
+        Unless {
+            terms: Terms { scope, hold, tests },
+            rows: ByBegin::new(alloc),
+            blockers: ByBegin::new(alloc),
+        }
+    }
+
+    /// Takes a change on port 0, and appends a change for the row that the changed row gives.
+    fn answer_row(
+        &mut self,
+        alloc: Global,
+        change: &Change,
+        way: Way,
+        row: &Row,
+        out: &mut Vec<Change>,
+    ) -> Result<(), OutOfMemory>
+        requires whiles { AreWhiles self.old.terms.scope self.old.terms.hold }
+        requires begin { row.now.begin < FOREVER }
+        requires there { HasRow self.old.rows change.now }
+        ensures ok { OnOk result ((self.new.terms ≡ self.old.terms) × (self.new.blockers ≡ self.old.blockers) × IsStep change.now self.old.rows self.new.rows × Appends way (unblocked self.old.terms.scope self.old.terms.hold self.old.terms.tests self.old.blockers row.now) out.old.items out.new.items) }
+        ensures err { OnErr result (out.new.items ≡ out.old.items) }
+    {
+        let rows = self.terms.unblocked(alloc, &self.blockers, row)?;
+        self.rows.apply(alloc, change)?;
+        push_answers(way, rows, out)
+    }
+
+    /// Takes a row that comes on port 1, and withdraws the rows that it blocks and no other row does.
+    fn block(
+        &mut self,
+        alloc: Global,
+        change: &Change,
+        blocker: &Row,
+        out: &mut Vec<Change>,
+    ) -> Result<(), OutOfMemory>
+        requires whiles { AreWhiles self.old.terms.scope self.old.terms.hold }
+        requires begin { blocker.now.begin < FOREVER }
+        requires there { HasRow self.old.blockers change.now }
+        ensures ok { OnOk result ((self.new.terms ≡ self.old.terms) × (self.new.rows ≡ self.old.rows) × IsStep change.now self.old.blockers self.new.blockers × Appends Goes (decided self.old.terms.scope self.old.terms.hold self.old.terms.tests self.old.blockers blocker.now self.old.rows) out.old.items out.new.items) }
+        ensures err { OnErr result (out.new.items ≡ out.old.items) }
+    {
+        let rows = self
+            .terms
+            .decided(alloc, &self.blockers, blocker, &self.rows)?;
+        self.blockers.apply(alloc, change)?;
+        push_answers(Way::Goes, rows, out)
+    }
+
+    /// Takes the withdrawal of a row on port 1, and adds the rows that no other row blocks.
+    fn free(
+        &mut self,
+        alloc: Global,
+        change: &Change,
+        blocker: &Row,
+        out: &mut Vec<Change>,
+    ) -> Result<(), OutOfMemory>
+        requires whiles { AreWhiles self.old.terms.scope self.old.terms.hold }
+        requires begin { blocker.now.begin < FOREVER }
+        requires there { HasRow self.old.blockers change.now }
+        ensures ok { OnOk result ((self.new.terms ≡ self.old.terms) × (self.new.rows ≡ self.old.rows) × IsStep change.now self.old.blockers self.new.blockers × Appends Comes (decided self.old.terms.scope self.old.terms.hold self.old.terms.tests self.new.blockers blocker.now self.old.rows) out.old.items out.new.items) }
+        ensures err { OnErr result (out.new.items ≡ out.old.items) }
+    {
+        self.blockers.apply(alloc, change)?;
+        let rows = self
+            .terms
+            .decided(alloc, &self.blockers, blocker, &self.rows)?;
+        push_answers(Way::Comes, rows, out)
+    }
+}
+
+impl Operator for Unless {
+    ghost use Rattle.pat_rows.specs.Answers.{StandsByBegin};
+    ghost use Rattle.pat_unless.specs.BlockingLaws.{unless_laws};
+
+    ghost meaning = { λ s. unless_of s.terms.scope s.terms.hold s.terms.tests };
+
+    ghost stands = { λ s tables marks. StandsByBegin (AreWhiles s.terms.scope s.terms.hold) (s.rows ∷ s.blockers ∷ []) tables marks };
+
+    ghost held = { λ s. s.rows ∷ s.blockers ∷ [] };
+
+    fn ports(&self) -> usize {
+        2
+    }
+
+    fn apply(
+        &mut self,
+        alloc: Global,
+        port: usize,
+        change: &Change,
+        out: &mut Vec<Change>,
+    ) -> Result<(), OutOfMemory> {
+        match change {
+            Change::Add(row) => {
+                if port == 0 {
+                    self.answer_row(alloc, change, Way::Comes, row, out)
+                } else {
+                    self.block(alloc, change, row, out)
+                }
+            }
+            Change::Cut(row, end) => {
+                if row.begin < *end {
+                    return Ok(());
+                }
+                if port == 0 {
+                    self.answer_row(alloc, change, Way::Goes, row, out)
+                } else {
+                    self.free(alloc, change, row, out)
+                }
+            }
+        }
+    }
+
+    fn bound(&self, marks: &[Time]) -> Time {
+        least_mark(marks)
+    }
+
+    fn trim(&mut self, _marks: &[Time]) {}
+
+    ghost lawful = { λ s. unless_laws s.terms.scope s.terms.hold s.terms.tests s.rows s.blockers };
+}
