@@ -1,0 +1,6 @@
+pub mod PortLemmas
+pub mod PortLists
+pub mod Goes
+pub mod Echo
+pub mod First
+pub mod Takes

@@ -1,0 +1,89 @@
+-- What comes of a message, as the code has it.
+use Rattle.std.proofs.Common.{◌≡◌, ℕ, ◌+◌, ◌-◌, ◌<◌, ◌≤◌, List, [], ◌∷◌, ◌++◌, Bool, true, false, cond, ◌||◌, ap, sym, ◌∙◌, subst, arith, length, set, get_or, append_assoc}
+use Rattle.std.proofs.lemmas.List.{append-nil}
+use Rattle.std.proofs.lemmas.Bool.{or_parts}
+use Rattle.cedr_base.specs.declared.change.Message.{Message}
+use Rattle.cedr_base.specs.Messages.{IsLegalBehind, IsLegal}
+use Rattle.cedr_stream.proofs.Legal.{legal-push}
+use Rattle.cedr_laws.specs.Pass.{passed_of, pass}
+use Rattle.cedr_table.specs.Operators.{Tables, Meaning}
+use Rattle.cedr_laws.specs.Lists.{Lists, list_at, with_more}
+use Rattle.cedr_laws.specs.Lawful.{passes_of, any_broken}
+use Rattle.cedr_node.specs.Nodes.{is_broken, is_closing, levels_of, waiting_of, StandsBetween, IsPortTaken, IsTakenOn, ending, breaking}
+use Rattle.cedr_laws.proofs.Grows.{pass-push}
+use Rattle.cedr_laws.proofs.Passes.{passes}
+use Rattle.cedr_node.specs.declared.port.Port.{Port}
+use Rattle.cedr_drive.specs.Driving.{MayTake, Drives, Answers}
+use Rattle.cedr_node.proofs.PortLists.{all_at, levels_set, passes_length, passes_at, broken_set, waiting_set, open_not_over}
+use Rattle.cedr_node.proofs.Echo.{echo_single}
+use Rattle.cedr_node.proofs.Goes.{goes, breaks_off, passes_now}
+
+pub legal-split : (before xs ys : List Message) → IsLegalBehind before (xs ++ ys) → IsLegalBehind (before ++ xs) ys
+legal-split before [] ys h = subst (λ (bs : List Message). IsLegalBehind bs ys) (sym (append-nil before)) h
+legal-split before (x ∷ xs) ys h = subst (λ (bs : List Message). IsLegalBehind bs ys) (append_assoc before (x ∷ []) xs) (legal-split (before ++ x ∷ []) xs ys h.1)
+
+closing_low : (b : Bool) → cond {A = ℕ} b 1 0 ≤ 1
+closing_low true = omega arith
+closing_low false = omega arith
+
+pub count_fits : (b : Bool) (w : ℕ) (lists : Lists) (port : ℕ) (m : Message) → MayTake lists port m → w ≡ waiting_of lists → b ≡ is_closing m → cond b 1 0 < w + 1
+count_fits b w lists port m may w_is b_is = let e = ap (λ (c : Bool). cond {A = ℕ} c 1 0) b_is in omega (arith, waiting_set port lists m may.port_is may.comes.0)
+
+pub levels_taken : (ports ports' : List Port) (port : ℕ) (ms : List Message) (m : Message) (passed : List Message) → IsTakenOn ports ports' port ms m passed → levels_of ports' ≡ levels_of ports
+levels_taken ports ports' port ms m passed t =
+    ap (λ (ps : List Port). levels_of ps) t.stands_at ∙ levels_set port ports t.now t.was (t.taken.same_level ∙ ap (λ (p : Port). p.aligner.level) (sym t.stood_at))
+
+module _ (meaning : Meaning) (stands : Tables → List ℕ → Type 0) (ports ports' : List Port) (marks : List ℕ) (sent waiting waiting' : ℕ) (broken broken' closed broke : Bool) (lists : Lists) (given : List Message)
+    (port : ℕ) (m : Message) (passed : List Message)
+    (h : StandsBetween meaning stands ports marks sent waiting broken lists given) (may : MayTake lists port m) (t : IsTakenOn ports ports' port (list_at lists port) m passed)
+    (closed_is : closed ≡ is_closing m) (broke_is : broke ≡ is_broken m) (waiting_is : waiting' ≡ waiting - cond closed 1 0) (broken_is : broken' ≡ (broken || broke)) where
+  taken_now : IsPortTaken (get_or ports port t.was) t.now (list_at lists port) m [] passed
+  taken_now = subst (λ (p : Port). IsPortTaken p t.now (list_at lists port) m [] passed) (sym t.stood_at) t.taken
+
+  waiting_now : waiting' ≡ waiting_of (with_more lists port (m ∷ []))
+  waiting_now = let a = h.waiting_is in let e = ap (λ (c : Bool). cond {A = ℕ} c 1 0) closed_is in omega (arith, waiting_set port lists m may.port_is may.comes.0)
+
+  broken_now : broken' ≡ any_broken (with_more lists port (m ∷ []))
+  broken_now = broken_is ∙ (ap (λ (b : Bool). b || broke) h.broken_is ∙ (ap (λ (b : Bool). any_broken lists || b) broke_is ∙ sym (broken_set port lists m may.port_is may.comes.0)))
+
+  pub takes_broken : broken' ≡ true → StandsBetween meaning stands ports' marks sent waiting' broken' (with_more lists port (m ∷ [])) (given ++ breaking waiting')
+  takes_broken some =
+      subst (λ (ps : List Port). StandsBetween meaning stands ps marks sent waiting' broken' (with_more lists port (m ∷ [])) (given ++ breaking waiting')) (sym t.stands_at)
+      (breaks_off meaning stands stands [] ports marks marks sent sent waiting waiting' broken lists given port m t.was t.now passed given given h may taken_now waiting_now (sym broken_now ∙ some) broken' broken_now)
+
+  module _ (whole : broken' ≡ false) where
+    was_whole : any_broken lists ≡ false
+    was_whole = sym h.broken_is ∙ (or_parts broken broke (sym broken_is ∙ whole)).0
+
+    m_whole : is_broken m ≡ false
+    m_whole = sym broke_is ∙ (or_parts broken broke (sym broken_is ∙ whole)).1
+
+    pub driven : Drives meaning stands marks sent (passes_of (levels_of ports) lists) given
+    driven = h.drives was_whole (open_not_over port lists may.port_is may.comes.0)
+
+    pub port_within : port < length (passes_of (levels_of ports) lists)
+    port_within = let e = may.port_is in omega (arith, passes_length ports lists h.ports_stand)
+
+    pub may_pass : IsLegalBehind (list_at (passes_of (levels_of ports) lists) port) passed
+    may_pass =
+        let v = (get_or ports port t.was).aligner.level in
+        let l = list_at lists port in
+        let stood = all_at port ports lists t.was h.ports_stand may.port_is in
+        let legal : IsLegal (pass (get_or ports port t.was).aligner.level (list_at lists port ++ m ∷ [])) = (passes v (l ++ m ∷ []) (legal-push l m stood.aligns.legal may.comes)).legal in
+        let all : IsLegal (pass (get_or ports port t.was).aligner.level (list_at lists port) ++ passed_of (get_or ports port t.was).aligner.level (list_at lists port) m) = subst IsLegal (pass-push v l m) legal in
+        subst (λ (ms : List Message). IsLegalBehind (list_at (passes_of (levels_of ports) lists) port) ms) (sym taken_now.passed_on)
+        (subst (λ (ms : List Message). IsLegalBehind ms (passed_of (get_or ports port t.was).aligner.level (list_at lists port) m)) (sym (passes_at port ports lists t.was h.ports_stand may.port_is))
+        (legal-split [] (pass v l) (passed_of v l m) all))
+
+    module _ (stands' : Tables → List ℕ → Type 0) (held : Tables) (marks' : List ℕ) (sent' : ℕ) (before after : List Message)
+        (a : Answers meaning stands' held marks' sent sent' (passes_of (levels_of ports) lists) port passed given before after) where
+      echo_next : meaning.echoes ≡ true → passes_of (levels_of (set ports port t.now)) (with_more lists port (m ∷ [])) ≡ (given ++ (a.gained ++ ending waiting')) ∷ []
+      echo_next e =
+          sym (passes_now meaning stands stands' held ports marks marks' sent sent' waiting waiting' broken lists given port m t.was t.now passed before after h may taken_now waiting_now)
+          ∙ echo_single ports lists port m t.was given a.gained passed marks' sent sent' waiting' h.ports_stand may.port_is may.comes m_whole (h.echo was_whole e) driven.sent_is waiting_now taken_now.passed_on a.drives.works.marks_are
+          (a.echo_mark e) (a.echo e)
+
+      pub takes_whole : StandsBetween meaning stands' ports' marks' sent' waiting' broken' (with_more lists port (m ∷ [])) (given ++ (a.gained ++ ending waiting'))
+      takes_whole =
+          subst (λ (ps : List Port). StandsBetween meaning stands' ps marks' sent' waiting' broken' (with_more lists port (m ∷ [])) (given ++ (a.gained ++ ending waiting'))) (sym t.stands_at)
+          (goes meaning stands stands' held ports marks marks' sent sent' waiting waiting' broken lists given port m t.was t.now passed before after h may taken_now waiting_now (sym broken_now ∙ whole) a echo_next broken' broken_now)

@@ -1,0 +1,13 @@
+//! Nodes: an operator with an aligner on each port.
+//!
+//! A node takes the messages of its ports one after the other, in any order between the ports. Each goes through its
+//! port's aligner, and what that passes on goes through the operator. `cedr_laws` says what a node owes (`IsLawful`),
+//! and [`Node::take`] that it is met after each message.
+#![tactic(auto)]
+
+mod fault;
+mod node;
+mod port;
+
+pub use fault::NodeFault;
+pub use node::Node;

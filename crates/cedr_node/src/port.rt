@@ -1,0 +1,56 @@
+ghost use Rattle.std.specs.Prelude.{◌≡◌, ◌++◌, ◌∷◌, [], List, OnOk};
+ghost use Rattle.cedr_base.specs.declared.change.Message.{Message};
+ghost use Rattle.cedr_base.specs.Messages.{MayCome};
+ghost use Rattle.cedr_laws.specs.Pass.{IsLevel};
+
+use cedr_align::{Aligner, Fate};
+use cedr_base::{Level, Message, OutOfMemory};
+use cedr_laws::Forgotten;
+use std::alloc::Global;
+
+/// An aligner and what it forgot.
+#[derive(Drop)]
+pub(crate) struct Port {
+    aligner: Aligner,
+    forgotten: Vec<Forgotten>,
+}
+
+impl Port {
+    ghost use Rattle.cedr_node.specs.Nodes.{PortStands, IsPortTaken};
+
+    /// A port to which nothing came. Its block isn't over its memory. It takes no memory.
+    pub(crate) fn new(alloc: Global, level: Level) -> Port
+        requires { IsLevel level }
+        ensures stands { PortStands result [] }
+        ensures level { result.aligner.level ≡ level }
+    {
+        Port {
+            aligner: Aligner::new(level, alloc),
+            forgotten: Vec::new(alloc),
+        }
+    }
+
+    /// Takes a message that may come behind those before it, and appends what it passes on. Where memory runs out the
+    /// port is only to be dropped, and some of this may have been appended.
+    pub(crate) fn take(
+        &mut self,
+        alloc: Global,
+        message: Message,
+        passed: &mut Vec<Message>,
+    ) -> Result<(), OutOfMemory>
+        ensures { OnOk result ((ms : List Message) → PortStands self.old ms → MayCome ms message → IsPortTaken self.old self.new ms message passed.old.items passed.new.items) }
+    {
+        match self.aligner.take(alloc, message, passed)? {
+            Fate::Kept => {}
+            Fate::Forgotten(forgotten) => self.forgotten.push(forgotten)?,
+        }
+        Ok(())
+    }
+
+    /// What was forgotten, in the order in which it came. It takes no memory.
+    pub(crate) fn forgotten(&self) -> &[Forgotten]
+        ensures { result.now ≡ self.now.forgotten.items }
+    {
+        self.forgotten.as_slice()
+    }
+}
