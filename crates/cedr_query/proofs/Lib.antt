@@ -1,0 +1,5 @@
+pub mod Changing
+pub mod Feeding
+pub mod NodeLemmas
+pub mod QueryLemmas
+pub mod Answering

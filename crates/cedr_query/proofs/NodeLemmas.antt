@@ -1,0 +1,105 @@
+-- The nodes of a plan, one after the other.
+use Rattle.std.proofs.Common.{◌≡◌, ℕ, zero, suc, ◌+◌, ◌<◌, ◌≤◌, List, [], ◌∷◌, ◌++◌, Bool, true, false, cond, length, get_or, take, refl, ap, subst, sym, ◌∙◌, arith, append_assoc}
+use Rattle.std.specs.Prelude.{map, All, count_by}
+use Rattle.std.proofs.lemmas.List.{append-nil, take_more, length-map}
+use Rattle.std.proofs.lemmas.List.Sums.{sum_by-cons}
+use Rattle.std.proofs.lemmas.List.Elements.{All-get_or, All-from_get_or, All-head, All-tail}
+use Rattle.cedr_base.specs.declared.row.Row.{Row}
+use Rattle.cedr_base.specs.Rows.{count_of, SameRows, IsRow}
+use Rattle.cedr_plan.specs.declared.plan.NodeKind.{NodeKind}
+use Rattle.cedr_plan.specs.declared.plan.NodeKind.TheVariants as kind
+use Rattle.cedr_plan.specs.declared.plan.PlanNode.{PlanNode}
+use Rattle.cedr_plan.specs.Drawn.{Node, kind_of, node_of, is_output as is_drawn_output}
+use Rattle.cedr_plan.specs.Operators.{row_of}
+use Rattle.cedr_plan.specs.Rules.{operator_of_kind, numbers_of, IsNumber, IsInput, IsNode, AreNodes}
+use Rattle.cedr_table.specs.Operators.{Tables, SameTables, table_at}
+use Rattle.cedr_query.specs.Asked.{HasRows, AreRows}
+use Rattle.cedr_query.specs.Queries.{each_node, is_source, source_count}
+use Rattle.cedr_query.specs.Ready.{IsReady}
+
+more_behind : {X : Type 0} (make : List PlanNode → List X → PlanNode → X) (before : List PlanNode) (done : List X) (nodes : List PlanNode) (node : PlanNode)
+    → each_node make before done (nodes ++ node ∷ []) ≡ each_node make before done nodes ++ make (before ++ nodes) (each_node make before done nodes) node ∷ []
+more_behind make before done [] node = ap (λ (b : List PlanNode). done ++ make b done node ∷ []) (sym (append-nil before))
+more_behind make before done (n ∷ nodes) node =
+    more_behind make (before ++ n ∷ []) (done ++ make before done n ∷ []) nodes node
+    ∙ ap (λ (b : List PlanNode). each_node make (before ++ n ∷ []) (done ++ make before done n ∷ []) nodes ++ make b (each_node make (before ++ n ∷ []) (done ++ make before done n ∷ []) nodes) node ∷ []) (append_assoc before (n ∷ []) nodes)
+
+-- the value of one node more
+pub one_node_more : {X : Type 0} (make : List PlanNode → List X → PlanNode → X) (nodes : List PlanNode) (i : ℕ) (d : PlanNode) → i < length nodes
+    → each_node make [] [] (take (i + 1) nodes) ≡ each_node make [] [] (take i nodes) ++ make (take i nodes) (each_node make [] [] (take i nodes)) (get_or nodes i d) ∷ []
+one_node_more make nodes i d within = ap (each_node make [] []) (take_more nodes i d within) ∙ more_behind make [] [] (take i nodes) (get_or nodes i d)
+
+pub same_tables_push : (ts us : Tables) (t u : List Row) → SameTables ts us → SameRows t u → SameTables (ts ++ t ∷ []) (us ++ u ∷ [])
+same_tables_push [] [] t u same last = (last, tt)
+same_tables_push [] (y ∷ us) t u same last = absurd same
+same_tables_push (x ∷ ts) [] t u same last = absurd same
+same_tables_push (x ∷ ts) (y ∷ us) t u same last = (same.0, same_tables_push ts us t u same.1 last)
+
+rows_push : (ts : Tables) (t : List Row) → ((k : ℕ) (r : Row) → 0 < count_of r (table_at ts k) → IsRow r) → HasRows t → (k : ℕ) (r : Row) → 0 < count_of r (table_at (ts ++ t ∷ []) k) → IsRow r
+rows_push [] t are has zero r there = has.each r there
+rows_push [] t are has (suc k) r there = absurd (omega arith)
+rows_push (x ∷ ts) t are has zero r there = are 0 r there
+rows_push (x ∷ ts) t are has (suc k) r there = rows_push ts t (λ j. are (suc j)) has k r there
+
+pub are_rows_push : (ts : Tables) (t : List Row) → AreRows ts → HasRows t → AreRows (ts ++ t ∷ [])
+are_rows_push ts t are has = record { each = rows_push ts t are.each has }
+
+pub no_rows : AreRows []
+no_rows = record { each = λ k r there. absurd (omega arith) }
+
+node_behind : (earlier : List Node) (nodes : List PlanNode) (i : ℕ) (d : PlanNode) → AreNodes earlier (map node_of nodes) → i < length nodes → IsNode (earlier ++ map node_of (take i nodes)) (node_of (get_or nodes i d))
+node_behind earlier [] i d are within = absurd (omega arith)
+node_behind earlier (n ∷ nodes) zero d are within = subst (λ (e : List Node). IsNode e (node_of n)) (sym (append-nil earlier)) are.0
+node_behind earlier (n ∷ nodes) (suc i) d are within =
+    subst (λ (e : List Node). IsNode e (node_of (get_or nodes i d))) (append_assoc earlier (node_of n ∷ []) (map node_of (take i nodes))) (node_behind (earlier ++ node_of n ∷ []) nodes i d are.1 (omega arith))
+
+-- each node of a plan stands behind those before it
+pub node_is : (nodes : List PlanNode) (i : ℕ) (d : PlanNode) → AreNodes [] (map node_of nodes) → i < length nodes → IsNode (map node_of (take i nodes)) (node_of (get_or nodes i d))
+node_is nodes i d are within = node_behind [] nodes i d are within
+
+-- and reads nodes before it
+pub inputs_are : (before : List PlanNode) (node : PlanNode) → IsNode (map node_of before) (node_of node) → All (λ (place : ℕ). place < length before) node.inputs.items
+inputs_are before node is =
+    All-from_get_or (λ (place : ℕ). place < length before) node.inputs.items 0
+    (λ k h. let input = (All-get_or (IsInput (map node_of before)) node.inputs.items k 0 h is.inputs).0 in omega (arith, input, length-map before node_of))
+
+ready_from : (k : NodeKind) (ports : ℕ) → is_source k ≡ false → (row_of (operator_of_kind (kind_of k))).least ≤ ports → ports ≤ (row_of (operator_of_kind (kind_of k))).most → All IsNumber (numbers_of (kind_of k)) → IsReady k ports
+ready_from (kind.Source file) ports isnt least most numbers = cc
+ready_from (kind.Select tests) ports isnt least most numbers = omega arith
+ready_from (kind.Project keep) ports isnt least most numbers = omega arith
+ready_from kind.Union ports isnt least most numbers = (omega arith, omega arith)
+ready_from (kind.Join tests) ports isnt least most numbers = omega arith
+ready_from (kind.Window width) ports isnt least most numbers = let n = All-head IsNumber width [] numbers in (omega arith, record { least = n.0; most = n.1 })
+ready_from (kind.Shift by) ports isnt least most numbers = let n = All-head IsNumber by [] numbers in (omega arith, record { least = n.0; most = n.1 })
+ready_from (kind.Hop every width) ports isnt least most numbers =
+    let n = All-head IsNumber every (width ∷ []) numbers in
+    let m = All-head IsNumber width [] (All-tail IsNumber every (width ∷ []) numbers) in
+    (omega arith, record { least = n.0; most = n.1 }, record { least = m.0; most = m.1 })
+ready_from kind.Starts ports isnt least most numbers = omega arith
+ready_from kind.Ends ports isnt least most numbers = omega arith
+ready_from (kind.Group keys count sums) ports isnt least most numbers = omega arith
+ready_from (kind.Sequence scope tests) ports isnt least most numbers = let n = All-head IsNumber scope [] numbers in (omega arith, omega arith, record { least = n.0; most = n.1 })
+ready_from (kind.Unless scope hold tests) ports isnt least most numbers =
+    let n = All-head IsNumber scope (hold ∷ []) numbers in
+    let m = All-head IsNumber hold [] (All-tail IsNumber scope (hold ∷ []) numbers) in
+    (omega arith, record { least = n.0; most = n.1 }, record { least = m.0; most = m.1 })
+ready_from kind.Output ports isnt least most numbers = omega arith
+
+-- a node of a plan that is no source has what its operator asks for
+pub node_ready : (before : List Node) (node : PlanNode) → IsNode before (node_of node) → is_source node.kind ≡ false → IsReady node.kind (length node.inputs.items)
+node_ready before node is isnt = ready_from node.kind (length node.inputs.items) isnt is.least_ports is.most_ports is.numbers
+
+-- what a node adds to the number of sources
+abbrev counted : PlanNode → ℕ
+counted node = cond (is_source node.kind) 1 0
+
+-- before a source there are fewer sources than in all
+pub sources_before : (nodes : List PlanNode) (i : ℕ) (d : PlanNode) → i < length nodes → is_source (get_or nodes i d).kind ≡ true → source_count (take i nodes) < source_count nodes
+sources_before [] i d within is = absurd (omega arith)
+sources_before (n ∷ nodes) zero d within is = let one : counted n ≡ 1 = ap {B = ℕ} (λ b. cond b 1 0) is in omega (arith, one, sum_by-cons counted n nodes)
+sources_before (n ∷ nodes) (suc i) d within is = omega (arith, sources_before nodes i d (omega arith) is, sum_by-cons counted n nodes, sum_by-cons counted n (take i nodes))
+
+-- a plan has a node, its output
+pub has_node : (nodes : List PlanNode) → count_by is_drawn_output (map node_of nodes) ≡ 1 → 0 < length nodes
+has_node [] one = absurd (omega arith)
+has_node (n ∷ nodes) one = omega arith

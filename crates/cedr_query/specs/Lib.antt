@@ -1,0 +1,4 @@
+pub mod Queries
+pub mod Asked
+pub mod OutputLaws
+pub mod Ready

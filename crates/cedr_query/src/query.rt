@@ -1,0 +1,219 @@
+ghost use Rattle.std.specs.Prelude.{ℕ, ◌≡◌, ◌<◌, ◌≤◌, [], All, IfOk, OnOk, true, false, length, replicate};
+ghost use Rattle.cedr_base.specs.Rows.{SameRows};
+ghost use Rattle.cedr_table.specs.Operators.{Tables, AreTimes, SameTables, table_at, mark_at};
+ghost use Rattle.cedr_base.specs.declared.time.TheConstants.{FOREVER};
+ghost use Rattle.cedr_query.specs.Asked.{HasRows, AreRows};
+ghost use Rattle.cedr_query.specs.Queries.{is_source, is_output, source_count, output_place, query, reaches, each_node, node_table, node_mark};
+ghost use Rattle.cedr_query.specs.Ready.{IsReady};
+ghost use Rattle.cedr_plan.specs.Rules.{IsPlan};
+
+use crate::node::ask_node;
+use cedr_base::{OutOfMemory, Time};
+use cedr_plan::{NodeKind, Plan, PlanNode};
+use cedr_table::Table;
+use std::alloc::Global;
+
+fn is_source(kind: &NodeKind) -> bool
+    ensures { result ≡ is_source kind.now }
+{
+    matches!(kind, NodeKind::Source { .. })
+}
+
+fn is_output(kind: &NodeKind) -> bool
+    ensures { result ≡ is_output kind.now }
+{
+    matches!(kind, NodeKind::Output)
+}
+
+/// How many of the nodes are sources.
+fn count_sources(nodes: &[PlanNode]) -> usize
+    ensures { result ≡ source_count nodes.now }
+{
+    let mut count = 0;
+    for node in nodes {
+        if is_source(&node.kind) {
+            count += 1;
+        }
+    }
+    count
+}
+
+/// A table with the same rows.
+fn copy_table(alloc: Global, table: &Table) -> Result<Table, OutOfMemory>
+    ensures { IfOk result (λ copied. SameRows copied table.now) }
+{
+    let rows = table.canonical()?;
+    let mut copied = Table::new(alloc);
+    for row in rows.as_slice() {
+        let row = row.copy(alloc)?;
+        copied.insert(row)?;
+    }
+    Ok(copied)
+}
+
+/// A mark of 0 for each port.
+fn no_marks(alloc: Global, ports: usize) -> Result<Vec<Time>, OutOfMemory>
+    ensures { IfOk result (λ marks. marks.items ≡ replicate ports 0) }
+{
+    let mut marks = Vec::new(alloc);
+    for _ in 0..ports {
+        marks.push(0)?;
+    }
+    Ok(marks)
+}
+
+/// The table of a node, from those of the nodes before it.
+fn find_table(
+    alloc: Global,
+    before: &[PlanNode],
+    node: &PlanNode,
+    sources: &[Table],
+    tables: &[Table],
+) -> Result<Table, OutOfMemory>
+    requires source { is_source node.now.kind ≡ true → source_count before.now < length sources.now }
+    requires ready { is_source node.now.kind ≡ false → IsReady node.now.kind (length node.now.inputs.items) }
+    requires inputs { All (λ place. place < length tables.now) node.now.inputs.items }
+    requires rows { AreRows tables.now }
+    requires source_rows { AreRows sources.now }
+    ensures same { IfOk result (λ table. (others : Tables) → SameTables tables.now others → SameRows table (node_table sources.now before.now others node.now)) }
+    ensures rows { IfOk result HasRows }
+{
+    if is_source(&node.kind) {
+        let copied = copy_table(alloc, &sources[count_sources(before)])?;
+        return Ok(copied);
+    }
+    let marks = no_marks(alloc, node.inputs.len())?;
+    let answer = ask_node(alloc, node, tables, marks.as_slice())?;
+    Ok(answer.rows)
+}
+
+/// The tables of all nodes.
+fn find_tables(alloc: Global, plan: &Plan, sources: &[Table]) -> Result<Vec<Table>, OutOfMemory>
+    requires plan { IsPlan plan.now }
+    requires count { length sources.now ≡ source_count plan.now.nodes.items }
+    requires rows { AreRows sources.now }
+    ensures same { IfOk result (λ tables. SameTables tables.items (query sources.now plan.now.nodes.items)) }
+    ensures rows { IfOk result (λ tables. AreRows tables.items) }
+    ensures len { IfOk result (λ tables. length tables.items ≡ length plan.now.nodes.items) }
+{
+    let nodes = plan.nodes.as_slice();
+    let mut tables = Vec::new(alloc);
+    for place in 0..nodes.len() {
+        let table = find_table(
+            alloc,
+            &nodes[..place],
+            &nodes[place],
+            sources,
+            tables.as_slice(),
+        )?;
+        tables.push(table)?;
+    }
+    Ok(tables)
+}
+
+/// The mark of a node, from the tables of all nodes and the marks of the nodes before it.
+fn find_mark(
+    alloc: Global,
+    before: &[PlanNode],
+    node: &PlanNode,
+    tables: &[Table],
+    sources: &[Time],
+    marks: &[Time],
+) -> Result<Time, OutOfMemory>
+    requires source { is_source node.now.kind ≡ true → source_count before.now < length sources.now }
+    requires ready { is_source node.now.kind ≡ false → IsReady node.now.kind (length node.now.inputs.items) }
+    requires inputs { All (λ place. place < length tables.now) node.now.inputs.items }
+    requires earlier { All (λ place. place < length marks.now) node.now.inputs.items }
+    requires rows { AreRows tables.now }
+    requires source_times { AreTimes sources.now }
+    requires times { AreTimes marks.now }
+    ensures is { IfOk result (λ mark. (others : Tables) → SameTables tables.now others → mark ≡ node_mark others sources.now before.now marks.now node.now) }
+    ensures time { IfOk result (λ mark. mark ≤ FOREVER) }
+{
+    if is_source(&node.kind) {
+        return Ok(sources[count_sources(before)]);
+    }
+    let mut given = Vec::new(alloc);
+    for input in node.inputs.as_slice() {
+        given.push(marks[*input])?;
+    }
+    let answer = ask_node(alloc, node, tables, given.as_slice())?;
+    Ok(answer.mark)
+}
+
+/// The marks of all nodes, from their tables.
+fn find_marks(
+    alloc: Global,
+    plan: &Plan,
+    tables: &[Table],
+    sources: &[Time],
+) -> Result<Vec<Time>, OutOfMemory>
+    requires plan { IsPlan plan.now }
+    requires count { length sources.now ≡ source_count plan.now.nodes.items }
+    requires tables { length tables.now ≡ length plan.now.nodes.items }
+    requires rows { AreRows tables.now }
+    requires times { AreTimes sources.now }
+    ensures len { IfOk result (λ marks. length marks.items ≡ length plan.now.nodes.items) }
+    ensures marks { IfOk result (λ marks. (others : Tables) → SameTables tables.now others → marks.items ≡ each_node (node_mark others sources.now) [] [] plan.now.nodes.items) }
+{
+    let nodes = plan.nodes.as_slice();
+    let mut marks = Vec::new(alloc);
+    for place in 0..nodes.len() {
+        let mark = find_mark(
+            alloc,
+            &nodes[..place],
+            &nodes[place],
+            tables,
+            sources,
+            marks.as_slice(),
+        )?;
+        marks.push(mark)?;
+    }
+    Ok(marks)
+}
+
+/// Where the output stands among the nodes.
+fn find_output(nodes: &[PlanNode]) -> usize
+    ensures place { result ≡ output_place nodes.now }
+    ensures within { 0 < length nodes.now → result < length nodes.now }
+{
+    for place in 0..nodes.len() {
+        if is_output(&nodes[place].kind) {
+            return place;
+        }
+    }
+    0
+}
+
+/// The query of a plan from scratch: the rows of its output, from one table for each source, in plan order. It takes a
+/// change for each row that a node reads. The tables are left as they are.
+pub fn evaluate(alloc: Global, plan: &Plan, sources: &[Table]) -> Result<Table, OutOfMemory>
+    requires plan { IsPlan plan.now }
+    requires count { length sources.now ≡ source_count plan.now.nodes.items }
+    requires rows { AreRows sources.now }
+    ensures { IfOk result (λ table. SameRows table (table_at (query sources.now plan.now.nodes.items) (output_place plan.now.nodes.items))) }
+{
+    let mut tables = find_tables(alloc, plan, sources)?;
+    let place = find_output(plan.nodes.as_slice());
+    Ok(tables.remove(place))
+}
+
+/// How far a plan's output reaches from scratch: the guarantee that its output has, from one table and one guarantee for
+/// each source, in plan order. It takes a change for each row that a node reads. The tables are left as they are.
+pub fn reach(
+    alloc: Global,
+    plan: &Plan,
+    sources: &[Table],
+    marks: &[Time],
+) -> Result<Time, OutOfMemory>
+    requires plan { IsPlan plan.now }
+    requires count { length sources.now ≡ source_count plan.now.nodes.items }
+    requires marks { length marks.now ≡ source_count plan.now.nodes.items }
+    requires times { AreTimes marks.now }
+    requires rows { AreRows sources.now }
+    ensures { IfOk result (λ mark. mark ≡ mark_at (reaches sources.now marks.now plan.now.nodes.items) (output_place plan.now.nodes.items)) }
+{
+    let tables = find_tables(alloc, plan, sources)?;
+    let reached = find_marks(alloc, plan, tables.as_slice(), marks)?;
+    Ok(reached[find_output(plan.nodes.as_slice())])
+}
