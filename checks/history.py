@@ -17,7 +17,7 @@ sys.dont_write_bytecode = True
 import cases
 import random_files
 import reference
-from program import USAGE, Check, check_cases
+from program import USAGE, Check, built_program, check_cases
 
 # The words that match no command. What the usage line names and isn't built is among them.
 NO_COMMAND = [
@@ -84,13 +84,8 @@ def check_arrival(check: Check, count: int) -> None:
 
 
 def main() -> int:
-    root = Path(__file__).resolve().parent.parent
-    program = Path(sys.argv[1] if len(sys.argv) > 1 else root / "crates/cedr/out/cedr").resolve()
-    if not program.is_file():
-        print(f"{program} isn't there; it is built by: (cd crates/cedr && rt run -- --version)", file=sys.stderr)
-        return 2
     with tempfile.TemporaryDirectory(prefix="cedr-check-") as folder:
-        check = Check(program, Path(folder), ".csv")
+        check = Check(built_program(), Path(folder), ".csv")
         small = check_cases(check, cases.SMALL, by_reference, history)
         words = check_command_lines(check)
         good = check_random(check, random_files.small_file, 1_500)

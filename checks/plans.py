@@ -19,9 +19,8 @@ import plan_cases
 import plan_page
 import plan_reference
 import random_plans
-from program import USAGE, Check, check_cases
+from program import ROOT, USAGE, Check, built_program, check_cases
 
-ROOT = Path(__file__).resolve().parent.parent
 RANDOM = 1_500
 GOOD = plan_cases.plan(*plan_cases.GOOD)
 GOOD_LINES = b"s,source,text,int\nout,output,text,int\n"
@@ -72,12 +71,8 @@ def check_random(check: Check) -> Counter:
 
 
 def main() -> int:
-    program = Path(sys.argv[1] if len(sys.argv) > 1 else ROOT / "crates/cedr/out/cedr").resolve()
-    if not program.is_file():
-        print(f"{program} isn't there; it is built by: (cd crates/cedr && rt run -- --version)", file=sys.stderr)
-        return 2
     with tempfile.TemporaryDirectory(prefix="cedr-check-") as folder:
-        check = Check(program, Path(folder), ".json")
+        check = Check(built_program(), Path(folder), ".json")
         by_hand = check_cases(check, plan_cases.all_cases(), plan_reference.check, answer)
         on_page = check_cases(check, plan_page.all_cases(ROOT), plan_reference.check, answer)
         words = check_command_lines(check)

@@ -1,5 +1,6 @@
 """The built program: what it answers, and what of it differs from what must come."""
 import subprocess
+import sys
 import tempfile
 from pathlib import Path
 from typing import NamedTuple
@@ -8,6 +9,18 @@ SHOWN = 5
 SECONDS = 60
 USAGE = (b"usage: cedr history FILE | check PLAN | serial PLAN | run PLAN | stream PLAN | audit PLAN | "
          b"live PLAN SCRIPT | make N\n")
+
+
+ROOT = Path(__file__).resolve().parent.parent
+
+
+def built_program() -> Path:
+    """The program that the command line names, or the built one. Ends with 2 where it isn't there."""
+    program = Path(sys.argv[1] if len(sys.argv) > 1 else ROOT / "crates/cedr/out/cedr").resolve()
+    if not program.is_file():
+        print(f"{program} isn't there; it is built by: (cd crates/cedr && rt run -- --version)", file=sys.stderr)
+        sys.exit(2)
+    return program
 
 
 class Case(NamedTuple):
