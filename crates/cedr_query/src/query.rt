@@ -199,7 +199,7 @@ pub fn evaluate(alloc: Global, plan: &Plan, sources: &[Table]) -> Result<Table, 
 }
 
 /// How far a plan's output reaches from scratch: the guarantee that its output has, from one table and one guarantee for
-/// each source, in plan order. It takes a change for each row that a node reads. The tables are left as they are.
+/// each source, in plan order. It takes two changes for each row that a node reads. The tables are left as they are.
 pub fn reach(
     alloc: Global,
     plan: &Plan,

@@ -1,6 +1,6 @@
 -- The groups after a change of one of them.
-use Rattle.std.proofs.Common.{◌≡◌, ℕ, ◌≤◌, List, [], ◌∷◌, Bool, true, false, cond, length, refl, ap, sym, ◌∙◌, subst, arith}
-use Rattle.std.specs.Prelude.{Result, Ok, Err, OnOk, OnErr}
+use Rattle.std.proofs.Common.{◌≡◌, ℕ, ◌≤◌, List, [], ◌∷◌, ◌++◌, Bool, true, false, cond, length, take, refl, ap, sym, ◌∙◌, subst, arith}
+use Rattle.std.specs.Prelude.{Result, Ok, Err, OnOk}
 use Rattle.std.specs.List.Sorted.{IsStrictlySortedBy}
 use Rattle.std.specs.Map.{keys_of}
 use Rattle.std.specs.BTreeMap.{BTreeMap}
@@ -14,6 +14,12 @@ use Rattle.cedr_stream.specs.Repairs.{IsMoved}
 use Rattle.cedr_stream.proofs.Moves.{may_is}
 use Rattle.cedr_table.specs.Operators.{Tables, table_at, mark_at, with_table, CanTake, Gains}
 use Rattle.cedr_table.specs.PortLaws.{table_at-with}
+use Rattle.std.proofs.lemmas.List.{length-take}
+use Rattle.std.proofs.lemmas.List.Sums.{sum_by-append}
+use Rattle.cedr_base.specs.Changes.{all_puts, all_takes}
+use Rattle.cedr_stream.proofs.BagSums.{sum_by-same}
+use Rattle.op_group.specs.declared.index.Interval.{Interval}
+use Rattle.op_group.specs.Index.{interval_of, one_if_same_interval, copies_at, IsIndex, Follows}
 use Rattle.op_group.specs.declared.segment.Segment.{Segment}
 use Rattle.op_group.specs.Groups.{Grouping, key_of, same_payload, rows_of, grouped, open_from}
 use Rattle.op_group.specs.Cuts.{differences}
@@ -86,6 +92,10 @@ module _ (key : List Field) (before between after : List (List Field × BTreeMap
       (answers (rows_of g key old) (rows_of g key new) (subst (λ cs. ShowsRows g.sums cs (rows_of g key old)) (sym out) (shows key)) (group_follows g key c old (own_test g c own) may) (group_moves g key c old new (own_test g c own) moved)
       (rows_of_are g key old are) (rows_of_are g key new (moved_are c old new (may_is old [] c may) moved are)))
 
+-- a list that begins with another is as long at least
+pub long_enough : {X : Type 0} (xs ys : List X) → take (length xs) ys ≡ xs → length xs ≤ length ys
+long_enough xs ys h = omega (arith, length-take (length xs) ys, ap (λ zs. length zs) h)
+
 -- on the only port
 record IsOnOne (tables : Tables) (marks : List ℕ) (port : ℕ) (c : Change) (after : List Row) : Type 0 where
   new_table : table_at (with_table tables port after) 0 ≡ after
@@ -106,11 +116,25 @@ on_one tables marks port c after one can moved =
       size = Rattle.std.proofs.Math.ListN.length-set tables port after;
     }
 
+-- an index that went through a repair counts the new result
+followed : (index index' : List (Interval × ℕ)) (mark t : ℕ) (old new : List Row) (outs outs' : List Change) → Gains old new t outs outs' → ((cs : List Change) → outs' ≡ outs ++ cs → Follows index index' cs) → IsIndex index mark old → IsIndex index' mark new
+followed index index' mark t old new outs outs' gains follows is i within =
+    let w : Row → ℕ = λ r. one_if_same_interval (interval_of r) i in
+    omega (
+      arith,
+      is i within,
+      follows gains.changes gains.appended i,
+      sum_by-append w new (all_takes gains.changes),
+      sum_by-append w old (all_puts gains.changes),
+      sum_by-same w (new ++ all_takes gains.changes) (old ++ all_puts gains.changes) gains.repair.leads.sums,
+    )
+
 -- the state stands for the new table
-pub stands_after : (g : Grouping) (groups groups' : List (List Field × BTreeMap ℕ Segment)) (tables : Tables) (marks : List ℕ) (port : ℕ) (c : Change) (after : List Row)
+pub stands_after : (g : Grouping) (groups groups' : List (List Field × BTreeMap ℕ Segment)) (index index' : List (Interval × ℕ)) (tables : Tables) (marks : List ℕ) (port : ℕ) (c : Change) (after : List Row)
     → (g' : Grouping) → g' ≡ g → ((old new : List Row) → ShowsAll g' groups old → MayFollow old [] c → IsMoved c old new → ShowsAll g' groups' new) → (AllOrdered groups → AllOrdered groups')
-    → StandsForGroups g groups tables marks → CanTake tables marks port c → IsMoved c (table_at tables port) after → StandsForGroups g groups' (with_table tables port after) marks
-stands_after g groups groups' tables marks port c after g' same shown ordered stands can moved =
+    → (outs outs' : List Change) → Gains (grouped g (table_at tables 0)) (grouped g (table_at (with_table tables port after) 0)) (open_from (mark_at marks 0) (grouped g (table_at tables 0))) outs outs' → ((cs : List Change) → outs' ≡ outs ++ cs → Follows index index' cs)
+    → StandsForGroups g groups index tables marks → CanTake tables marks port c → IsMoved c (table_at tables port) after → StandsForGroups g groups' index' (with_table tables port after) marks
+stands_after g groups groups' index index' tables marks port c after g' same shown ordered outs outs' gains follows stands can moved =
     let one = on_one tables marks port c after stands.table can moved in
     record {
       table = one.size ∙ stands.table;
@@ -118,14 +142,15 @@ stands_after g groups groups' tables marks port c after g' same shown ordered st
       rows = subst AreRows (sym one.new_table) (moved_are c (table_at tables 0) after (may_is (table_at tables 0) [] c one.may) one.moved stands.rows);
       ordered = ordered stands.ordered;
       shown = subst (λ (rows : List Row). ShowsAll g groups' rows) (sym one.new_table) (subst (λ (k : Grouping). ShowsAll k groups' after) same (shown (table_at tables 0) after (subst (λ (k : Grouping). ShowsAll k groups (table_at tables 0)) (sym same) stands.shown) one.may one.moved));
+      counted = followed index index' (mark_at marks 0) (open_from (mark_at marks 0) (grouped g (table_at tables 0))) (grouped g (table_at tables 0)) (grouped g (table_at (with_table tables port after) 0)) outs outs' gains follows stands.counted;
     }
 
 -- and what was appended repairs the result
-pub gains_after : (g : Grouping) (groups : List (List Field × BTreeMap ℕ Segment)) (tables : Tables) (marks : List ℕ) (port : ℕ) (c : Change) (after : List Row) (outs outs' : List Change)
+pub gains_after : (g : Grouping) (groups : List (List Field × BTreeMap ℕ Segment)) (index : List (Interval × ℕ)) (tables : Tables) (marks : List ℕ) (port : ℕ) (c : Change) (after : List Row) (outs outs' : List Change)
     → (g' : Grouping) → g' ≡ g → ((old new : List Row) → ShowsAll g' groups old → MayFollow old [] c → IsMoved c old new → AreRows old → Answers g'.counted g'.sums (key_of g' (row_of c)) (rows_of g' (key_of g' (row_of c)) old) (rows_of g' (key_of g' (row_of c)) new) outs outs')
-    → StandsForGroups g groups tables marks → CanTake tables marks port c → IsMoved c (table_at tables port) after
+    → StandsForGroups g groups index tables marks → CanTake tables marks port c → IsMoved c (table_at tables port) after
     → Gains (grouped g (table_at tables 0)) (grouped g (table_at (with_table tables port after) 0)) (open_from (mark_at marks 0) (grouped g (table_at tables 0))) outs outs'
-gains_after g groups tables marks port c after outs outs' g' same answers stands can moved =
+gains_after g groups index tables marks port c after outs outs' g' same answers stands can moved =
     let one = on_one tables marks port c after stands.table can moved in
     let answer = subst (λ (k : Grouping). Answers k.counted k.sums (key_of k (row_of c)) (rows_of k (key_of k (row_of c)) (table_at tables 0)) (rows_of k (key_of k (row_of c)) after) outs outs') same
     (answers (table_at tables 0) after (subst (λ (k : Grouping). ShowsAll k groups (table_at tables 0)) (sym same) stands.shown) one.may one.moved stands.rows) in
@@ -137,24 +162,26 @@ gains_after g groups tables marks port c after outs outs' g' same answers stands
     })
 
 -- a new operator stands for an empty table
-pub new_stands : (g : Grouping) (groups : List (List Field × BTreeMap ℕ Segment)) → groups ≡ [] → StandsForGroups g groups ([] ∷ []) (0 ∷ [])
+pub new_stands : (g : Grouping) (groups : List (List Field × BTreeMap ℕ Segment)) (index : List (Interval × ℕ)) → groups ≡ [] → index ≡ [] → StandsForGroups g groups index ([] ∷ []) (0 ∷ [])
 unfolding IsStrictlySortedBy
-new_stands g groups none = subst (λ gs. StandsForGroups g gs ([] ∷ []) (0 ∷ [])) (sym none) (record {
+new_stands g groups index none empty = subst (λ gs. StandsForGroups g gs index ([] ∷ []) (0 ∷ [])) (sym none) (subst (λ is. StandsForGroups g [] is ([] ∷ []) (0 ∷ [])) (sym empty) (record {
   table = refl;
   mark = refl;
   rows = λ r there. absurd (omega arith);
   ordered = λ key. empty_sorted;
   shown = λ key. record { at = λ t. refl };
-})
+  counted = λ i within. refl;
+}))
   where
     empty_sorted : IsStrictlySortedBy nat_cmp []
     empty_sorted = tt
 
--- what holds holds on an error
-pub on_err_too : {T E P : Type 0} (r : Result T E) → P → OnErr r P
-on_err_too (Ok x) p = tt
-on_err_too (Err e) p = p
+-- the state stands for the same tables where its index forgot intervals that end before the mark
+pub stands_forgetting : (g : Grouping) (groups : List (List Field × BTreeMap ℕ Segment)) (index index' : List (Interval × ℕ)) (tables : Tables) (marks : List ℕ) → ((i : Interval) → mark_at marks 0 ≤ i.end → copies_at index' i ≡ copies_at index i)
+    → StandsForGroups g groups index tables marks → StandsForGroups g groups index' tables marks
+stands_forgetting g groups index index' tables marks kept h = record { table = h.table; mark = h.mark; rows = h.rows; ordered = h.ordered; shown = h.shown; counted = λ i within. kept i within ∙ h.counted i within }
 
+-- two claims that hold where all went well
 pub on_ok_both : {T E : Type 0} (P Q : Type 0) (r : Result T E) → OnOk r P → OnOk r Q → OnOk r (P × Q)
 on_ok_both P Q (Ok x) p q = (p, q)
 on_ok_both P Q (Err e) p q = tt

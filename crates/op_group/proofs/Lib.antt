@@ -6,5 +6,5 @@ pub mod Moved
 pub mod Regions
 pub mod Differences
 pub mod GroupRepairs
-pub mod Bounds
+pub mod Opens
 pub mod Answered

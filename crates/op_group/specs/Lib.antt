@@ -6,5 +6,6 @@ pub mod CutLaws
 pub mod SegmentLaws
 pub mod GroupLaws
 pub mod BoundLaws
+pub mod Index
 pub mod State
 pub mod StateLaws

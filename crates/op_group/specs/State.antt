@@ -1,10 +1,8 @@
 -- What an operator over groups keeps, and how it answers a change.
-use Rattle.std.specs.Prelude.{ℕ, ◌≡◌, ◌<◌, ◌≤◌, ◌+◌, List, [], ◌∷◌, ◌++◌, Bool, Option, Some, None, length, min, nat_eq, if◌then◌else◌}
+use Rattle.std.specs.Prelude.{ℕ, ◌≡◌, ◌<◌, ◌≤◌, ◌+◌, List, [], ◌++◌, Bool, Option, Some, None, length}
 use Rattle.std.specs.Map.{lookup, keys_of}
 use Rattle.std.specs.List.Sorted.{IsStrictlySortedBy}
 use Rattle.std.specs.Ordering.{nat_cmp}
-use Rattle.std.specs.BTreeMap.Range.{entries_between}
-use Rattle.std.specs.declared.ops.Bound.TheVariants.{Excluded, Unbounded}
 use Rattle.std.specs.BTreeMap.{BTreeMap, is_at}
 use Rattle.cedr_base.specs.declared.field.Field.{Field}
 use Rattle.cedr_base.specs.declared.row.Row.{Row}
@@ -12,9 +10,11 @@ use Rattle.cedr_base.specs.declared.change.Change.{Change}
 use Rattle.cedr_base.specs.declared.change.Change.TheVariants.{Add, Cut}
 use Rattle.cedr_base.specs.Order.{payload_cmp}
 use Rattle.cedr_base.specs.Rows.{IsRow, count_of}
-use Rattle.cedr_table.specs.Operators.{Tables, table_at}
+use Rattle.cedr_table.specs.Operators.{Tables, table_at, mark_at}
 use Rattle.op_group.specs.declared.segment.Segment.{Segment}
-use Rattle.op_group.specs.Groups.{Grouping, rows_of, segments}
+use Rattle.op_group.specs.declared.index.Interval.{Interval}
+use Rattle.op_group.specs.Index.{IsIndex}
+use Rattle.op_group.specs.Groups.{Grouping, rows_of, segments, grouped}
 use Rattle.op_group.specs.Cuts.{Shows, differences}
 use Rattle.op_group.specs.Measures.{edges_of, living_of, sums_of}
 
@@ -47,13 +47,14 @@ abbrev pub row_of : Change → Row
 row_of (Add r) = r
 row_of (Cut r e) = r
 
--- one port, and each group's cut points show its rows
-pub record StandsForGroups (g : Grouping) (groups : List (List Field × BTreeMap ℕ Segment)) (tables : Tables) (marks : List ℕ) : Type 0 where
+-- one port, each group's cut points show its rows, and the index counts the intervals of the result
+pub record StandsForGroups (g : Grouping) (groups : List (List Field × BTreeMap ℕ Segment)) (index : List (Interval × ℕ)) (tables : Tables) (marks : List ℕ) : Type 0 where
   pub table : length tables ≡ 1
   pub mark : length marks ≡ 1
   pub rows : AreRows (table_at tables 0)
   pub ordered : AllOrdered groups
   pub shown : ShowsAll g groups (table_at tables 0)
+  pub counted : IsIndex index (mark_at marks 0) (grouped g (table_at tables 0))
 
 -- what is asked of groups, but for the columns of the key
 abbrev pub asked : Bool → List ℕ → Grouping
@@ -71,17 +72,3 @@ pub record Answers (counted : Bool) (sums : List ℕ) (key : List Field) (old ne
   pub news : List Row
   pub appended : after ≡ before ++ differences olds news
   pub turned : Turned counted sums key old new olds news
-
--- among the cut points below a mark, the last one where rows are valid from it on, and else the mark
-abbrev pub open_last : ℕ → List (ℕ × Segment) → ℕ
-open_last mark [] = mark
-open_last mark (e ∷ []) = if nat_eq e.1.living 0 then mark else e.0
-open_last mark (e ∷ f ∷ cuts) = open_last mark (f ∷ cuts)
-
-abbrev pub open_begin : ℕ → List (ℕ × Segment) → ℕ
-open_begin mark cuts = open_last mark (entries_between nat_cmp Unbounded (Excluded mark) cuts)
-
--- the least of these over groups
-abbrev pub least_open : ℕ → ℕ → List (BTreeMap ℕ Segment) → ℕ
-least_open mark least [] = least
-least_open mark least (cuts ∷ groups) = least_open mark (min least (open_begin mark cuts.entries)) groups

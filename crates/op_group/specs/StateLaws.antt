@@ -12,15 +12,18 @@ use Rattle.cedr_stream.proofs.Moves.{may_is}
 use Rattle.cedr_table.specs.Operators.{Tables, table_at, mark_at, with_table, CanTake, AllRise, SameTables}
 use Rattle.cedr_table.specs.PortLaws.{rise_length, rise_at, same_length, same_at, time_at, table_at-with}
 use Rattle.cedr_table.specs.OperatorLaws.{OperatorLaws}
+use Rattle.cedr_stream.proofs.BagSums.{sum_by-same}
 use Rattle.op_group.specs.declared.segment.Segment.{Segment}
+use Rattle.op_group.specs.declared.index.Interval.{Interval}
+use Rattle.op_group.specs.Index.{interval_of, one_if_same_interval}
 use Rattle.op_group.specs.Groups.{Grouping, group_of, number_at, rows_of, grouped, open_from}
 use Rattle.op_group.specs.Measures.{edge_at, part_at, edges_of, living_of, sums_of}
 use Rattle.op_group.specs.GroupLaws.{same_grouped, group_sum, SameAt, same_at as same_sums}
 use Rattle.op_group.specs.BoundLaws.{open_below, open_rises, open_stays}
 use Rattle.op_group.specs.State.{ShowsRows, cuts_of, StandsForGroups}
 
-pub stands_rising : (g : Grouping) (groups : List (List Field × BTreeMap ℕ Segment)) (tables : Tables) (marks later : List ℕ) → AllRise marks later → StandsForGroups g groups tables marks → StandsForGroups g groups tables later
-stands_rising g groups tables marks later rise h = record { table = h.table; mark = rise_length marks later rise ∙ h.mark; rows = h.rows; ordered = h.ordered; shown = h.shown }
+pub stands_rising : (g : Grouping) (groups : List (List Field × BTreeMap ℕ Segment)) (index : List (Interval × ℕ)) (tables : Tables) (marks later : List ℕ) → AllRise marks later → StandsForGroups g groups index tables marks → StandsForGroups g groups index tables later
+stands_rising g groups index tables marks later rise h = record { table = h.table; mark = rise_length marks later rise ∙ h.mark; rows = h.rows; ordered = h.ordered; shown = h.shown; counted = λ i within. h.counted i (omega (arith, rise_at 0 marks later rise)) }
 
 -- what is shown at a time
 abbrev shown_as : ℕ → ℕ → List ℕ → Option Segment
@@ -36,8 +39,8 @@ shows_bag g key cuts xs ys same shows = record {
       ∙ ap (λ ns. shown_as (edges_of (rows_of g key ys) t) (living_of (rows_of g key ys) t) ns) is.sums));
 }
 
-pub stands_alike : (g : Grouping) (groups : List (List Field × BTreeMap ℕ Segment)) (tables others : Tables) (marks : List ℕ) → SameTables tables others → StandsForGroups g groups tables marks → StandsForGroups g groups others marks
-stands_alike g groups tables others marks same h =
+pub stands_alike : (g : Grouping) (groups : List (List Field × BTreeMap ℕ Segment)) (index : List (Interval × ℕ)) (tables others : Tables) (marks : List ℕ) → SameTables tables others → StandsForGroups g groups index tables marks → StandsForGroups g groups index others marks
+stands_alike g groups index tables others marks same h =
     let rows = same_at 0 tables others same in
     record {
       table = same_length tables others same ∙ h.table;
@@ -45,6 +48,7 @@ stands_alike g groups tables others marks same h =
       rows = λ r there. h.rows r (let e = rows.each r in omega arith);
       ordered = h.ordered;
       shown = λ key. shows_bag g key (cuts_of groups key) (table_at tables 0) (table_at others 0) rows (h.shown key);
+      counted = λ i within. h.counted i within ∙ sum_by-same (λ r. one_if_same_interval (interval_of r) i) (grouped g (table_at tables 0)) (grouped g (table_at others 0)) (same_grouped g (table_at tables 0) (table_at others 0) rows);
     }
 
 -- the only port's mark is at most a change's sync
@@ -61,11 +65,11 @@ bound_stays_on_one g tables marks port c after one can moved =
 pub open_is_time : (mark : ℕ) (rows : List Row) → mark ≤ FOREVER → open_from mark rows ≤ FOREVER
 open_is_time mark rows h = let below = open_below mark rows in omega arith
 
-pub group_laws : (g : Grouping) (groups : List (List Field × BTreeMap ℕ Segment)) → OperatorLaws (group_of g) (StandsForGroups g groups)
-group_laws g groups = record {
+pub group_laws : (g : Grouping) (groups : List (List Field × BTreeMap ℕ Segment)) (index : List (Interval × ℕ)) → OperatorLaws (group_of g) (StandsForGroups g groups index)
+group_laws g groups index = record {
   sized = λ tables marks h. (h.table, h.mark);
-  rising = λ tables marks later h k. stands_rising g groups tables marks later k h;
-  alike = λ tables others marks k h. stands_alike g groups tables others marks k h;
+  rising = λ tables marks later h k. stands_rising g groups index tables marks later k h;
+  alike = λ tables others marks k h. stands_alike g groups index tables others marks k h;
   same_rows = λ tables others k. same_grouped g (table_at tables 0) (table_at others 0) (same_at 0 tables others k);
   nothing = record { each = λ r. refl };
   bound_rises = λ tables marks later h k. open_rises (mark_at marks 0) (mark_at later 0) (grouped g (table_at tables 0)) (rise_at 0 marks later k);

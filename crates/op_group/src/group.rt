@@ -1,5 +1,5 @@
 ghost use Rattle.std.specs.Prelude.{◌≡◌, ◌++◌, ◌≤◌, ◌<◌, ◌∷◌, [], ℕ, List, OnOk, OnErr, Some, None, IfOk, cond, length, take};
-ghost use Rattle.std.specs.BTreeMap.{is_at, IsOrdered, values};
+ghost use Rattle.std.specs.BTreeMap.{is_at, IsOrdered};
 ghost use Rattle.std.specs.Ordering.{nat_cmp};
 ghost use Rattle.cedr_base.specs.declared.row.Row.{Row};
 ghost use Rattle.cedr_base.specs.declared.field.Field.{Field};
@@ -7,10 +7,13 @@ ghost use Rattle.cedr_base.specs.Order.{payload_cmp};
 ghost use Rattle.cedr_base.specs.Changes.{IsChange, MayFollow};
 ghost use Rattle.cedr_stream.specs.Repairs.{IsMoved};
 ghost use Rattle.op_group.specs.Groups.{grouping_by, group_of, key_of, rows_of};
-ghost use Rattle.op_group.specs.State.{AreRows, ShowsRows, ShowsAll, AllOrdered, Answers, cuts_of, row_of, open_begin, least_open};
+ghost use Rattle.op_group.specs.State.{AreRows, ShowsRows, ShowsAll, AllOrdered, Answers, cuts_of, row_of};
+ghost use Rattle.op_group.specs.Index.{Follows};
+ghost use Rattle.cedr_base.specs.declared.change.Change.{Change as ChangeValue};
 
 use crate::answer::{push_differences, rows_between};
 use crate::cuts::{Cuts, add_row, cut_before, cut_from, cut_row};
+use crate::index::{Index, first_open, follow, forget};
 use crate::segment::numbers;
 use cedr_base::{Change, OutOfMemory, Payload, Row, Time};
 use cedr_expr::Keep;
@@ -24,13 +27,15 @@ pub(crate) type Groups = BTreeMap<Payload, Cuts>;
 /// Counts and sums of groups: the rows with equal key fields form one group, and each two neighbouring cut points of
 /// it between which some of its rows are valid give one row, with the key, the count and the sums of these rows.
 ///
-/// It keeps no rows, but the cut points of each group with what is valid from each of them on.
+/// It keeps no rows, but the cut points of each group with what is valid from each of them on, and an index of the
+/// intervals of the result's rows that may be open at a later mark.
 #[derive(Drop)]
 pub struct Group {
     keys: Keep,
     count: bool,
     sums: Vec<usize>,
     groups: Groups,
+    index: Index,
 }
 
 impl Group {
@@ -45,6 +50,7 @@ impl Group {
             count,
             sums,
             groups: BTreeMap::new(alloc),
+            index: BTreeMap::new(alloc),
         }
     }
 }
@@ -142,7 +148,7 @@ pub(crate) fn answer(
     ensures ordered { OnOk result (AllOrdered groups.old.entries → AllOrdered groups.new.entries) }
     ensures answers { OnOk result ((old new : List Row) → ShowsAll (grouping_by keys.now count sums.now) groups.old.entries old → MayFollow old [] change.now → IsMoved change.now old new → AreRows old
         → let key = key_of (grouping_by keys.now count sums.now) (row_of change.now) in Answers count sums.now key (rows_of (grouping_by keys.now count sums.now) key old) (rows_of (grouping_by keys.now count sums.now) key new) out.old.items out.new.items) }
-    ensures err { OnErr result (take (length out.old.items) out.new.items ≡ out.old.items) }
+    ensures kept { take (length out.old.items) out.new.items ≡ out.old.items }
 {
     let key = keys.apply(alloc, &row_in(change).payload)?;
     let mut cuts = take_group(alloc, groups, &key);
@@ -150,26 +156,30 @@ pub(crate) fn answer(
     put_group(groups, key, cuts)
 }
 
-/// The begin of the row of one group that is open at a mark, and the mark where there is none. O(log n).
-fn open_in(cuts: &Cuts, mark: Time) -> Time
-    ensures { result ≡ open_begin mark cuts.now.entries }
+/// The groups take a change, append what answers it, and the index follows that. Where memory runs out some of that
+/// may stand there.
+#[tactic(auto, using(crate::proofs::Answered::long_enough))]
+pub(crate) fn answer_indexed(
+    alloc: Global,
+    keys: &Keep,
+    count: bool,
+    sums: &[usize],
+    groups: &mut Groups,
+    index: &mut Index,
+    change: &Change,
+    out: &mut Vec<Change>,
+) -> Result<(), OutOfMemory>
+    requires { IsChange change.now }
+    ensures shown { OnOk result ((old new : List Row) → ShowsAll (grouping_by keys.now count sums.now) groups.old.entries old → MayFollow old [] change.now → IsMoved change.now old new → ShowsAll (grouping_by keys.now count sums.now) groups.new.entries new) }
+    ensures ordered { OnOk result (AllOrdered groups.old.entries → AllOrdered groups.new.entries) }
+    ensures answers { OnOk result ((old new : List Row) → ShowsAll (grouping_by keys.now count sums.now) groups.old.entries old → MayFollow old [] change.now → IsMoved change.now old new → AreRows old
+        → let key = key_of (grouping_by keys.now count sums.now) (row_of change.now) in Answers count sums.now key (rows_of (grouping_by keys.now count sums.now) key old) (rows_of (grouping_by keys.now count sums.now) key new) out.old.items out.new.items) }
+    ensures indexed { OnOk result ((appended : List ChangeValue) → out.new.items ≡ out.old.items ++ appended → Follows index.old.entries index.new.entries appended) }
+    ensures kept { take (length out.old.items) out.new.items ≡ out.old.items }
 {
-    match cuts.range(..mark).next_back() {
-        Some((at, segment)) => { if segment.living == 0 { mark } else { *at } }
-        None => mark,
-    }
-}
-
-/// The least of the mark and of the begins of the rows that are open at it. It looks at each group.
-fn least_begin(groups: &Groups, mark: Time) -> Time
-    ensures least { result ≡ least_open mark mark (values groups.now) }
-    ensures ordered { IsOrdered payload_cmp groups.now }
-{
-    let mut least = mark;
-    for cuts in groups.values() {
-        least = least.min(open_in(cuts, mark));
-    }
-    least
+    let before = out.len();
+    answer(alloc, keys, count, sums, groups, change, out)?;
+    follow(index, &out[before..])
 }
 
 impl Operator for Group {
@@ -179,7 +189,7 @@ impl Operator for Group {
 
     ghost meaning = { λ s. group_of (grouping_by s.keys s.count s.sums.items) };
 
-    ghost stands = { λ s tables marks. StandsForGroups (grouping_by s.keys s.count s.sums.items) s.groups.entries tables marks };
+    ghost stands = { λ s tables marks. StandsForGroups (grouping_by s.keys s.count s.sums.items) s.groups.entries s.index.entries tables marks };
 
     ghost held = { λ _. [] };
 
@@ -195,12 +205,13 @@ impl Operator for Group {
         out: &mut Vec<Change>,
     ) -> Result<(), OutOfMemory> {
         let before = out.len();
-        let result = answer(
+        let result = answer_indexed(
             alloc,
             &self.keys,
             self.count,
             self.sums.as_slice(),
             &mut self.groups,
+            &mut self.index,
             change,
             out,
         );
@@ -211,10 +222,12 @@ impl Operator for Group {
     }
 
     fn bound(&self, marks: &[Time]) -> Time {
-        least_begin(&self.groups, marks[0])
+        first_open(&self.index, marks[0])
     }
 
-    fn trim(&mut self, _marks: &[Time]) {}
+    fn trim(&mut self, marks: &[Time]) {
+        forget(&mut self.index, marks[0]);
+    }
 
-    ghost lawful = { λ s. group_laws (grouping_by s.keys s.count s.sums.items) s.groups.entries };
+    ghost lawful = { λ s. group_laws (grouping_by s.keys s.count s.sums.items) s.groups.entries s.index.entries };
 }

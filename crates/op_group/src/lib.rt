@@ -7,6 +7,7 @@
 mod answer;
 mod cuts;
 mod group;
+mod index;
 mod law;
 mod segment;
 

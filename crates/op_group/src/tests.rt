@@ -1,6 +1,7 @@
 ghost use Rattle.cedr_base.specs.Changes.{IsChange};
 
-use crate::group::{Groups, answer};
+use crate::group::{Groups, answer_indexed};
+use crate::index::{Index, first_open, forget};
 use cedr_base::{Change, FOREVER, Field, FieldType, OutOfMemory, Payload, Row, Text, Time};
 use cedr_expr::Keep;
 use cedr_table::Table;
@@ -36,6 +37,7 @@ struct Counted {
     keys: Keep,
     sums: Vec<usize>,
     groups: Groups,
+    index: Index,
     made: Table,
 }
 
@@ -48,6 +50,7 @@ impl Counted {
             keys,
             sums: Vec::from_slice(alloc, sums)?,
             groups: BTreeMap::new(alloc),
+            index: BTreeMap::new(alloc),
             made: Table::new(alloc),
         })
     }
@@ -57,12 +60,13 @@ impl Counted {
     {
         let mut out = Vec::new(self.alloc);
         let sums = self.sums.as_slice();
-        answer(
+        answer_indexed(
             self.alloc,
             &self.keys,
             true,
             sums,
             &mut self.groups,
+            &mut self.index,
             change,
             &mut out,
         )?;
@@ -86,6 +90,15 @@ impl Counted {
             return Ok(0);
         }
         self.take(&Change::Cut(row, end))
+    }
+
+    /// The bound at a mark.
+    fn bound(&self, mark: Time) -> Time {
+        first_open(&self.index, mark)
+    }
+
+    fn trim(&mut self, mark: Time) {
+        forget(&mut self.index, mark);
     }
 
     /// The rows made so far are these.
@@ -206,4 +219,71 @@ fn only_the_touched_rows_change(rt: HostRuntime) -> Result<(), Fail> {
         &rt,
         &[(b"x", &[1], 0, 2), (b"x", &[2], 4, 6), (b"x", &[1], 8, 10)],
     )
+}
+
+#[test]
+fn the_bound_is_the_least_begin_of_an_open_row(rt: HostRuntime) -> Result<(), Fail> {
+    let alloc = rt.alloc();
+    let mut groups = Counted::new(alloc, &[])?;
+    assert_eq!(rt; groups.bound(7), 7);
+    groups.add(row(alloc, b"x", &[], 1, 4)?)?;
+    groups.add(row(alloc, b"y", &[], 2, 9)?)?;
+    assert_eq!(rt; groups.bound(0), 0);
+    assert_eq!(rt; groups.bound(1), 1);
+    assert_eq!(rt; groups.bound(4), 1);
+    assert_eq!(rt; groups.bound(5), 2);
+    assert_eq!(rt; groups.bound(9), 2);
+    assert_eq!(rt; groups.bound(10), 10);
+    Ok(())
+}
+
+#[test]
+fn a_cut_point_inside_a_group_raises_the_bound(rt: HostRuntime) -> Result<(), Fail> {
+    let alloc = rt.alloc();
+    let mut groups = Counted::new(alloc, &[])?;
+    groups.add(row(alloc, b"x", &[], 0, 10)?)?;
+    assert_eq!(rt; groups.bound(8), 0);
+    groups.add(row(alloc, b"x", &[], 5, 7)?)?;
+    assert_eq!(rt; groups.bound(5), 0);
+    assert_eq!(rt; groups.bound(6), 5);
+    assert_eq!(rt; groups.bound(8), 7);
+    groups.cut(row(alloc, b"x", &[], 5, 7)?, 5)?;
+    assert_eq!(rt; groups.bound(8), 0);
+    Ok(())
+}
+
+#[test]
+fn groups_with_the_same_interval_hold_the_bound_each(rt: HostRuntime) -> Result<(), Fail> {
+    let alloc = rt.alloc();
+    let mut groups = Counted::new(alloc, &[])?;
+    groups.add(row(alloc, b"x", &[], 1, 5)?)?;
+    groups.add(row(alloc, b"y", &[], 1, 5)?)?;
+    assert_eq!(rt; groups.bound(3), 1);
+    groups.cut(row(alloc, b"x", &[], 1, 5)?, 1)?;
+    assert_eq!(rt; groups.bound(3), 1);
+    groups.cut(row(alloc, b"y", &[], 1, 5)?, 1)?;
+    assert_eq!(rt; groups.bound(3), 3);
+    Ok(())
+}
+
+#[test]
+fn trimmed_groups_have_the_same_bound(rt: HostRuntime) -> Result<(), Fail> {
+    let alloc = rt.alloc();
+    let mut groups = Counted::new(alloc, &[])?;
+    groups.add(row(alloc, b"x", &[], 0, 4)?)?;
+    groups.add(row(alloc, b"y", &[], 2, FOREVER)?)?;
+    groups.add(row(alloc, b"z", &[], 3, 5)?)?;
+    groups.trim(4);
+    assert_eq!(rt; groups.index.len(), 3);
+    assert_eq!(rt; groups.bound(4), 0);
+    groups.trim(8);
+    assert_eq!(rt; groups.index.len(), 2);
+    assert_eq!(rt; groups.bound(8), 2);
+    groups.cut(row(alloc, b"y", &[], 2, FOREVER)?, 8)?;
+    assert_eq!(rt; groups.bound(8), 2);
+    assert_eq!(rt; groups.bound(9), 9);
+    groups.trim(9);
+    assert_eq!(rt; groups.index.len(), 0);
+    assert_eq!(rt; groups.bound(9), 9);
+    Ok(())
 }

@@ -5,7 +5,7 @@ use Rattle.cedr_expr.specs.Columns.{kept}
 use Rattle.op_group.specs.Groups.{grouping_by}
 use Rattle.op_group.specs.GroupLaws.{payload_itself}
 use Rattle.op_group.specs.State.{cuts_of}
-use Rattle.op_group.proofs.Answered.{all_shown, all_ordered, own_answers, on_err_too}
+use Rattle.op_group.proofs.Answered.{all_shown, all_ordered, own_answers}
 use Rattle.op_group.proofs.group.answer.Goals as goal
 
 pub put_group-requires : goal.put_group-requires
@@ -31,5 +31,5 @@ returns-clause-answers c = on_ok_weaker c.put_group.result
     (c.in_ok-key.ensures ∙ ap (λ (r : Row). kept c.args.keys.now r.payload) c.row_in.ensures) c.in_ok-answer_in.ensures.answers shows may moved are)
     c.put_group.ensures
 
-pub returns-clause-err : goal.returns-clause-err
-returns-clause-err c = on_err_too c.put_group.result c.answer_in.ensures.kept
+pub returns-clause-kept : goal.returns-clause-kept
+returns-clause-kept c = c.answer_in.ensures.kept
