@@ -6,7 +6,7 @@ ghost use Rattle.cedr_laws.specs.Lists.{Lists, list_at, mark_above};
 ghost use Rattle.cedr_drive.specs.Driving.{Works, Drives, MayTake, IsFed, Answers};
 
 use cedr_base::{Change, Message, OutOfMemory, Time};
-use cedr_table::Operator;
+use cedr_table::{Operator, no_marks};
 use std::alloc::Global;
 
 /// An operator, the last mark of each of its ports, and the last mark that was given.
@@ -89,17 +89,6 @@ fn feed<O: Operator>(
         feed_one(alloc, op, marks, port, message, out)?;
     }
     Ok(())
-}
-
-/// A mark of 0 for each port.
-fn no_marks(alloc: Global, ports: usize) -> Result<Vec<Time>, OutOfMemory>
-    ensures { IfOk result (λ marks. marks.items ≡ replicate ports 0) }
-{
-    let mut marks = Vec::new(alloc);
-    for _ in 0..ports {
-        marks.push(0)?;
-    }
-    Ok(marks)
 }
 
 impl<O: Operator> Driver<O> {

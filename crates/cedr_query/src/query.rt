@@ -1,4 +1,4 @@
-ghost use Rattle.std.specs.Prelude.{ℕ, ◌≡◌, ◌<◌, ◌≤◌, [], All, IfOk, OnOk, true, false, length, replicate};
+ghost use Rattle.std.specs.Prelude.{ℕ, ◌≡◌, ◌<◌, ◌≤◌, [], All, IfOk, OnOk, true, false, length};
 ghost use Rattle.cedr_base.specs.Rows.{SameRows};
 ghost use Rattle.cedr_table.specs.Operators.{Tables, AreTimes, SameTables, table_at, mark_at};
 ghost use Rattle.cedr_base.specs.declared.time.TheConstants.{FOREVER};
@@ -10,7 +10,7 @@ ghost use Rattle.cedr_plan.specs.Rules.{IsPlan};
 use crate::node::ask_node;
 use cedr_base::{OutOfMemory, Time};
 use cedr_plan::{NodeKind, Plan, PlanNode};
-use cedr_table::Table;
+use cedr_table::{Table, no_marks};
 use std::alloc::Global;
 
 fn is_source(kind: &NodeKind) -> bool
@@ -38,30 +38,6 @@ fn count_sources(nodes: &[PlanNode]) -> usize
     count
 }
 
-/// A table with the same rows.
-fn copy_table(alloc: Global, table: &Table) -> Result<Table, OutOfMemory>
-    ensures { IfOk result (λ copied. SameRows copied table.now) }
-{
-    let rows = table.canonical()?;
-    let mut copied = Table::new(alloc);
-    for row in rows.as_slice() {
-        let row = row.copy(alloc)?;
-        copied.insert(row)?;
-    }
-    Ok(copied)
-}
-
-/// A mark of 0 for each port.
-fn no_marks(alloc: Global, ports: usize) -> Result<Vec<Time>, OutOfMemory>
-    ensures { IfOk result (λ marks. marks.items ≡ replicate ports 0) }
-{
-    let mut marks = Vec::new(alloc);
-    for _ in 0..ports {
-        marks.push(0)?;
-    }
-    Ok(marks)
-}
-
 /// The table of a node, from those of the nodes before it.
 fn find_table(
     alloc: Global,
@@ -79,7 +55,7 @@ fn find_table(
     ensures rows { IfOk result HasRows }
 {
     if is_source(&node.kind) {
-        let copied = copy_table(alloc, &sources[count_sources(before)])?;
+        let copied = sources[count_sources(before)].copy()?;
         return Ok(copied);
     }
     let marks = no_marks(alloc, node.inputs.len())?;

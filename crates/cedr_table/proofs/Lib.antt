@@ -1,4 +1,5 @@
 pub mod CountLemmas
+pub mod RangeLemmas
 pub mod OrderLemmas
 pub mod RowWiseLemmas
 pub mod ChoiceLemmas

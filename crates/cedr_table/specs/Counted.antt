@@ -1,5 +1,5 @@
 -- A bag as its rows with their counts.
-use Rattle.std.specs.Prelude.{ℕ, ◌≡◌, ◌≢◌, ◌<◌, List, true, Some, unwrap_or, replicate, length}
+use Rattle.std.specs.Prelude.{ℕ, ◌≡◌, ◌≢◌, ◌<◌, List, [], ◌∷◌, true, Some, unwrap_or, replicate, length}
 use Rattle.std.specs.List.{flat_map}
 use Rattle.std.specs.List.Sorted.{IsStrictlySortedBy}
 use Rattle.std.specs.Map.{lookup, keys_of}
@@ -21,6 +21,11 @@ spread entries = flat_map (λ e. replicate e.1 e.0) entries
 -- no row is kept of which there is no copy
 abbrev pub EachIsThere : List (Row × ℕ) → Type 0
 EachIsThere entries = (q : Row) → lookup (is_at (row_cmp q)) entries ≢ Some 0
+
+-- of each row there is a copy
+abbrev pub AreThere : List (Row × ℕ) → Type 0
+AreThere [] = Unit {0}
+AreThere (e ∷ es) = (0 < e.1) × AreThere es
 
 -- the rows ascend, each is there, and the length is that of the bag
 pub record IsCounted (entries : List (Row × ℕ)) (len : ℕ) : Type 0 where

@@ -15,7 +15,7 @@ mod table;
 
 pub use fault::TableFault;
 pub use life::Life;
-pub use marks::least_mark;
+pub use marks::{least_mark, no_marks};
 pub use operator::Operator;
 pub use row_wise::RowWise;
 pub use table::Table;

@@ -1,7 +1,9 @@
 ghost use Rattle.std.specs.Prelude.{◌≡◌, ◌<◌, ◌++◌, ◌∷◌, [], length, replicate, OnOk, OnErr, IfOk, IfSome, IfNone, nat_lt, IsErrOf, ◌↔◌};
-ghost use Rattle.cedr_base.specs.Rows.{count_of, in_order, SameRows};
+ghost use Rattle.std.specs.List.{filter};
+ghost use Rattle.std.specs.BTreeMap.Range.{IsLeBy, IsLtBy, range_contains};
+ghost use Rattle.cedr_base.specs.Rows.{row_cmp, count_of, in_order, SameRows};
 ghost use Rattle.cedr_base.specs.Changes.{puts, takes};
-ghost use Rattle.cedr_table.specs.Counted.{LacksRow, IsFirst};
+ghost use Rattle.cedr_table.specs.Counted.{LacksRow, IsFirst, spread, AreThere};
 ghost use Rattle.cedr_table.specs.declared.fault.TableFault.TheVariants.{NoSuchRow};
 
 use crate::counted::{add_one, all_rows, change_map, copies_in, first_row, take_all, take_one};
@@ -9,7 +11,9 @@ use crate::fault::TableFault;
 use cedr_base::{Change, OutOfMemory, Row};
 use std::alloc::Global;
 use std::collections::BTreeMap;
+use std::collections::btree_map::Range;
 use std::marker::Model;
+use std::ops::RangeBounds;
 
 /// A bag of rows. Contracts see a list of its rows, of which only the counts matter.
 ///
@@ -132,5 +136,28 @@ impl Table {
         ensures { IfOk result (λ rows. rows.items ≡ in_order self.now) }
     {
         all_rows(self.alloc, &self.rows)
+    }
+
+    /// The rows that lie within a range of rows in canonical order, each with the number of its copies. It takes no
+    /// memory. O(log n) comparisons, and O(1) for each row that is taken from it.
+    pub fn range<R: RangeBounds<Row> + Drop>(&self, range: R) -> Range<'_, Row, usize>
+        requires { R.is_forward range (IsLeBy row_cmp) (IsLtBy row_cmp) }
+        ensures rows { R.has_bounds range → spread result ≡ filter (range_contains row_cmp (R.start_bound range) (R.end_bound range)) self.now }
+        ensures copies { R.has_bounds range → AreThere result }
+    {
+        self.rows.range(range)
+    }
+
+    /// A table with the same rows, in memory of its own. O(n log n).
+    pub fn copy(&self) -> Result<Table, OutOfMemory>
+        ensures { IfOk result (λ copied. SameRows copied self.now) }
+    {
+        let rows = self.canonical()?;
+        let mut copied = Table::new(self.alloc);
+        for row in rows.as_slice() {
+            let row = row.copy(self.alloc)?;
+            copied.insert(row)?;
+        }
+        Ok(copied)
     }
 }

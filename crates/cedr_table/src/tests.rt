@@ -1,6 +1,7 @@
 use super::*;
 use cedr_base::{Change, FOREVER, Field, OutOfMemory, Payload, Row, Time};
 use std::alloc::Global;
+use std::collections::btree_map::Range;
 use std::test::Fail;
 
 /// A row whose payload is this number.
@@ -95,5 +96,64 @@ fn a_refusal_changes_nothing(rt: HostRuntime) -> Result<(), Fail> {
     assert_eq!(rt; table.apply(&cut), Err(TableFault::NoSuchRow));
     assert_eq!(rt; table.len(), 1);
     assert_eq!(rt; table.count(&row(alloc, 7, 1, 9)?), 1);
+    Ok(())
+}
+
+/// Whether a range shows these rows, each once.
+fn shows(
+    alloc: Global,
+    found: Range<'_, Row, usize>,
+    wanted: &[(i128, Time, Time)],
+) -> Result<bool, OutOfMemory> {
+    let mut seen = 0;
+    for (row_there, count) in found {
+        if seen >= wanted.len() {
+            return Ok(false);
+        }
+        let (number, begin, end) = wanted[seen];
+        if *row_there != row(alloc, number, begin, end)? || *count != 1 {
+            return Ok(false);
+        }
+        seen += 1;
+    }
+    Ok(seen == wanted.len())
+}
+
+#[test]
+fn a_range_shows_what_lies_in_it(rt: HostRuntime) -> Result<(), Fail> {
+    let alloc = rt.alloc();
+    let mut table = Table::new(alloc);
+    for (number, begin, end) in [(5, 3, FOREVER), (2, 1, 9), (1, 1, 9), (1, 0, 8)] {
+        table.insert(row(alloc, number, begin, end)?)?;
+    }
+    let ending_later = table.range(row(alloc, 2, 1, 9)?..);
+    assert!(rt; shows(alloc, ending_later, &[(2, 1, 9), (5, 3, FOREVER)])?);
+    let ending_before = table.range(..row(alloc, 2, 1, 9)?);
+    assert!(rt; shows(alloc, ending_before, &[(1, 0, 8), (1, 1, 9)])?);
+    Ok(())
+}
+
+#[test]
+fn a_copy_is_on_its_own(rt: HostRuntime) -> Result<(), Fail> {
+    let alloc = rt.alloc();
+    let mut table = Table::new(alloc);
+    for number in [7, 8, 7] {
+        table.insert(row(alloc, number, 1, 9)?)?;
+    }
+    let copied = table.copy()?;
+    assert!(rt; table.take(&row(alloc, 7, 1, 9)?));
+    assert_eq!(rt; copied.count(&row(alloc, 7, 1, 9)?), 2);
+    assert_eq!(rt; copied.len(), 3);
+    assert_eq!(rt; table.len(), 2);
+    Ok(())
+}
+
+#[test]
+fn marks_begin_at_0(rt: HostRuntime) -> Result<(), Fail> {
+    let marks = no_marks(rt.alloc(), 3)?;
+    assert_eq!(rt; marks.len(), 3);
+    for mark in marks {
+        assert_eq!(rt; mark, 0);
+    }
     Ok(())
 }

@@ -1,5 +1,5 @@
 use Rattle.std.proofs.Common.{◌≡◌, replicate}
-use Rattle.cedr_drive.proofs.driver.no_marks.Given as goal
+use Rattle.cedr_table.proofs.marks.no_marks.Given as goal
 
 abbrev pub invariant-loop : goal.invariant-loop
 invariant-loop l = l.marks.items ≡ replicate l.counter 0

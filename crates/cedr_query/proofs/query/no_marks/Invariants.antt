@@ -1,5 +1,0 @@
-use Rattle.std.proofs.Common.{◌≡◌, replicate}
-use Rattle.cedr_query.proofs.query.no_marks.Given as goal
-
-abbrev pub invariant-loop : goal.invariant-loop
-invariant-loop l = l.marks.items ≡ replicate l.counter 0
