@@ -21,7 +21,7 @@ use Rattle.cedr_base.proofs.RowLemmas.{exact_rows}
 use Rattle.cedr_base.proofs.Bags.{count_of-append, one_if_same_exact}
 use Rattle.cedr_base.proofs.Sorting.{in_order_counts}
 use Rattle.cedr_stream.specs.Repairs.{IsMoved}
-use Rattle.op_join.specs.Filed.{FiledRows, under, listed, Files}
+use Rattle.op_join.specs.Filed.{FiledRows, under, all_under, listed, Files}
 use Rattle.op_join.specs.Pairs.{changed_row}
 use Rattle.op_join.proofs.KeyLemmas.{from_is_eq}
 
@@ -135,27 +135,32 @@ beyond : (x : List Field) (es : FiledRows) → AllByRecursion (λ y. payload_cmp
 beyond x [] h = refl
 beyond x (e ∷ es) h = ap (λ o. unwrap_or (cond (is_eq o) (Some e.1) (lookup (is_at (payload_cmp x)) es)) []) h.0 ∙ beyond x es h.1
 
--- a row that is under one key alone is listed as often as it is there
-pub count_listed : (filed : FiledRows) → IsStrictlySortedBy payload_cmp (keys_of filed) → (k : List Field) (r : Row) → ((q : List Field) → q ≢ k → count_of r (under filed q) ≡ 0)
-    → count_of r (listed filed) ≡ count_of r (under filed k)
+-- a row that is under one key alone is under all keys as often as it is there
+pub count_all : (filed : FiledRows) → IsStrictlySortedBy payload_cmp (keys_of filed) → (k : List Field) (r : Row) → ((q : List Field) → q ≢ k → count_of r (under filed q) ≡ 0)
+    → count_of r (all_under filed) ≡ count_of r (under filed k)
 unfolding IsStrictlySortedBy
-count_listed [] sorted k r only = refl
-count_listed (e ∷ es) sorted k r only =
-    listed_at e es k r (beyond e.0 es sorted.0) only (same_or_not e.0 k) (λ rest. count_listed es sorted.1 k r rest) where
+count_all [] sorted k r only = refl
+count_all (e ∷ es) sorted k r only =
+    all_at e es k r (beyond e.0 es sorted.0) only (same_or_not e.0 k) (λ rest. count_all es sorted.1 k r rest) where
       rest_only : (e : List Field × List Row) (es : FiledRows) (k : List Field) (r : Row) → under es e.0 ≡ [] → ((q : List Field) → q ≢ k → count_of r (under (e ∷ es) q) ≡ 0) → (q : List Field) → q ≢ k → (q ≡ e.0) ⊎ (q ≢ e.0) → count_of r (under es q) ≡ 0
       rest_only e es k r gone only q apart (inl same) = ap (λ (x : List Field). count_of r (under es x)) same ∙ ap (count_of r) gone
       rest_only e es k r gone only q apart (inr other) = sym (ap (count_of r) (under_later e es q other)) ∙ only q apart
 
-      listed_at : (e : List Field × List Row) (es : FiledRows) (k : List Field) (r : Row) → under es e.0 ≡ [] → ((q : List Field) → q ≢ k → count_of r (under (e ∷ es) q) ≡ 0)
-          → (k ≡ e.0) ⊎ (k ≢ e.0) → (((q : List Field) → q ≢ k → count_of r (under es q) ≡ 0) → count_of r (listed es) ≡ count_of r (under es k))
-          → count_of r (listed (e ∷ es)) ≡ count_of r (under (e ∷ es) k)
-      listed_at e es k r gone only (inl same) rest =
+      all_at : (e : List Field × List Row) (es : FiledRows) (k : List Field) (r : Row) → under es e.0 ≡ [] → ((q : List Field) → q ≢ k → count_of r (under (e ∷ es) q) ≡ 0)
+          → (k ≡ e.0) ⊎ (k ≢ e.0) → (((q : List Field) → q ≢ k → count_of r (under es q) ≡ 0) → count_of r (all_under es) ≡ count_of r (under es k))
+          → count_of r (all_under (e ∷ es)) ≡ count_of r (under (e ∷ es) k)
+      all_at e es k r gone only (inl same) rest =
           let tail = rest (λ q apart. rest_only e es k r gone only q apart (same_or_not e.0 q)) in
           let none = ap (λ (x : List Field). count_of r (under es x)) same ∙ ap (count_of r) gone in
           let first = ap (λ (x : List Field). count_of r (under (e ∷ es) x)) same ∙ ap (count_of r) (under_first e es) in
-          omega (arith, tail, none, first, count_of-append r (in_order e.1) (listed es), (in_order_counts e.1).each r)
-      listed_at e es k r gone only (inr other) rest =
+          omega (arith, tail, none, first, count_of-append r e.1 (all_under es))
+      all_at e es k r gone only (inr other) rest =
           let tail = rest (λ q apart. rest_only e es k r gone only q apart (same_or_not e.0 q)) in
           let none = sym (ap (count_of r) (under_first e es)) ∙ only e.0 (λ same. other (sym same)) in
           let later = ap (count_of r) (under_later e es k other) in
-          omega (arith, tail, none, later, count_of-append r (in_order e.1) (listed es), (in_order_counts e.1).each r)
+          omega (arith, tail, none, later, count_of-append r e.1 (all_under es))
+
+-- a list of all rows has each as often as it is there
+pub count_listed : (filed : FiledRows) (r : Row) → count_of r (listed filed) ≡ count_of r (all_under filed)
+count_listed [] r = refl
+count_listed (e ∷ es) r = omega (arith, count_of-append r (in_order e.1) (listed es), count_of-append r e.1 (all_under es), (in_order_counts e.1).each r, count_listed es r)

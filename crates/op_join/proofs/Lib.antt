@@ -3,5 +3,6 @@ pub mod FiledLemmas
 pub mod SumLemmas
 pub mod CutLemmas
 pub mod PairLemmas
+pub mod SkipLemmas
 pub mod JoinLemmas
 pub mod PortLemmas

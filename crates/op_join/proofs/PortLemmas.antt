@@ -9,10 +9,9 @@ use Rattle.cedr_base.specs.declared.row.Row.{Row}
 use Rattle.cedr_base.specs.declared.change.Change.{Change}
 use Rattle.cedr_base.specs.declared.change.Change.TheVariants.{Add, Cut}
 use Rattle.cedr_base.specs.Order.{payload_cmp}
-use Rattle.cedr_base.specs.Rows.{count_of, SameRows, in_order}
+use Rattle.cedr_base.specs.Rows.{count_of, SameRows}
 use Rattle.cedr_base.specs.Changes.{IsChange, puts, takes, MayFollow}
 use Rattle.cedr_base.proofs.Bags.{count_of-append}
-use Rattle.cedr_base.proofs.Sorting.{in_order_counts}
 use Rattle.cedr_stream.specs.Repairs.{IsMoved}
 use Rattle.cedr_stream.proofs.Moves.{may_is, row_came, puts_are_rows}
 use Rattle.cedr_expr.specs.declared.test.Test.{Test}
@@ -24,12 +23,12 @@ use Rattle.cedr_table.specs.Choices.{chosen}
 use Rattle.cedr_table.proofs.ChoiceLemmas.{chosen_repairs}
 use Rattle.op_join.specs.declared.side.Side.TheVariants.{Left, Right}
 use Rattle.op_join.specs.Keys.{full_key, left_key, right_key}
-use Rattle.op_join.specs.Filed.{FiledRows, under, listed, Files, right_partners, left_partners}
+use Rattle.op_join.specs.Filed.{FiledRows, under, all_under, listed, Files, right_partners, left_partners}
 use Rattle.op_join.specs.Pairs.{changed_row, all_changes}
 use Rattle.op_join.specs.Joins.{joined_rows, AreRows, StandsOnTwo}
 use Rattle.op_join.specs.JoinLaws.{same_are, files_alike}
 use Rattle.op_join.proofs.KeyLemmas.{keys_same}
-use Rattle.op_join.proofs.FiledLemmas.{same_or_not, files_moved, count_listed}
+use Rattle.op_join.proofs.FiledLemmas.{same_or_not, files_moved, count_all, count_listed}
 use Rattle.op_join.proofs.JoinLemmas.{FindsPartners, pairs_turn, count_left, count_right}
 
 -- the same, with the key as the code has it
@@ -56,9 +55,12 @@ row_there key_of (Cut a e) key filed rows is files may lacks =
     let at = ap (λ (k : List Field). count_of a (under filed k)) is in
     omega (arith, lacks, filed_there, at, there)
 
--- all filed rows are listed
-pub listed_same : (key_of : List Field → List Field) (filed : FiledRows) (rows : List Row) → IsStrictlySortedBy payload_cmp (keys_of filed) → Files key_of filed rows → SameRows (listed filed) rows
-listed_same key_of filed rows sorted files = record { each = λ r. count_listed filed sorted (key_of r.payload) r (λ q other. files.only q r other) ∙ files.there r }
+-- the rows under all keys are those that are filed
+pub all_same : (key_of : List Field → List Field) (filed : FiledRows) (rows : List Row) → IsStrictlySortedBy payload_cmp (keys_of filed) → Files key_of filed rows → SameRows (all_under filed) rows
+all_same key_of filed rows sorted files = record { each = λ r. count_all filed sorted (key_of r.payload) r (λ q other. files.only q r other) ∙ files.there r }
+
+listed_same : (key_of : List Field → List Field) (filed : FiledRows) (rows : List Row) → IsStrictlySortedBy payload_cmp (keys_of filed) → Files key_of filed rows → SameRows (listed filed) rows
+listed_same key_of filed rows sorted files = record { each = λ r. count_listed filed r ∙ (all_same key_of filed rows sorted files).each r }
 
 none_left : (key_of : List Field → List Field) (filed : FiledRows) (rows : List Row) → length filed ≡ 0 → Files key_of filed rows → (r : Row) → count_of r rows ≡ 0
 none_left key_of [] rows empty files r = sym (files.there r)
@@ -114,17 +116,17 @@ module _ (tests : List Test) (width : ℕ) (lefts rights : FiledRows) (tables : 
               let one : full_key Left width tests a.payload ≡ right_key width tests o.payload = subst (λ (w : ℕ). full_key Left w tests a.payload ≡ right_key w tests o.payload) fits (keys_same a.payload o.payload tests pass) in
               let at = ap (λ (k : List Field). count_of o (under rights k)) one in
               let there = h.right.there o in
-              omega (arith, at, there, (in_order_counts (under rights (full_key Left width tests a.payload))).each o);
+              omega (arith, at, there);
         },
         record {
           each = λ o there.
               let most = under_most (right_key width tests) rights (table_at tables 1) (full_key Left width tests a.payload) o h.right in
-              h.right_rows.each o (omega (arith, most, (in_order_counts (under rights (full_key Left width tests a.payload))).each o));
+              h.right_rows.each o (omega (arith, most));
         },
       )
   right_at a false is sorted =
-      let same = listed_same (right_key width tests) rights (table_at tables 1) (sorted refl) h.right in
-      (record { each = λ o pass. same.each o }, same_are (listed rights) (table_at tables 1) same h.right_rows)
+      let same = all_same (right_key width tests) rights (table_at tables 1) (sorted refl) h.right in
+      (record { each = λ o pass. same.each o }, same_are (all_under rights) (table_at tables 1) same h.right_rows)
 
   -- the right rows that pass with a left row are found
   pub right_finds : (a : Row) (key : List Field) → key ≡ left_key width tests a.payload → (key ≡ [] → IsStrictlySortedBy payload_cmp (keys_of rights))
@@ -134,12 +136,7 @@ module _ (tests : List Test) (width : ℕ) (lefts rights : FiledRows) (tables : 
       (right_at a (nat_eq (length a.payload) width) refl) sorted
 
   left_counts : (o b : Row) → count_of o (left_partners lefts (right_key width tests b.payload)) ≡ count_of o (under lefts (right_key width tests b.payload)) + count_of o (under lefts [])
-  left_counts o b = omega (
-    arith,
-    count_of-append o (in_order (under lefts (right_key width tests b.payload))) (in_order (under lefts [])),
-    (in_order_counts (under lefts (right_key width tests b.payload))).each o,
-    (in_order_counts (under lefts [])).each o,
-  )
+  left_counts o b = count_of-append o (under lefts (right_key width tests b.payload)) (under lefts [])
 
   left_at : (o b : Row) (fits : Bool) → nat_eq (length o.payload) width ≡ fits → left_key width tests o.payload ≡ cond fits (full_key Left width tests o.payload) [] → passes tests o.payload b.payload ≡ true
       → count_of o (under lefts (right_key width tests b.payload)) + count_of o (under lefts []) ≡ count_of o (table_at tables 0)

@@ -31,9 +31,9 @@ pub record Files (key_of : List Field → List Field) (filed : FiledRows) (rows 
 
 -- right rows that may pass with a left row: those under its key, and all where that is empty
 abbrev pub right_partners : FiledRows → List Field → List Row
-right_partners rights [] = listed rights
-right_partners rights (field ∷ key) = in_order (under rights (field ∷ key))
+right_partners rights [] = all_under rights
+right_partners rights (field ∷ key) = under rights (field ∷ key)
 
 -- left rows that may pass with a right row: those under its key, and those of another width
 abbrev pub left_partners : FiledRows → List Field → List Row
-left_partners lefts key = in_order (under lefts key) ++ in_order (under lefts [])
+left_partners lefts key = under lefts key ++ under lefts []

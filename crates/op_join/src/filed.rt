@@ -47,20 +47,6 @@ pub(crate) fn note(
     Ok(())
 }
 
-/// Copies of the rows under a key. O(log n) comparisons, and O(1) for each row.
-pub(crate) fn rows_under(
-    alloc: Global,
-    filed: &Filed,
-    key: &Payload,
-) -> Result<Vec<Row>, OutOfMemory>
-    ensures { IfOk result (λ rows. rows.items ≡ in_order (under filed.now.entries key.now)) }
-{
-    match filed.get(key) {
-        Some(table) => table.canonical(),
-        None => Ok(Vec::new(alloc)),
-    }
-}
-
 /// Adds copies of a table's rows at the end.
 fn push_rows(rows: &mut Vec<Row>, table: &Table) -> Result<(), OutOfMemory>
     ensures { OnOk result (rows.new.items ≡ rows.old.items ++ in_order table.now) }

@@ -8,9 +8,10 @@ ghost use Rattle.op_join.specs.Keys.{right_key};
 ghost use Rattle.op_join.specs.Filed.{Files, listed, left_partners, right_partners};
 ghost use Rattle.op_join.specs.Joins.{join_of, StandsOnTwo, StandsAfter, RepairsAfter};
 
-use crate::filed::{Filed, all_rows, note, rows_under};
+use crate::filed::{Filed, all_rows, note};
 use crate::keys::{full_key, left_key};
-use crate::pairs::{repair_pairs, row_of};
+use crate::pairs::row_of;
+use crate::partners::{repair_left, repair_right};
 use crate::side::Side;
 use cedr_base::{Change, OutOfMemory, Payload, Row, Time};
 use cedr_expr::{Test, Tests};
@@ -21,9 +22,9 @@ use std::collections::BTreeMap;
 /// One row for each pair of a left row and a right one whose payloads pass tests: it is valid while both are, and
 /// its payload is theirs, left then right. Port 0 is the left one. The bound is the least mark.
 ///
-/// A change costs O(log n) comparisons, and O(1) for each row of the other port that has its row's key. The key is
-/// the fields that equality tests between the two sides compare, at the width of the left payloads. Left rows of
-/// two widths are allowed: those of another width than the first one meet all rows.
+/// A change costs O(log n) comparisons, and O(1) for each row of the other port that has its row's key and ends after
+/// the change is seen. The key is the fields that equality tests between the two sides compare, at the width of the left
+/// payloads. Left rows of two widths are allowed: those of another width than the first one meet all rows.
 #[derive(Drop)]
 pub struct Join {
     alloc: Global,
@@ -80,16 +81,9 @@ impl Join {
         let row = row_of(change);
         self.settle(row.payload.fields().len())?;
         let key = left_key(alloc, self.width, self.tests.as_slice(), &row.payload)?;
-        let partners = find_right(alloc, &self.right, &key)?;
+        repair_right(alloc, &self.tests, change, &self.right, &key, out)?;
         note(alloc, &mut self.left, key, change)?;
-        repair_pairs(
-            alloc,
-            &self.tests,
-            Side::Left,
-            change,
-            partners.as_slice(),
-            out,
-        )
+        Ok(())
     }
 
     /// Answers a change of the right port. Where memory runs out a part of the answer may stand there.
@@ -114,16 +108,9 @@ impl Join {
             self.tests.as_slice(),
             &row.payload,
         )?;
-        let partners = find_left(alloc, &self.left, &key)?;
+        repair_left(alloc, &self.tests, change, &self.left, &key, out)?;
         note(alloc, &mut self.right, key, change)?;
-        repair_pairs(
-            alloc,
-            &self.tests,
-            Side::Right,
-            change,
-            partners.as_slice(),
-            out,
-        )
+        Ok(())
     }
 
     /// Answers a change. Where memory runs out a part of the answer may stand there.
@@ -166,30 +153,6 @@ fn file_right(
         note(alloc, &mut filed, key, &Change::Add(row))?;
     }
     Ok(filed)
-}
-
-/// Copies of the right rows that may pass with a left row of this key.
-fn find_right(alloc: Global, right: &Filed, key: &Payload) -> Result<Vec<Row>, OutOfMemory>
-    ensures rows { IfOk result (λ rows. rows.items ≡ right_partners right.now.entries key.now) }
-    ensures ordered { OnOk result (key.now ≡ [] → IsOrdered payload_cmp right.now) }
-{
-    if key.fields().is_empty() {
-        all_rows(alloc, right)
-    } else {
-        rows_under(alloc, right, key)
-    }
-}
-
-/// Copies of the left rows that may pass with a right row of this key.
-fn find_left(alloc: Global, left: &Filed, key: &Payload) -> Result<Vec<Row>, OutOfMemory>
-    ensures { IfOk result (λ rows. rows.items ≡ left_partners left.now.entries key.now) }
-{
-    let mut rows = rows_under(alloc, left, key)?;
-    let others = rows_under(alloc, left, &Payload::new(alloc))?;
-    for row in others {
-        rows.push(row)?;
-    }
-    Ok(rows)
 }
 
 impl Operator for Join {

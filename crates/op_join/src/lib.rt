@@ -8,6 +8,7 @@ mod filed;
 mod join;
 mod keys;
 mod pairs;
+mod partners;
 mod side;
 
 pub use join::Join;

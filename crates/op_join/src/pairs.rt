@@ -1,11 +1,17 @@
-ghost use Rattle.std.specs.Prelude.{◌≡◌, ◌++◌, OnOk, OnErr, IfOk, option_to_list, take, length};
+ghost use Rattle.std.specs.Prelude.{◌≡◌, ◌<◌, ◌++◌, OnOk, OnErr, IfOk, option_to_list, replicate, take, length};
+ghost use Rattle.std.specs.List.{filter};
+ghost use Rattle.cedr_base.specs.declared.time.TheConstants.{FOREVER};
+ghost use Rattle.cedr_base.specs.Changes.{sync_of};
+ghost use Rattle.cedr_table.specs.Counted.{spread};
 ghost use Rattle.cedr_expr.specs.Tests.{passes};
-ghost use Rattle.op_join.specs.Pairs.{passes_on, both_on, met, pair_changes, changed_row, all_changes};
+ghost use Rattle.op_join.specs.Pairs.{passes_on, both_on, met, pair_changes, changed_row, all_changes, ends_after};
 
 use crate::side::Side;
-use cedr_base::{Change, OutOfMemory, Payload, Row};
+use cedr_base::{Change, OutOfMemory, Payload, Row, Time};
 use cedr_expr::Tests;
+use cedr_table::Table;
 use std::alloc::Global;
+use std::collections::btree_map::Range;
 
 fn passes_on(tests: &Tests, side: Side, payload: &Payload, other: &Payload) -> bool
     ensures { result ≡ passes_on (passes tests.now) side payload.now other.now }
@@ -84,22 +90,57 @@ pub(crate) fn row_of(change: &Change) -> &Row
     }
 }
 
-/// Appends what a change does to the rows of its pairs with these rows. Where memory runs out a part may stand
+/// Appends what a change does to the rows of its pairs with copies of a row. Where memory runs out a part may stand
 /// there.
+fn repair_copies(
+    alloc: Global,
+    tests: &Tests,
+    side: Side,
+    change: &Change,
+    other: &Row,
+    count: usize,
+    out: &mut Vec<Change>,
+) -> Result<(), OutOfMemory>
+    ensures ok { OnOk result (out.new.items ≡ out.old.items ++ all_changes (passes tests.now) side change.now (replicate count other.now)) }
+    ensures err { OnErr result (take (length out.old.items) out.new.items ≡ out.old.items) }
+{
+    for _ in 0..count {
+        let found = pair_row(alloc, tests, side, row_of(change), other)?;
+        repair_row(change, found, out)?;
+    }
+    Ok(())
+}
+
+/// The rows that end after a time, in order, with the number of their copies.
+fn ending_after(alloc: Global, rows: &Table, time: Time) -> Range<'_, Row, usize>
+    requires { time < FOREVER }
+    ensures { spread result ≡ filter (ends_after time) rows.now }
+{
+    let first = Row {
+        end: time + 1,
+        begin: 0,
+        payload: Payload::new(alloc),
+    };
+    rows.range(first..)
+}
+
+/// Appends what a change does to the rows of its pairs with these rows. It looks at those alone that end after the
+/// change is seen: O(log n) comparisons in the different rows, and O(1) for each of these. Where memory runs out a
+/// part may stand there.
 pub(crate) fn repair_pairs(
     alloc: Global,
     tests: &Tests,
     side: Side,
     change: &Change,
-    others: &[Row],
+    others: &Table,
     out: &mut Vec<Change>,
 ) -> Result<(), OutOfMemory>
+    requires { sync_of change.now < FOREVER }
     ensures ok { OnOk result (out.new.items ≡ out.old.items ++ all_changes (passes tests.now) side change.now others.now) }
     ensures err { OnErr result (take (length out.old.items) out.new.items ≡ out.old.items) }
 {
-    for other in others {
-        let found = pair_row(alloc, tests, side, row_of(change), other)?;
-        repair_row(change, found, out)?;
+    for (other, count) in ending_after(alloc, others, change.sync()) {
+        repair_copies(alloc, tests, side, change, other, *count, out)?;
     }
     Ok(())
 }

@@ -1,13 +1,9 @@
 -- A left row's changes are answered at the settled width.
-use Rattle.std.proofs.Common.{List, ◌++◌, ap, ◌∙◌, subst}
-use Rattle.std.proofs.lemmas.Result.{on_ok_weaker}
+use Rattle.std.proofs.Common.{List, ap, ◌∙◌, subst}
 use Rattle.cedr_base.specs.declared.row.Row.{Row}
 use Rattle.cedr_expr.specs.declared.test.Test.{Test}
-use Rattle.cedr_expr.specs.Tests.{passes}
 use Rattle.cedr_table.specs.Operators.{table_at}
-use Rattle.op_join.specs.declared.side.Side.TheVariants.{Left}
 use Rattle.op_join.specs.Keys.{left_key}
-use Rattle.op_join.specs.Pairs.{all_changes}
 use Rattle.op_join.specs.Joins.{join_of, StandsOnTwo, RepairsAfter}
 use Rattle.op_join.proofs.PortLemmas.{row_there, left_stands, left_gains}
 use Rattle.op_join.proofs.join.Join.answer_left.Goals as goal
@@ -23,19 +19,17 @@ note-requires c =
 pub returns-clause-stands : goal.returns-clause-stands
 returns-clause-stands c =
     let join = c.settle.new.self in
-    on_ok_weaker c.repair_pairs.result (λ _ tables marks rows before can moved.
+    λ tables marks rows before can moved.
     left_stands join.tests join.width join.left.entries join.right.entries tables marks (c.in_ok-settle.ensures.stands tables marks before) c.args.change.now rows c.in_ok-key.key c.note.new.filed.entries can moved
     (c.in_ok-key.ensures ∙ (ap (λ (keys : List Test). left_key c.settle.new.self.width keys c.row_of-row.result.now.payload) c.as_slice.ensures ∙ ap (λ (row : Row). left_key c.settle.new.self.width c.settle.new.self.tests row.payload) c.row_of-row.ensures))
-    c.in_ok-note.ensures.here c.in_ok-note.ensures.others) c.repair_pairs.ensures.ok
+    c.in_ok-note.ensures.here c.in_ok-note.ensures.others
 
 pub returns-clause-repairs : goal.returns-clause-repairs
 returns-clause-repairs c =
     let was = c.args.self.now in
     let join = c.settle.new.self in
-    on_ok_weaker c.repair_pairs.result (λ appended.
-    subst (λ (tests : List Test). RepairsAfter (StandsOnTwo was.tests was.width was.left.entries was.right.entries) (join_of tests) 0 c.args.change.now c.args.out.now.items c.repair_pairs.new.out.items) c.settle.ensures.tests
+    subst (λ (tests : List Test). RepairsAfter (StandsOnTwo was.tests was.width was.left.entries was.right.entries) (join_of tests) 0 c.args.change.now c.args.out.now.items c.repair_right.new.out.items) c.settle.ensures.tests
     (λ tables marks rows before can moved.
-    left_gains join.tests join.width join.left.entries join.right.entries tables marks (c.in_ok-settle.ensures.stands tables marks before) c.args.change.now rows c.in_ok-key.key c.args.out.now.items c.repair_pairs.new.out.items can moved
+    left_gains join.tests join.width join.left.entries join.right.entries tables marks (c.in_ok-settle.ensures.stands tables marks before) c.args.change.now rows c.in_ok-key.key c.args.out.now.items c.repair_right.new.out.items can moved
     (c.in_ok-key.ensures ∙ (ap (λ (keys : List Test). left_key c.settle.new.self.width keys c.row_of-row.result.now.payload) c.as_slice.ensures ∙ ap (λ (row : Row). left_key c.settle.new.self.width c.settle.new.self.tests row.payload) c.row_of-row.ensures))
-    c.in_ok-partners.ensures.ordered
-    (appended ∙ ap (λ (rows : List Row). c.args.out.now.items ++ all_changes (passes c.settle.new.self.tests) Left c.args.change.now rows) (c.as_slice-2.ensures.value ∙ c.in_ok-partners.ensures.rows)))) c.repair_pairs.ensures.ok
+    c.in_ok-repair_right.ensures.ordered c.in_ok-repair_right.ensures.ok)
