@@ -20,7 +20,7 @@ fn is_row(row: &Row) -> bool
 }
 
 /// Whether a change may come on a port with this table.
-fn may_come(table: &Table, change: &Change) -> bool
+pub(crate) fn may_come(table: &Table, change: &Change) -> bool
     ensures { result ≡ true → MayFollow table.now [] change.now }
 {
     match change {
@@ -73,6 +73,24 @@ pub fn no_tables(alloc: Global, ports: usize) -> Result<Vec<Table>, OutOfMemory>
     Ok(tables)
 }
 
+/// A row whose payload is numbers.
+pub(crate) fn row_of(
+    alloc: Global,
+    begin: Time,
+    end: Time,
+    numbers: &[i128],
+) -> Result<Row, OutOfMemory> {
+    let mut payload = Payload::new(alloc);
+    for number in numbers {
+        payload.push(Field::Number(*number))?;
+    }
+    Ok(Row {
+        end,
+        begin,
+        payload,
+    })
+}
+
 /// A change of a row whose payload is numbers: to its begin and its end, or cut to an earlier end.
 pub fn change_of(
     alloc: Global,
@@ -81,15 +99,7 @@ pub fn change_of(
     to: Option<Time>,
     numbers: &[i128],
 ) -> Result<Change, OutOfMemory> {
-    let mut payload = Payload::new(alloc);
-    for number in numbers {
-        payload.push(Field::Number(*number))?;
-    }
-    let row = Row {
-        end,
-        begin,
-        payload,
-    };
+    let row = row_of(alloc, begin, end, numbers)?;
     match to {
         None => Ok(Change::Add(row)),
         Some(time) => Ok(Change::Cut(row, time)),

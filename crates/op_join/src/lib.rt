@@ -15,3 +15,5 @@ pub use join::Join;
 
 #[cfg(test)]
 mod tests;
+#[cfg(test)]
+mod worked;

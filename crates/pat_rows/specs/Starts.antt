@@ -1,14 +1,11 @@
 -- Rows of which the begins and the payloads alone matter.
 use Rattle.std.specs.Prelude.{ℕ, ◌≡◌, ◌<◌, ◌≤◌, List, [], ◌∷◌, Bool, ◌&&◌, nat_le, nat_lt, map}
-use Rattle.std.specs.List.Sorted.{IsStrictlySortedBy}
-use Rattle.std.specs.Map.{keys_of}
 use Rattle.cedr_base.specs.declared.time.TheConstants.{FOREVER}
 use Rattle.cedr_base.specs.declared.row.Row.{Row}
 use Rattle.cedr_base.specs.declared.change.Change.{Change}
 use Rattle.cedr_base.specs.declared.change.Change.TheVariants.{Add, Cut}
-use Rattle.cedr_base.specs.Rows.{row_cmp, count_of}
+use Rattle.cedr_base.specs.Rows.{count_of}
 use Rattle.cedr_table.specs.Operators.{Tables}
-use Rattle.cedr_table.specs.Counted.{spread, EachIsThere}
 
 -- the row as if it never ended
 abbrev pub endless : Row → Row
@@ -24,11 +21,9 @@ endless_tables tables = map all_endless tables
 abbrev pub begins_within : ℕ → ℕ → Row → Bool
 begins_within from before r = nat_le from r.begin && nat_lt r.begin before
 
--- the rows ascend, each is there, and each never ends
-pub record IsByBegin (entries : List (Row × ℕ)) : Type 0 where
-  pub ordered : IsStrictlySortedBy row_cmp (keys_of entries)
-  pub there : EachIsThere entries
-  pub endless : (r : Row) → 0 < count_of r (spread entries) → r.end ≡ FOREVER
+-- each row never ends
+abbrev pub AreEndless : List Row → Type 0
+AreEndless rows = (r : Row) → 0 < count_of r rows → r.end ≡ FOREVER
 
 -- a row that a change cuts is there
 abbrev pub HasRow : List Row → Change → Type 0

@@ -1,39 +1,36 @@
-ghost use Rattle.std.specs.Prelude.{◌≡◌, ◌+◌, ◌<◌, ◌++◌, ◌∷◌, [], OnOk, OnErr, IfOk};
+ghost use Rattle.std.specs.Prelude.{◌≡◌, ◌++◌, [], OnOk, OnErr, IfOk};
 ghost use Rattle.std.specs.List.{filter};
 ghost use Rattle.cedr_base.specs.declared.time.TheConstants.{FOREVER};
-ghost use Rattle.std.specs.BTreeMap.{IsOrdered};
-ghost use Rattle.cedr_base.specs.declared.row.Row.{Row};
-ghost use Rattle.cedr_base.specs.Rows.{row_cmp, one_if_same, SameRows};
+ghost use Rattle.cedr_base.specs.Rows.{SameRows};
 ghost use Rattle.cedr_base.specs.Changes.{puts, takes};
-ghost use Rattle.cedr_table.specs.Counted.{spread, copies, EachIsThere};
+ghost use Rattle.cedr_table.specs.Counted.{spread};
 ghost use Rattle.pat_rows.specs.Starts.{endless, all_endless, begins_within, AreWithin, HasRow};
 
 use cedr_base::{Change, FOREVER, OutOfMemory, Payload, Row, Time};
+use cedr_table::Table;
 use std::alloc::Global;
-use std::collections::BTreeMap;
 use std::collections::btree_map::Range;
 use std::marker::Model;
 
 /// A bag of rows of which only the begins and the payloads are kept. Contracts see a list of the rows, each as if
 /// it never ended, and only their counts matter.
 ///
-/// It keeps each begin with its payload once, with the number of copies.
+/// It is a table of these rows, whose canonical order is that of the begins since all of them have one end.
 #[derive(Drop)]
 pub struct ByBegin {
-    rows: BTreeMap<Row, usize>,
+    rows: Table,
 }
 
 impl Model for ByBegin {
     ghost use Rattle.std.specs.Prelude.{List};
     ghost use Rattle.cedr_base.specs.declared.row.Row.{Row};
-    ghost use Rattle.cedr_table.specs.Counted.{spread};
-    ghost use Rattle.pat_rows.specs.Starts.{IsByBegin};
+    ghost use Rattle.pat_rows.specs.Starts.{AreEndless};
 
     ghost Value = { List Row };
 
-    ghost view = { λ t. spread t.rows.entries };
+    ghost view = { λ t. t.rows };
 
-    ghost invariant = { λ t. IsByBegin t.rows.entries };
+    ghost invariant = { λ t. AreEndless t.rows };
 }
 
 /// A copy of a row as if it never ended.
@@ -59,53 +56,13 @@ fn first_at(alloc: Global, begin: Time) -> Row
     }
 }
 
-/// How many copies of a row there are.
-fn copies_in(map: &BTreeMap<Row, usize>, row: &Row) -> usize
-    ensures { result ≡ copies map.now.entries row.now }
-{
-    map.get(row).copied().unwrap_or(0)
-}
-
-/// Adds a copy of a row. A row with as many copies as a `usize` counts takes no more.
-fn add_one(map: &mut BTreeMap<Row, usize>, row: Row) -> Result<(), OutOfMemory>
-    requires ordered { IsOrdered row_cmp map.old }
-    requires there { EachIsThere map.old.entries }
-    ensures ok { OnOk result ((q : Row) → copies map.new.entries q ≡ copies map.old.entries q + one_if_same q row) }
-    ensures err { OnErr result (map.new.entries ≡ map.old.entries) }
-    ensures ordered { IsOrdered row_cmp map.new }
-    ensures there { EachIsThere map.new.entries }
-{
-    let count = copies_in(map, &row);
-    if count == usize::MAX {
-        return Err(OutOfMemory);
-    }
-    map.insert(row, count + 1)?;
-    Ok(())
-}
-
-/// Takes a copy of a row away.
-fn take_one(map: &mut BTreeMap<Row, usize>, row: &Row)
-    requires a_copy { 0 < copies map.old.entries row.now }
-    requires there { EachIsThere map.old.entries }
-    ensures counts { (q : Row) → copies map.new.entries q + one_if_same q row.now ≡ copies map.old.entries q }
-    ensures ordered { IsOrdered row_cmp map.new }
-    ensures there { EachIsThere map.new.entries }
-{
-    let count = copies_in(map, row);
-    if count == 1 {
-        map.remove(row);
-    } else if let Some(left) = map.get_mut(row) {
-        *left = count - 1;
-    }
-}
-
 impl ByBegin {
     /// A bag with no row. It takes no memory.
     pub fn new(alloc: Global) -> ByBegin
         ensures { result ≡ [] }
     {
         ByBegin {
-            rows: BTreeMap::new(alloc),
+            rows: Table::new(alloc),
         }
     }
 
@@ -119,12 +76,12 @@ impl ByBegin {
         match change {
             Change::Add(row) => {
                 let start = endless(alloc, row)?;
-                add_one(&mut self.rows, start)?;
+                self.rows.insert(start)?;
             }
             Change::Cut(row, end) => {
                 if *end <= row.begin {
                     let start = endless(alloc, row)?;
-                    take_one(&mut self.rows, &start);
+                    self.rows.take(&start);
                 }
             }
         }

@@ -1,17 +1,19 @@
 -- Which lists the search for matches makes.
 use Rattle.std.proofs.Common.{◌≡◌, ℕ, zero, suc, ◌+◌, ◌-◌, ◌<◌, ◌≤◌, ◌⊎◌, inl, inr, List, [], ◌∷◌, ◌++◌, length, get_or, Bool, true, false, cond, drop, min, refl, ap, sym, ◌∙◌, arith, append_assoc, add-one}
-use Rattle.std.specs.Prelude.{map, replicate, nat_lt, nat_le}
+use Rattle.std.specs.Prelude.{map, replicate, nat_lt, nat_le, ◌&&◌}
 use Rattle.std.specs.List.{flat_map, filter}
 use Rattle.std.proofs.Math.Seq.{drop-cons}
-use Rattle.std.proofs.lemmas.Bool.{ltb-true, ltb-false, leb-false, lt-ltb, and_parts, and_cases, and_from, ne_eqb}
+use Rattle.std.proofs.lemmas.Bool.{ltb-true, ltb-false, leb-false, lt-ltb, le-ltb, and_parts, and_cases, and_left, and_right, ne_eqb}
 use Rattle.cedr_base.specs.declared.row.Row.{Row}
 use Rattle.cedr_table.specs.Operators.{Tables, table_at}
 use Rattle.cedr_table.specs.Counted.{spread}
 use Rattle.cedr_expr.specs.declared.test.Test.{Test}
+use Rattle.cedr_expr.specs.Tests.{passes}
 use Rattle.pat_rows.specs.Starts.{begins_within}
 use Rattle.pat_rows.proofs.FlatLemmas.{flat_map-filter, no_copies as no_such_copies}
-use Rattle.pat_seq.specs.Steps.{begun, next, grown, grown_all, near, firsts, is_match, matches}
-use Rattle.pat_seq.proofs.MatchLemmas.{longer, next_none}
+use Rattle.pat_seq.specs.Steps.{begun, follows, next_passing, grown, grown_passing, grown_all, near, firsts, is_match, matches}
+use Rattle.pat_seq.proofs.MatchLemmas.{longer}
+use Rattle.pat_seq.proofs.PassingLemmas.{all_pass, matching_grown}
 
 map_copies : (scope count : ℕ) (row : Row) (rows : List Row) → map (begun scope) (replicate count row ++ rows) ≡ replicate count (begun scope row) ++ map (begun scope) rows
 map_copies scope zero row rows = refl
@@ -26,15 +28,16 @@ begun_step scope found found' all entries entries' row count is pushed so_far =
     ∙ (ap (λ rows. found ++ rows) (sym (map_copies scope count row (spread entries')) ∙ sym (ap (λ es. map (begun scope) (spread es)) is))
     ∙ so_far))
 
--- copies of a row that may be the next one
-pub next_copies : (p r : Row) (count : ℕ) → p.begin < r.begin → r.begin < p.end → flat_map (next p) (replicate count r) ≡ replicate count (longer p r)
-next_copies p r zero rises within = refl
-next_copies p r (suc count) rises within =
-    let may = and_from (nat_lt p.begin r.begin) (nat_lt r.begin p.end) (lt-ltb p.begin r.begin rises) (lt-ltb r.begin p.end within) in
-    λ i. cond {A = List Row} (may i) (longer p r ∷ []) [] ++ next_copies p r count rises within i
+may_follow : (tests : List Test) (p r : Row) (b : Bool) → follows tests p r ≡ b → next_passing tests p r ≡ cond b (longer p r ∷ []) []
+may_follow tests p r b is = ap {B = List Row} (λ test. cond test (longer p r ∷ []) []) is
 
-pub no_copies : (p r : Row) (count : ℕ) → (r.begin ≤ p.begin) ⊎ (p.end ≤ r.begin) → flat_map (next p) (replicate count r) ≡ []
-no_copies p r count h = no_such_copies (next p) count r (next_none p r h)
+-- copies of a row that may be the next one
+pub next_copies : (tests : List Test) (p r : Row) (count : ℕ) → follows tests p r ≡ true → flat_map (next_passing tests p) (replicate count r) ≡ replicate count (longer p r)
+next_copies tests p r zero may = refl
+next_copies tests p r (suc count) may = λ i. may_follow tests p r true may i ++ next_copies tests p r count may i
+
+pub no_copies : (tests : List Test) (p r : Row) (count : ℕ) → follows tests p r ≡ false → flat_map (next_passing tests p) (replicate count r) ≡ []
+no_copies tests p r count not = no_such_copies (next_passing tests p) count r (may_follow tests p r false not)
 
 pub length-near : (x : Row) (port : ℕ) (ts : Tables) → length (near x port ts) ≡ length ts
 length-near x port [] = refl
@@ -61,55 +64,63 @@ near_behind x changed zero (t ∷ ts) behind = absurd (omega arith)
 near_behind x zero (suc port) (t ∷ ts) behind = refl
 near_behind x (suc changed) (suc port) (t ∷ ts) behind = near_behind x changed port ts (omega arith)
 
--- a row that doesn't begin within the row so far's times can't be the next one
-outside : (p r : Row) → begins_within p.begin p.end r ≡ false → next p r ≡ []
-outside p r h = elim (and_cases (nat_le p.begin r.begin) (nat_lt r.begin p.end) h) [
-  | inl early ↦ let before = leb-false p.begin r.begin early in next_none p r (inl (omega arith))
-  | inr late ↦ next_none p r (inr (ltb-false r.begin p.end late))
+-- a row that isn't later or isn't within the scope can't be the next one, whatever the tests say
+passing_none : (tests : List Test) (p r : Row) → (r.begin ≤ p.begin) ⊎ (p.end ≤ r.begin) → next_passing tests p r ≡ []
+passing_none tests p r (inl early) =
+    may_follow tests p r false (and_left (nat_lt p.begin r.begin && nat_lt r.begin p.end) (passes tests p.payload r.payload) (and_left (nat_lt p.begin r.begin) (nat_lt r.begin p.end) (le-ltb p.begin r.begin early)))
+passing_none tests p r (inr late) =
+    may_follow tests p r false (and_left (nat_lt p.begin r.begin && nat_lt r.begin p.end) (passes tests p.payload r.payload) (and_right (nat_lt p.begin r.begin) (nat_lt r.begin p.end) (le-ltb r.begin p.end late)))
+
+-- nor can one that doesn't begin within the row so far's times
+outside : (tests : List Test) (p r : Row) → begins_within p.begin p.end r ≡ false → next_passing tests p r ≡ []
+outside tests p r h = elim (and_cases (nat_le p.begin r.begin) (nat_lt r.begin p.end) h) [
+  | inl early ↦ let before = leb-false p.begin r.begin early in passing_none tests p r (inl (omega arith))
+  | inr late ↦ passing_none tests p r (inr (ltb-false r.begin p.end late))
 ]
 
 -- behind the changed row's port, the rows within the scope are all that may be the next ones
-pub behind_rows : (x p : Row) (changed port : ℕ) (ts : Tables) (rows : List Row) → rows ≡ table_at ts port → changed < port → flat_map (next p) (filter (begins_within p.begin p.end) rows) ≡ flat_map (next p) (table_at (near x changed ts) port)
-behind_rows x p changed port ts rows is behind =
-    flat_map-filter (next p) (next p) (begins_within p.begin p.end) rows (λ r may. refl) (λ r not. sym (outside p r not))
-    ∙ ap (flat_map (next p)) (is ∙ sym (near_behind x changed port ts behind))
+pub behind_rows : (tests : List Test) (x p : Row) (changed port : ℕ) (ts : Tables) (rows : List Row) → rows ≡ table_at ts port → changed < port → flat_map (next_passing tests p) (filter (begins_within p.begin p.end) rows) ≡ flat_map (next_passing tests p) (table_at (near x changed ts) port)
+behind_rows tests x p changed port ts rows is behind =
+    flat_map-filter (next_passing tests p) (next_passing tests p) (begins_within p.begin p.end) rows (λ r may. refl) (λ r not. sym (outside tests p r not))
+    ∙ ap (flat_map (next_passing tests p)) (is ∙ sym (near_behind x changed port ts behind))
 
-outside_both : (x p r : Row) (b : Bool) → nat_lt r.begin x.begin ≡ b → begins_within p.begin (min p.end x.begin) r ≡ false → [] ≡ cond b (next p r) []
-outside_both x p r false is h = refl
-outside_both x p r true is h =
+outside_both : (tests : List Test) (x p r : Row) (b : Bool) → nat_lt r.begin x.begin ≡ b → begins_within p.begin (min p.end x.begin) r ≡ false → [] ≡ cond b (next_passing tests p r) []
+outside_both tests x p r false is h = refl
+outside_both tests x p r true is h =
     let early = ltb-true r.begin x.begin is in
     elim (and_cases (nat_le p.begin r.begin) (nat_lt r.begin (min p.end x.begin)) h) [
-      | inl low ↦ let before = leb-false p.begin r.begin low in sym (next_none p r (inl (omega arith)))
-      | inr high ↦ let late = ltb-false r.begin (min p.end x.begin) high in sym (next_none p r (inr (omega arith)))
+      | inl low ↦ let before = leb-false p.begin r.begin low in sym (passing_none tests p r (inl (omega arith)))
+      | inr high ↦ let late = ltb-false r.begin (min p.end x.begin) high in sym (passing_none tests p r (inr (omega arith)))
     ]
 
-inside_both : (x p r : Row) → begins_within p.begin (min p.end x.begin) r ≡ true → next p r ≡ cond (nat_lt r.begin x.begin) (next p r) []
-inside_both x p r h =
+inside_both : (tests : List Test) (x p r : Row) → begins_within p.begin (min p.end x.begin) r ≡ true → next_passing tests p r ≡ cond (nat_lt r.begin x.begin) (next_passing tests p r) []
+inside_both tests x p r h =
     let below = ltb-true r.begin (min p.end x.begin) (and_parts (nat_le p.begin r.begin) (nat_lt r.begin (min p.end x.begin)) h).1 in
-    sym (ap (λ b. cond b (next p r) []) (lt-ltb r.begin x.begin (omega arith)))
+    sym (ap (λ b. cond b (next_passing tests p r) []) (lt-ltb r.begin x.begin (omega arith)))
 
 -- before it, so are those that begin before the changed row
-pub before_rows : (x p : Row) (changed port before : ℕ) (ts : Tables) (rows : List Row) → before ≡ min p.end x.begin → rows ≡ table_at ts port → port < changed → flat_map (next p) (filter (begins_within p.begin before) rows) ≡ flat_map (next p) (table_at (near x changed ts) port)
-before_rows x p changed port before ts rows least is early =
-    let both = λ (r : Row). cond (nat_lt r.begin x.begin) (next p r) [] in
-    ap (λ (time : ℕ). flat_map (next p) (filter (begins_within p.begin time) rows)) least
-    ∙ (flat_map-filter (next p) both (begins_within p.begin (min p.end x.begin)) rows (λ r may. inside_both x p r may) (λ r not. outside_both x p r (nat_lt r.begin x.begin) refl not)
-    ∙ (sym (flat_map-filter (next p) both (λ r. nat_lt r.begin x.begin) rows (λ r may. sym (ap (λ b. cond b (next p r) []) may)) (λ r not. sym (ap (λ b. cond b (next p r) []) not)))
-    ∙ ap (flat_map (next p)) (ap (filter (λ r. nat_lt r.begin x.begin)) is ∙ sym (near_before x changed port ts early))))
+pub before_rows : (tests : List Test) (x p : Row) (changed port before : ℕ) (ts : Tables) (rows : List Row) → before ≡ min p.end x.begin → rows ≡ table_at ts port → port < changed
+    → flat_map (next_passing tests p) (filter (begins_within p.begin before) rows) ≡ flat_map (next_passing tests p) (table_at (near x changed ts) port)
+before_rows tests x p changed port before ts rows least is early =
+    let both = λ (r : Row). cond (nat_lt r.begin x.begin) (next_passing tests p r) [] in
+    ap (λ (time : ℕ). flat_map (next_passing tests p) (filter (begins_within p.begin time) rows)) least
+    ∙ (flat_map-filter (next_passing tests p) both (begins_within p.begin (min p.end x.begin)) rows (λ r may. inside_both tests x p r may) (λ r not. outside_both tests x p r (nat_lt r.begin x.begin) refl not)
+    ∙ (sym (flat_map-filter (next_passing tests p) both (λ r. nat_lt r.begin x.begin) rows (λ r may. sym (ap (λ b. cond b (next_passing tests p r) []) may)) (λ r not. sym (ap (λ b. cond b (next_passing tests p r) []) not)))
+    ∙ ap (flat_map (next_passing tests p)) (ap (filter (λ r. nat_lt r.begin x.begin)) is ∙ sym (near_before x changed port ts early))))
 
--- one port more
-pub grown_step : (so_far found : List Row) (port : ℕ) (us : Tables) (all : List Row) → port < length us → found ≡ grown so_far (table_at us port) → grown_all so_far (drop port us) ≡ all → grown_all found (drop (port + 1) us) ≡ all
+-- one port more, where there are no tests to pass yet
+pub grown_step : (so_far found : List Row) (port : ℕ) (us : Tables) (all : List Row) → port < length us → found ≡ grown_passing [] so_far (table_at us port) → grown_all so_far (drop port us) ≡ all → grown_all found (drop (port + 1) us) ≡ all
 grown_step so_far found port us all within is was =
-    ap (λ rows. grown_all rows (drop (port + 1) us)) is
+    ap (λ rows. grown_all rows (drop (port + 1) us)) (is ∙ all_pass so_far (table_at us port))
     ∙ (ap (λ n. grown_all (grown so_far (table_at us port)) (drop n us)) (add-one port)
     ∙ (sym (ap (grown_all so_far) (drop-cons us port [] within)) ∙ was))
 
--- no port is left
-pub grown_end : (so_far : List Row) (port : ℕ) (us : Tables) (all : List Row) → length us ≤ port → grown_all so_far (drop port us) ≡ all → so_far ≡ all
-grown_end so_far zero [] all done was = was
-grown_end so_far (suc port) [] all done was = was
-grown_end so_far zero (u ∷ us) all done was = absurd (omega arith)
-grown_end so_far (suc port) (u ∷ us) all done was = grown_end so_far port us all (omega arith) was
+-- the last port
+grown_last : (so_far : List Row) (port : ℕ) (us : Tables) → length us ≡ port + 1 → grown_all so_far (drop port us) ≡ grown so_far (table_at us port)
+grown_last so_far port [] last = absurd (omega arith)
+grown_last so_far zero (u ∷ []) last = refl
+grown_last so_far zero (u ∷ v ∷ us) last = absurd (omega arith)
+grown_last so_far (suc port) (u ∷ us) last = grown_last so_far port us (omega arith)
 
 -- the bag at a port
 pub bag_at : (ts : Tables) (port : ℕ) (bag : List Row) → port < length ts → bag ≡ get_or ts port bag → bag ≡ table_at ts port
@@ -121,9 +132,11 @@ bag_at (t ∷ ts) (suc port) bag within is = bag_at ts port bag (omega arith) is
 pub firsts_later : (scope : ℕ) (x : Row) (port : ℕ) (rows : List Row) → (port ≡ 0 → ⊥) → firsts scope x port rows ≡ filter (begins_within (x.begin + 1 - scope) x.begin) rows
 firsts_later scope x port rows later = ap (λ b. cond b (x ∷ []) (filter (begins_within (x.begin + 1 - scope) x.begin) rows)) (ne_eqb port 0 later)
 
--- what the search ends with
-pub found_is : (scope : ℕ) (tests : List Test) (x : Row) (changed port : ℕ) (ts : Tables) (rows found : List Row) → length ts ≤ port
-    → grown_all rows (drop port (near x changed ts)) ≡ grown_all (map (begun scope) (firsts scope x changed (table_at ts 0))) (drop 1 (near x changed ts)) → found ≡ filter (is_match tests) rows
-    → found ≡ matches scope tests x changed ts
-found_is scope tests x changed port ts rows found done was is =
-    is ∙ ap (filter (is_match tests)) (grown_end rows port (near x changed ts) _ (let same = length-near x changed ts in omega arith) was)
+-- what the search ends with: the rows that pass the tests on the last port
+pub found_is : (scope : ℕ) (tests : List Test) (x : Row) (changed last : ℕ) (ts : Tables) (rows found : List Row) → length ts ≡ last + 1
+    → grown_all rows (drop last (near x changed ts)) ≡ grown_all (map (begun scope) (firsts scope x changed (table_at ts 0))) (drop 1 (near x changed ts))
+    → found ≡ grown_passing tests rows (table_at (near x changed ts) last) → found ≡ matches scope tests x changed ts
+found_is scope tests x changed last ts rows found size was is =
+    is
+    ∙ (sym (matching_grown tests rows (table_at (near x changed ts) last))
+    ∙ ap (filter (is_match tests)) (sym (grown_last rows last (near x changed ts) (length-near x changed ts ∙ size)) ∙ was))

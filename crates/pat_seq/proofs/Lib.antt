@@ -1,3 +1,4 @@
 pub mod MatchLemmas
+pub mod PassingLemmas
 pub mod FindLemmas
 pub mod RepairLemmas

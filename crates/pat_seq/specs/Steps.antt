@@ -1,5 +1,7 @@
 -- How the choices with one changed row are found, port by port.
-use Rattle.std.specs.Prelude.{ℕ, zero, suc, ◌≡◌, ◌++◌, ◌+◌, ◌-◌, List, [], ◌∷◌, Bool, ◌&&◌, nat_lt, nat_eq, drop, if◌then◌else◌, map}
+use Rattle.std.specs.Prelude.{ℕ, zero, suc, ◌≡◌, ◌++◌, ◌+◌, ◌-◌, List, [], ◌∷◌, Bool, ◌&&◌, nat_lt, nat_eq, drop, if◌then◌else◌, map, Option, unwrap_or}
+use Rattle.std.specs.Option.{option_copied}
+use Rattle.std.proofs.Common.{Bor}
 use Rattle.std.specs.List.{flat_map, filter}
 use Rattle.cedr_base.specs.declared.row.Row.{Row}
 use Rattle.cedr_stream.specs.Times.{later}
@@ -24,6 +26,22 @@ next so_far e = if nat_lt so_far.begin e.begin && nat_lt e.begin so_far.end then
 -- the rows so far with one row more of a table
 abbrev pub grown : List Row → List Row → List Row
 grown so_far rows = flat_map (λ p. flat_map (next p) rows) so_far
+
+-- the tests, and none where there is no list of them
+abbrev pub tests_in : Option (Bor (List Test)) → List Test
+tests_in tests = unwrap_or (option_copied tests) []
+
+-- the row may be the next one: it begins later and within the scope, and with the row so far it passes the tests
+abbrev pub follows : List Test → Row → Row → Bool
+follows tests so_far e = (nat_lt so_far.begin e.begin && nat_lt e.begin so_far.end) && passes tests so_far.payload e.payload
+
+-- the row so far with one row more, where that may be the next one
+abbrev pub next_passing : List Test → Row → Row → List Row
+next_passing tests so_far e = if follows tests so_far e then record { end = so_far.end; begin = e.begin; payload = so_far.payload ++ e.payload } ∷ [] else []
+
+-- the rows so far with one row more of a table that may be the next one
+abbrev pub grown_passing : List Test → List Row → List Row → List Row
+grown_passing tests so_far rows = flat_map (λ p. flat_map (next_passing tests p) rows) so_far
 
 abbrev pub grown_all : List Row → Tables → List Row
 grown_all so_far [] = so_far

@@ -8,3 +8,5 @@ pub use sequence::Sequence;
 
 #[cfg(test)]
 mod tests;
+#[cfg(test)]
+mod worked;

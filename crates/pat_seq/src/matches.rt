@@ -3,9 +3,9 @@ ghost use Rattle.std.specs.List.{flat_map, filter};
 ghost use Rattle.cedr_base.specs.declared.time.TheConstants.{FOREVER};
 ghost use Rattle.cedr_table.specs.Operators.{table_at};
 ghost use Rattle.pat_rows.specs.Starts.{begins_within};
-ghost use Rattle.pat_seq.specs.Steps.{begun, next, grown, near, firsts, is_match, matches};
+ghost use Rattle.pat_seq.specs.Steps.{begun, tests_in, follows, next_passing, grown_passing, near, firsts, matches};
 
-use cedr_base::{OutOfMemory, Payload, Row, Time, later};
+use cedr_base::{OutOfMemory, Row, Time, later};
 use cedr_expr::Tests;
 use pat_rows::ByBegin;
 use std::alloc::Global;
@@ -105,17 +105,32 @@ fn push_joined(
     Ok(())
 }
 
-/// The same, where the row begins later and within the scope.
+/// Whether a row may be the next one of a choice: it begins later and within the scope, and with the row so far it
+/// passes the tests, where there are some.
+fn follows(tests: Option<&Tests>, so_far: &Row, row: &Row) -> bool
+    ensures { result ≡ follows (tests_in tests.entry) so_far.now row.now }
+{
+    if so_far.begin >= row.begin || row.begin >= so_far.end {
+        return false;
+    }
+    match tests {
+        Some(tests) => tests.holds(&so_far.payload, &row.payload),
+        None => true,
+    }
+}
+
+/// Appends the row so far with one row more where that may be the next one, once for each copy of the row.
 fn push_next(
     alloc: Global,
+    tests: Option<&Tests>,
     so_far: &Row,
     row: &Row,
     count: usize,
     rows: &mut Vec<Row>,
 ) -> Result<(), OutOfMemory>
-    ensures { OnOk result (rows.new.items ≡ rows.old.items ++ flat_map (next so_far.now) (replicate count row.now)) }
+    ensures { OnOk result (rows.new.items ≡ rows.old.items ++ flat_map (next_passing (tests_in tests.entry) so_far.now) (replicate count row.now)) }
 {
-    if so_far.begin < row.begin && row.begin < so_far.end {
+    if follows(tests, so_far, row) {
         push_joined(alloc, so_far, row, count, rows)
     } else {
         Ok(())
@@ -125,15 +140,16 @@ fn push_next(
 /// The same for each row that begins before a time.
 fn push_before(
     alloc: Global,
+    tests: Option<&Tests>,
     kept: &ByBegin,
     so_far: &Row,
     before: Time,
     rows: &mut Vec<Row>,
 ) -> Result<(), OutOfMemory>
-    ensures { OnOk result (rows.new.items ≡ rows.old.items ++ flat_map (next so_far.now) (filter (begins_within so_far.now.begin before) kept.now)) }
+    ensures { OnOk result (rows.new.items ≡ rows.old.items ++ flat_map (next_passing (tests_in tests.entry) so_far.now) (filter (begins_within so_far.now.begin before) kept.now)) }
 {
     for (row, count) in kept.within(alloc, so_far.begin, before) {
-        push_next(alloc, so_far, row, *count, rows)?;
+        push_next(alloc, tests, so_far, row, *count, rows)?;
     }
     Ok(())
 }
@@ -141,6 +157,7 @@ fn push_before(
 /// The same for each row of a port, of which the changed row is to stand on its own port.
 fn push_port(
     alloc: Global,
+    tests: Option<&Tests>,
     kept: &[ByBegin],
     changed: usize,
     row: &Row,
@@ -149,21 +166,22 @@ fn push_port(
     rows: &mut Vec<Row>,
 ) -> Result<(), OutOfMemory>
     requires { port < length kept.now }
-    ensures { OnOk result (rows.new.items ≡ rows.old.items ++ flat_map (next so_far.now) (table_at (near row.now changed kept.now) port)) }
+    ensures { OnOk result (rows.new.items ≡ rows.old.items ++ flat_map (next_passing (tests_in tests.entry) so_far.now) (table_at (near row.now changed kept.now) port)) }
 {
     if port == changed {
-        push_next(alloc, so_far, row, 1, rows)
+        push_next(alloc, tests, so_far, row, 1, rows)
     } else if port < changed {
         let before = so_far.end.min(row.begin);
-        push_before(alloc, &kept[port], so_far, before, rows)
+        push_before(alloc, tests, &kept[port], so_far, before, rows)
     } else {
-        push_before(alloc, &kept[port], so_far, so_far.end, rows)
+        push_before(alloc, tests, &kept[port], so_far, so_far.end, rows)
     }
 }
 
-/// The rows so far with one row more of a port.
+/// The rows so far with one row more of a port, with which they pass the tests, where there are some.
 fn grown(
     alloc: Global,
+    tests: Option<&Tests>,
     kept: &[ByBegin],
     changed: usize,
     row: &Row,
@@ -171,32 +189,19 @@ fn grown(
     so_far: &[Row],
 ) -> Result<Vec<Row>, OutOfMemory>
     requires { port < length kept.now }
-    ensures { IfOk result (λ rows. rows.items ≡ grown so_far.now (table_at (near row.now changed kept.now) port)) }
+    ensures { IfOk result (λ rows. rows.items ≡ grown_passing (tests_in tests.entry) so_far.now (table_at (near row.now changed kept.now) port)) }
 {
     let mut rows = Vec::new(alloc);
     for partial in so_far {
-        push_port(alloc, kept, changed, row, port, partial, &mut rows)?;
+        push_port(alloc, tests, kept, changed, row, port, partial, &mut rows)?;
     }
     Ok(rows)
 }
 
-/// Whether a row so far is a row of the result.
-fn is_match(tests: &Tests, nothing: &Payload, row: &Row) -> bool
-    requires { nothing.now ≡ [] }
-    ensures { result ≡ is_match tests.now row.now }
-{
-    row.begin < row.end && tests.holds(&row.payload, nothing)
-}
-
-/// Keeps the rows of the result.
-fn keep_matches(alloc: Global, tests: &Tests, rows: &mut Vec<Row>)
-    ensures { rows.new.items ≡ filter (is_match tests.now) rows.old.items }
-{
-    let nothing = Payload::new(alloc);
-    rows.retain(|row| is_match(tests, &nothing, row));
-}
-
 /// The rows of the result of the choices with a changed row on its port.
+///
+/// On each port but the last it joins the payloads of the rows so far, as the next port has to see them. On the last
+/// one it runs the tests first, on the payload so far and that of the last row, and joins only what passes.
 pub(crate) fn find_matches(
     alloc: Global,
     scope: u64,
@@ -208,12 +213,21 @@ pub(crate) fn find_matches(
     requires begin { row.now.begin < FOREVER }
     requires scope { scope ≤ 2 ^ 40 }
     requires changed { changed < length kept.now }
+    requires ports { 2 ≤ length kept.now }
     ensures { IfOk result (λ rows. rows.items ≡ matches scope tests.now row.now changed kept.now) }
 {
+    let last = kept.len() - 1;
     let mut rows = first_rows(alloc, scope, &kept[0], changed, row)?;
-    for port in 1..kept.len() {
-        rows = grown(alloc, kept, changed, row, port, rows.as_slice())?;
+    for port in 1..last {
+        rows = grown(alloc, None, kept, changed, row, port, rows.as_slice())?;
     }
-    keep_matches(alloc, tests, &mut rows);
-    Ok(rows)
+    grown(
+        alloc,
+        Some(tests),
+        kept,
+        changed,
+        row,
+        last,
+        rows.as_slice(),
+    )
 }

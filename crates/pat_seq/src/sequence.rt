@@ -20,8 +20,10 @@ use std::alloc::Global;
 /// the order of the ports. The bound is the least mark.
 ///
 /// It keeps the rows of its ports without their ends. A change of a row looks at rows that begin within the scope of
-/// it alone: for each ascending choice of the first ports, with that row on its port, O(log n) and the rows that may
-/// be the next one. A retraction that leaves something of its row takes O(1).
+/// it alone: for each ascending choice of the ports but the last in which it may stand, O(log n) and the rows that may
+/// be the next one. Each row more of such a choice costs a copy of the payload so far. On the last port the tests come
+/// first, once for all copies of a row, and a payload is joined only for what passes them. A retraction that leaves
+/// something of its row takes O(1).
 #[derive(Drop)]
 pub struct Sequence {
     scope: u64,
@@ -60,6 +62,7 @@ impl Sequence {
         requires begin { row.now.begin < FOREVER }
         requires scope { self.old.scope ≤ 2 ^ 40 }
         requires port { port < length self.old.kept.items }
+        requires ports { 2 ≤ length self.old.kept.items }
         requires there { HasRow (table_at self.old.kept.items port) change.now }
         ensures ok { OnOk result ((self.new.scope ≡ self.old.scope) × (self.new.tests ≡ self.old.tests) × IsAnswered self.old.scope self.old.tests self.old.kept.items self.new.kept.items port change.now way row.now out.old.items out.new.items) }
         ensures err { OnErr result (out.new.items ≡ out.old.items) }

@@ -8,3 +8,5 @@ pub use unless::Unless;
 
 #[cfg(test)]
 mod tests;
+#[cfg(test)]
+mod worked;

@@ -5,12 +5,12 @@ use op_feed::gives;
 use std::alloc::Global;
 use std::test::Fail;
 
-fn no_tests(alloc: Global) -> Result<Tests, Fail> {
+pub(crate) fn no_tests(alloc: Global) -> Result<Tests, Fail> {
     Ok(Tests::new(Vec::new(alloc), &[], &[])?)
 }
 
 /// Tests that the columns of both payloads are equal.
-fn same_column(alloc: Global) -> Result<Tests, Fail> {
+pub(crate) fn same_column(alloc: Global) -> Result<Tests, Fail> {
     let mut tests = Vec::new(alloc);
     tests.push(Test {
         left: 0,
