@@ -2,4 +2,3 @@ pub mod Changing
 pub mod Feeding
 pub mod NodeLemmas
 pub mod QueryLemmas
-pub mod Answering

@@ -15,7 +15,7 @@ use Rattle.cedr_plan.specs.Rules.{operator_of_kind, numbers_of, IsNumber, IsInpu
 use Rattle.cedr_table.specs.Operators.{Tables, SameTables, table_at}
 use Rattle.cedr_query.specs.Asked.{HasRows, AreRows}
 use Rattle.cedr_query.specs.Queries.{each_node, is_source, source_count}
-use Rattle.cedr_query.specs.Ready.{IsReady}
+use Rattle.op_planned.specs.Ready.{IsReady}
 
 more_behind : {X : Type 0} (make : List PlanNode → List X → PlanNode → X) (before : List PlanNode) (done : List X) (nodes : List PlanNode) (node : PlanNode)
     → each_node make before done (nodes ++ node ∷ []) ≡ each_node make before done nodes ++ make (before ++ nodes) (each_node make before done nodes) node ∷ []

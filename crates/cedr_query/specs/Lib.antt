@@ -1,4 +1,2 @@
 pub mod Queries
 pub mod Asked
-pub mod OutputLaws
-pub mod Ready

@@ -6,35 +6,7 @@ use Rattle.cedr_plan.specs.declared.plan.NodeKind.{NodeKind}
 use Rattle.cedr_plan.specs.declared.plan.NodeKind.TheVariants as kind
 use Rattle.cedr_plan.specs.declared.plan.PlanNode.{PlanNode}
 use Rattle.cedr_table.specs.Operators.{Tables, Meaning, table_at, mark_at}
-use Rattle.cedr_table.specs.RowWise.{row_wise}
-use Rattle.op_row.specs.Rows.{selected, projected}
-use Rattle.op_row.specs.Unions.{union_of}
-use Rattle.op_join.specs.Joins.{join_of}
-use Rattle.op_life.specs.Lifetimes.{with_life, windowed, shifted, shifted_mark, hopped, hopped_mark, started, ended}
-use Rattle.op_group.specs.Groups.{grouping_by, group_of}
-use Rattle.pat_seq.specs.Sequences.{sequence_of}
-use Rattle.pat_unless.specs.Blocking.{unless_of}
-
--- all rows of the one port, and its mark
-abbrev pub handed_on : Meaning
-handed_on = row_wise (λ r. r ∷ []) (λ mark. mark)
-
--- what a node means that has so many ports; a source has none, and is never asked
-abbrev pub node_meaning : NodeKind → ℕ → Meaning
-node_meaning (kind.Source file) ports = handed_on
-node_meaning (kind.Select tests) ports = row_wise (selected tests) (λ mark. mark)
-node_meaning (kind.Project keep) ports = row_wise (projected keep) (λ mark. mark)
-node_meaning kind.Union ports = union_of ports
-node_meaning (kind.Join tests) ports = join_of tests
-node_meaning (kind.Window width) ports = row_wise (with_life (windowed width)) (λ mark. mark)
-node_meaning (kind.Shift by) ports = row_wise (with_life (shifted by)) (shifted_mark by)
-node_meaning (kind.Hop every width) ports = row_wise (with_life (hopped every width)) (hopped_mark every)
-node_meaning kind.Starts ports = row_wise (with_life started) (λ mark. mark)
-node_meaning kind.Ends ports = row_wise (with_life ended) (λ mark. mark)
-node_meaning (kind.Group keys count sums) ports = group_of (grouping_by keys count sums.items)
-node_meaning (kind.Sequence scope tests) ports = sequence_of ports scope tests
-node_meaning (kind.Unless scope hold tests) ports = unless_of scope hold tests
-node_meaning kind.Output ports = handed_on
+use Rattle.op_planned.specs.Meanings.{meaning_of}
 
 abbrev pub is_source : NodeKind → Bool
 is_source (kind.Source file) = true
@@ -51,9 +23,6 @@ source_count nodes = count_by (λ (node : PlanNode). is_source node.kind) nodes
 -- where the output stands among the nodes
 abbrev pub output_place : List PlanNode → ℕ
 output_place nodes = unwrap_or (position (λ (node : PlanNode). is_output node.kind) nodes) 0
-
-abbrev pub meaning_of : PlanNode → Meaning
-meaning_of node = node_meaning node.kind (length node.inputs.items)
 
 -- the tables of the nodes that a node reads, one for each port
 abbrev pub input_tables : Tables → PlanNode → Tables

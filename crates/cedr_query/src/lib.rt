@@ -7,7 +7,6 @@
 
 mod ask;
 mod node;
-mod output;
 mod query;
 
 pub use query::{evaluate, reach};

@@ -4,7 +4,7 @@ ghost use Rattle.cedr_table.specs.Operators.{Tables, AreTimes, SameTables, table
 ghost use Rattle.cedr_base.specs.declared.time.TheConstants.{FOREVER};
 ghost use Rattle.cedr_query.specs.Asked.{HasRows, AreRows};
 ghost use Rattle.cedr_query.specs.Queries.{is_source, is_output, source_count, output_place, query, reaches, each_node, node_table, node_mark};
-ghost use Rattle.cedr_query.specs.Ready.{IsReady};
+ghost use Rattle.op_planned.specs.Ready.{IsReady};
 ghost use Rattle.cedr_plan.specs.Rules.{IsPlan};
 
 use crate::node::ask_node;

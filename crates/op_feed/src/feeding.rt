@@ -20,7 +20,7 @@ fn is_row(row: &Row) -> bool
 }
 
 /// Whether a change may come on a port with this table.
-pub(crate) fn may_come(table: &Table, change: &Change) -> bool
+pub fn may_come(table: &Table, change: &Change) -> bool
     ensures { result ≡ true → MayFollow table.now [] change.now }
 {
     match change {
@@ -32,7 +32,7 @@ pub(crate) fn may_come(table: &Table, change: &Change) -> bool
 }
 
 /// Applies a change that may come.
-fn note(table: &mut Table, change: &Change) -> Result<(), OutOfMemory>
+pub fn note(table: &mut Table, change: &Change) -> Result<(), OutOfMemory>
     ensures { OnOk result (SameRows (table.new ++ takes change.now) (table.old ++ puts change.now)) }
 {
     match table.apply(change) {

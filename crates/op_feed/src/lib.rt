@@ -5,5 +5,5 @@
 mod feeding;
 mod leading;
 
-pub use feeding::{Given, Wanted, change_of, feed, gives, no_tables};
+pub use feeding::{Given, Wanted, change_of, feed, gives, may_come, no_tables, note};
 pub use leading::{Step, WantedRow, leads};

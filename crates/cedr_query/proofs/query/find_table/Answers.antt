@@ -4,7 +4,8 @@ use Rattle.cedr_base.specs.declared.row.Row.{Row}
 use Rattle.cedr_base.specs.Rows.{SameRows, count_of}
 use Rattle.cedr_table.specs.Operators.{Tables, AreTimes, table_at}
 use Rattle.cedr_query.specs.Asked.{HasRows}
-use Rattle.cedr_query.specs.Queries.{source_count, meaning_of, input_tables}
+use Rattle.cedr_query.specs.Queries.{source_count, input_tables}
+use Rattle.op_planned.specs.Meanings.{meaning_of}
 use Rattle.cedr_query.proofs.Feeding.{read_is, same_tables_itself}
 use Rattle.cedr_query.proofs.QueryLemmas.{copied_rows, zeros_are_times, same_inputs}
 use Rattle.cedr_query.proofs.query.find_table.Goals as goal

@@ -1,0 +1,15 @@
+-- What the calls of an operator ask for, at any state. At the variant of an arm it is what its own operator asks for.
+use Rattle.std.specs.Prelude.{ℕ, List}
+use Rattle.cedr_base.specs.declared.change.Change.{Change}
+use Rattle.cedr_table.specs.Operators.{Tables, CanTake, AllRise, AreTimes}
+use Rattle.op_planned.specs.Chosen.{ChosenStands}
+use Rattle.op_planned.specs.declared.planned.Planned.{Planned}
+
+abbrev pub MayApply : Planned → ℕ → Change → Type 0
+MayApply op port change = (tables : Tables) × (marks : List ℕ) × ChosenStands op tables marks × CanTake tables marks port change
+
+abbrev pub MayBind : Planned → List ℕ → Type 0
+MayBind op marks = (tables : Tables) × ChosenStands op tables marks × AreTimes marks
+
+abbrev pub MayTrim : Planned → List ℕ → Type 0
+MayTrim op marks = (tables : Tables) × (earlier : List ℕ) × ChosenStands op tables earlier × AllRise earlier marks × AreTimes marks

@@ -1,0 +1,55 @@
+-- What the operator of a plan's node means, what its state stands for and what it holds: what its own one does.
+use Rattle.std.specs.Prelude.{ℕ, List, [], ◌∷◌, length}
+use Rattle.cedr_stream.specs.Times.{IsWhile}
+use Rattle.cedr_table.specs.Operators.{Tables, Meaning}
+use Rattle.cedr_table.specs.RowWise.{row_wise, StandsOnOne}
+use Rattle.op_row.specs.Rows.{selected, projected}
+use Rattle.op_row.specs.Unions.{union_of, StandsOnPorts}
+use Rattle.op_join.specs.Filed.{all_under}
+use Rattle.op_join.specs.Joins.{join_of, StandsOnTwo}
+use Rattle.op_life.specs.Lifetimes.{with_life, windowed, shifted, shifted_mark, hopped, hopped_mark, started, ended}
+use Rattle.op_group.specs.Groups.{grouping_by, group_of}
+use Rattle.op_group.specs.State.{StandsForGroups}
+use Rattle.pat_rows.specs.Answers.{StandsByBegin}
+use Rattle.pat_seq.specs.Sequences.{sequence_of, IsSequence}
+use Rattle.pat_unless.specs.Blocking.{unless_of, AreWhiles}
+use Rattle.op_planned.specs.Outputs.{handed_on, StandsForOne}
+use Rattle.op_planned.specs.declared.planned.Planned.{Planned}
+use Rattle.op_planned.specs.declared.planned.Planned.TheVariants as planned
+
+abbrev pub chosen_meaning : Planned → Meaning
+chosen_meaning (planned.Select op) = row_wise (selected op.tests) (λ mark. mark)
+chosen_meaning (planned.Project op) = row_wise (projected op.keep) (λ mark. mark)
+chosen_meaning (planned.Union op) = union_of op.ports
+chosen_meaning (planned.Join op) = join_of op.tests
+chosen_meaning (planned.Window op) = row_wise (with_life (windowed op.width)) (λ mark. mark)
+chosen_meaning (planned.Shift op) = row_wise (with_life (shifted op.by)) (shifted_mark op.by)
+chosen_meaning (planned.Hop op) = row_wise (with_life (hopped op.every op.width)) (hopped_mark op.every)
+chosen_meaning (planned.Starts op) = row_wise (with_life started) (λ mark. mark)
+chosen_meaning (planned.Ends op) = row_wise (with_life ended) (λ mark. mark)
+chosen_meaning (planned.Group op) = group_of (grouping_by op.keys op.count op.sums.items)
+chosen_meaning (planned.Sequence op) = sequence_of (length op.kept.items) op.scope op.tests
+chosen_meaning (planned.Unless op) = unless_of op.terms.scope op.terms.hold op.terms.tests
+chosen_meaning (planned.Output op) = handed_on
+
+abbrev pub ChosenStands : Planned → Tables → List ℕ → Type 0
+ChosenStands (planned.Select op) = StandsOnOne (Unit {0})
+ChosenStands (planned.Project op) = StandsOnOne (Unit {0})
+ChosenStands (planned.Union op) = StandsOnPorts op.ports
+ChosenStands (planned.Join op) = StandsOnTwo op.tests op.width op.left.entries op.right.entries
+ChosenStands (planned.Window op) = StandsOnOne (IsWhile op.width)
+ChosenStands (planned.Shift op) = StandsOnOne (IsWhile op.by)
+ChosenStands (planned.Hop op) = StandsOnOne (IsWhile op.every × IsWhile op.width)
+ChosenStands (planned.Starts op) = StandsOnOne (Unit {0})
+ChosenStands (planned.Ends op) = StandsOnOne (Unit {0})
+ChosenStands (planned.Group op) = StandsForGroups (grouping_by op.keys op.count op.sums.items) op.groups.entries op.index.entries
+ChosenStands (planned.Sequence op) = StandsByBegin (IsSequence (length op.kept.items) op.scope) op.kept.items
+ChosenStands (planned.Unless op) = StandsByBegin (AreWhiles op.terms.scope op.terms.hold) (op.rows ∷ op.blockers ∷ [])
+ChosenStands (planned.Output op) = StandsForOne
+
+-- the rows that it holds, port by port
+abbrev pub chosen_held : Planned → Tables
+chosen_held (planned.Join op) = all_under op.left.entries ∷ all_under op.right.entries ∷ []
+chosen_held (planned.Sequence op) = op.kept.items
+chosen_held (planned.Unless op) = op.rows ∷ op.blockers ∷ []
+chosen_held other = []

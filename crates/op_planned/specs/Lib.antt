@@ -1,0 +1,6 @@
+pub mod Outputs
+pub mod OutputLaws
+pub mod Meanings
+pub mod Ready
+pub mod Chosen
+pub mod ChosenLaws

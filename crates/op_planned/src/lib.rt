@@ -1,0 +1,11 @@
+//! The operators of a plan's nodes, as one operator.
+//!
+//! `specs/Meanings.antt` says what each kind of node means. [`Planned`] is the operator of any kind, and hands each
+//! call to the operator of its own.
+#![tactic(auto)]
+
+mod output;
+mod planned;
+
+pub use output::Output;
+pub use planned::Planned;

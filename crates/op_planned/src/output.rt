@@ -1,0 +1,63 @@
+ghost use Rattle.std.specs.Prelude.{◌≡◌, ◌++◌, ◌∷◌, [], OnOk, OnErr};
+ghost use Rattle.op_planned.specs.Outputs.{handed_on};
+
+use cedr_base::{Change, OutOfMemory, Time};
+use cedr_table::Operator;
+use std::alloc::Global;
+
+/// All rows, as they are. It answers each change by that change alone, whatever came before, and the bound is the mark.
+#[derive(Drop)]
+pub struct Output;
+
+impl Output {
+    /// It takes no memory.
+    pub fn new() -> Output
+        ensures meaning { ⟦<Output as Operator>⟧.meaning result ≡ handed_on }
+        ensures stands { ⟦<Output as Operator>⟧.stands result ([] ∷ []) (0 ∷ []) }
+    {
+        Output
+    }
+}
+
+/// Hands a change on.
+fn hand_on(alloc: Global, change: &Change, out: &mut Vec<Change>) -> Result<(), OutOfMemory>
+    ensures ok { OnOk result (out.new.items ≡ out.old.items ++ change.now ∷ []) }
+    ensures err { OnErr result (out.new.items ≡ out.old.items) }
+{
+    let copied = change.copy(alloc)?;
+    out.push(copied)?;
+    Ok(())
+}
+
+impl Operator for Output {
+    ghost use Rattle.op_planned.specs.Outputs.{StandsForOne};
+    ghost use Rattle.op_planned.specs.OutputLaws.{output_laws};
+
+    ghost meaning = { λ _. handed_on };
+
+    ghost stands = { λ _. StandsForOne };
+
+    ghost held = { λ _. [] };
+
+    fn ports(&self) -> usize {
+        1
+    }
+
+    fn apply(
+        &mut self,
+        alloc: Global,
+        _port: usize,
+        change: &Change,
+        out: &mut Vec<Change>,
+    ) -> Result<(), OutOfMemory> {
+        hand_on(alloc, change, out)
+    }
+
+    fn bound(&self, marks: &[Time]) -> Time {
+        marks[0]
+    }
+
+    fn trim(&mut self, _marks: &[Time]) {}
+
+    ghost lawful = { λ _. output_laws };
+}
