@@ -10,3 +10,8 @@ mod node;
 mod query;
 
 pub use query::{evaluate, reach};
+
+#[cfg(test)]
+mod history_tests;
+#[cfg(test)]
+mod tests;

@@ -1,4 +1,4 @@
-ghost use Rattle.std.specs.Prelude.{◌≡◌, ◌+◌, ◌-◌, ◌≤◌, OnOk};
+ghost use Rattle.std.specs.Prelude.{◌≡◌, ◌+◌, ◌-◌, ◌≤◌, OnOk, false};
 ghost use Rattle.std.specs.BTreeMap.{IsOrdered, keys};
 ghost use Rattle.cedr_base.specs.Changes.{puts, takes, all_puts, all_takes};
 ghost use Rattle.op_group.specs.Index.{interval_cmp, is_first_ended, copies_at, one_if_same_interval, sum_valid, Follows, first_open};
@@ -112,7 +112,8 @@ fn is_first_ended(index: &Index, mark: Time) -> bool
 
 /// Forgets the first intervals up to one that doesn't end before a mark. O(log n) for each one that it forgets.
 pub(crate) fn forget(index: &mut Index, mark: Time)
-    ensures { (i : IntervalValue) → mark ≤ i.end → copies_at index.new.entries i ≡ copies_at index.old.entries i }
+    ensures kept { (i : IntervalValue) → mark ≤ i.end → copies_at index.new.entries i ≡ copies_at index.old.entries i }
+    ensures forgotten { is_first_ended mark index.new.entries ≡ false }
 {
     while is_first_ended(index, mark) {
         index.pop_first();

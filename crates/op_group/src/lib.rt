@@ -15,4 +15,6 @@ pub use group::Group;
 pub use law::open_groups;
 
 #[cfg(test)]
+mod operator_tests;
+#[cfg(test)]
 mod tests;

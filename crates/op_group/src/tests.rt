@@ -11,7 +11,7 @@ use std::process::Abort;
 use std::test::Fail;
 
 /// A row of a text and of numbers.
-fn row(
+pub(crate) fn row(
     alloc: Global,
     text: &[u8],
     numbers: &[i128],

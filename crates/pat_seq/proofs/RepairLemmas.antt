@@ -151,10 +151,10 @@ row_stays scope tests tables marks port c x end after given is lives can moved =
     }
 
 -- the kept rows stand for the tables after an answered change
-pub answered_stands : (scope scope' : ℕ) (tests : List Test) (kept kept' tables : Tables) (marks : List ℕ) (port : ℕ) (c : Change) (way : Way) (x : Row) (after : List Row) (given gained : List Change)
+pub answered_stands : {way : Way} (scope scope' : ℕ) (tests : List Test) (kept kept' tables : Tables) (marks : List ℕ) (port : ℕ) (c : Change) (x : Row) (after : List Row) (given gained : List Change)
     → scope' ≡ scope → StandsByBegin (IsSequence (length kept) scope) kept tables marks → IsMoved c (table_at tables port) after → IsAnswered scope tests kept kept' port c way x given gained
     → StandsByBegin (IsSequence (length kept') scope') kept' (with_table tables port after) marks
-answered_stands scope scope' tests kept kept' tables marks port c way x after given gained same stands moved answer =
+answered_stands scope scope' tests kept kept' tables marks port c x after given gained same stands moved answer =
     let next = stands_after kept tables marks port c answer.rows after stands answer.step moved in
     subst (λ (us : Tables). StandsByBegin (IsSequence (length us) scope') us (with_table tables port after) marks) (sym answer.kept_is)
     (record {

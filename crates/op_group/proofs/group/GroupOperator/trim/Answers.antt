@@ -6,7 +6,7 @@ use Rattle.op_group.proofs.Answered.{stands_forgetting}
 use Rattle.op_group.proofs.group.GroupOperator.trim.Goals as goal
 
 pub returns-clause-stands : goal.returns-clause-stands
-returns-clause-stands c = λ tables earlier stands rise. stands_forgetting (grouping_by c.args.self.now.keys c.args.self.now.count c.args.self.now.sums.items) c.args.self.now.groups.entries c.args.self.now.index.entries c.forget.new.index.entries tables c.args.marks.now c.forget.ensures
+returns-clause-stands c = λ tables earlier stands rise. stands_forgetting (grouping_by c.args.self.now.keys c.args.self.now.count c.args.self.now.sums.items) c.args.self.now.groups.entries c.args.self.now.index.entries c.forget.new.index.entries tables c.args.marks.now c.forget.ensures.kept
     (stands_rising (grouping_by c.args.self.now.keys c.args.self.now.count c.args.self.now.sums.items) c.args.self.now.groups.entries c.args.self.now.index.entries tables earlier c.args.marks.now rise stands)
 
 pub bounds-marks-0 : goal.bounds-marks-0

@@ -1,5 +1,4 @@
 use Rattle.std.proofs.lemmas.Result.{on_ok_weaker}
-use Rattle.pat_rows.specs.declared.answer.Way.TheVariants.{Comes, Goes}
 use Rattle.pat_rows.proofs.EndlessLemmas.{stands_still, stands_has}
 use Rattle.pat_seq.proofs.RepairLemmas.{answered_stands, row_comes, row_goes, row_stays}
 use Rattle.pat_seq.proofs.sequence.SequenceOperator.apply.Goals as goal
@@ -17,7 +16,7 @@ returns-then-row-end-clause-repairs c = λ tables marks after stands can moved.
 
 pub returns-in-Add-clause-stands : goal.returns-in-Add-clause-stands
 returns-in-Add-clause-stands c = on_ok_weaker c.answer.result
-    (λ answered tables marks after stands can moved. answered_stands c.args.self.now.scope c.answer.new.self.scope c.args.self.now.tests c.args.self.now.kept.items c.answer.new.self.kept.items tables marks c.args.port c.args.change.now Comes c.in-Add.row after c.args.out.now.items c.answer.new.out.items answered.0 stands moved answered.2)
+    (λ answered tables marks after stands can moved. answered_stands c.args.self.now.scope c.answer.new.self.scope c.args.self.now.tests c.args.self.now.kept.items c.answer.new.self.kept.items tables marks c.args.port c.args.change.now c.in-Add.row after c.args.out.now.items c.answer.new.out.items answered.0 stands moved answered.2)
     c.answer.ensures.ok
 
 pub returns-in-Add-clause-repairs : goal.returns-in-Add-clause-repairs
@@ -27,7 +26,7 @@ returns-in-Add-clause-repairs c = on_ok_weaker c.answer.result
 
 pub returns-else-row-end-clause-stands : goal.returns-else-row-end-clause-stands
 returns-else-row-end-clause-stands c = on_ok_weaker c.answer-in-Cut.result
-    (λ answered tables marks after stands can moved. answered_stands c.args.self.now.scope c.answer-in-Cut.new.self.scope c.args.self.now.tests c.args.self.now.kept.items c.answer-in-Cut.new.self.kept.items tables marks c.args.port c.args.change.now Goes c.in-Cut.row after c.args.out.now.items c.answer-in-Cut.new.out.items answered.0 stands moved answered.2)
+    (λ answered tables marks after stands can moved. answered_stands c.args.self.now.scope c.answer-in-Cut.new.self.scope c.args.self.now.tests c.args.self.now.kept.items c.answer-in-Cut.new.self.kept.items tables marks c.args.port c.args.change.now c.in-Cut.row after c.args.out.now.items c.answer-in-Cut.new.out.items answered.0 stands moved answered.2)
     c.answer-in-Cut.ensures.ok
 
 pub returns-else-row-end-clause-repairs : goal.returns-else-row-end-clause-repairs

@@ -1,0 +1,330 @@
+ghost use Rattle.std.specs.Prelude.{[], ◌∷◌, OnOk, IfOk, length, replicate};
+ghost use Rattle.cedr_plan.specs.Rules.{IsPlan};
+
+use crate::tests::{plan, rows_of};
+use cedr_base::{Change, FOREVER, Field, FieldType, OutOfMemory, Payload, Row, Text};
+use cedr_expr::{Keep, Op, Operand, Test, Tests};
+use cedr_plan::Plan;
+use cedr_table::{Operator, Table};
+use op_feed::{feed, no_tables};
+use op_group::Group;
+use op_join::Join;
+use pat_seq::Sequence;
+use pat_unless::Unless;
+use std::alloc::Global;
+use std::process::Abort;
+use std::test::Fail;
+
+/// Numbers that look random, and are the same in each run.
+#[derive(Clone, Copy)]
+struct Random {
+    state: u64,
+}
+
+impl Random {
+    /// A number below a limit, or 0 where the limit is 0.
+    fn below(&mut self, limit: u64) -> u64 {
+        self.state = self
+            .state
+            .wrapping_mul(6364136223846793005)
+            .wrapping_add(1442695040888963407);
+        if limit == 0 {
+            return 0;
+        }
+        (self.state >> 33) % limit
+    }
+}
+
+/// What a row may have behind its text: nothing, a text or a number.
+fn some_field(alloc: Global, random: &mut Random) -> Result<Option<Field>, OutOfMemory> {
+    let field = match random.below(6) {
+        0 => return Ok(None),
+        1 => Field::Bytes(Text::from_slice(alloc, b"9")?),
+        2 => Field::Number(i128::MAX),
+        3 => Field::Number(-2),
+        _ => Field::Number(5),
+    };
+    Ok(Some(field))
+}
+
+/// A row of one of three texts.
+fn some_row(alloc: Global, random: &mut Random) -> Result<Row, OutOfMemory> {
+    let text = match random.below(3) {
+        0 => b"a",
+        1 => b"b",
+        _ => b"c",
+    };
+    let mut payload = Payload::new(alloc);
+    payload.push(Field::Bytes(Text::from_slice(alloc, text)?))?;
+    if let Some(field) = some_field(alloc, random)? {
+        payload.push(field)?;
+    }
+    let begin = random.below(10);
+    let end = match random.below(8) {
+        0 => FOREVER,
+        more => begin.wrapping_add(more),
+    };
+    Ok(Row {
+        end,
+        begin,
+        payload,
+    })
+}
+
+/// A change that may come to a table: a new row, a copy of one that is there, or a cut of one.
+fn some_change(alloc: Global, random: &mut Random, table: &Table) -> Result<Change, OutOfMemory> {
+    let rows = table.canonical()?;
+    let place = random.below(rows.len() as u64) as usize;
+    let what = random.below(5);
+    let Some(row) = rows.as_slice().get(place) else {
+        return Ok(Change::Add(some_row(alloc, random)?));
+    };
+    match what {
+        0 | 1 => Ok(Change::Add(some_row(alloc, random)?)),
+        2 => Ok(Change::Add(row.copy(alloc)?)),
+        _ => {
+            let long = row.end.wrapping_sub(row.begin).min(6);
+            let end = row.begin.wrapping_add(random.below(long));
+            Ok(Change::Cut(row.copy(alloc)?, end))
+        }
+    }
+}
+
+/// A port, and a change that may come on it.
+fn some_port(
+    alloc: Global,
+    random: &mut Random,
+    tables: &[Table],
+) -> Result<(usize, Change), Fail> {
+    let port = random.below(tables.len() as u64) as usize;
+    match tables.get(port) {
+        Some(table) => Ok((port, some_change(alloc, random, table)?)),
+        None => Err("no port")?,
+    }
+}
+
+/// What came in histories: how often the answers so far made the same rows as the query from scratch, and how many
+/// changes cut a row, and withdrew one.
+#[derive(Clone, Copy)]
+struct Seen {
+    same: usize,
+    cut: usize,
+    withdrawn: usize,
+}
+
+impl Seen {
+    fn note(&mut self, change: &Change, same: bool) {
+        if same {
+            self.same = self.same.wrapping_add(1);
+        }
+        if let Change::Cut(row, end) = change {
+            if *end == row.begin {
+                self.withdrawn = self.withdrawn.wrapping_add(1);
+            } else {
+                self.cut = self.cut.wrapping_add(1);
+            }
+        }
+    }
+}
+
+/// The answers come one after the other: each cuts a row that is there.
+fn apply_all(made: &mut Table, answers: &[Change]) -> Result<(), Fail> {
+    for answer in answers {
+        made.apply(answer)?;
+    }
+    Ok(())
+}
+
+/// Whether these are the rows of the query from scratch.
+fn is_query(alloc: Global, plan: &Plan, tables: &[Table], made: &Table) -> Result<bool, Fail>
+    requires { IsPlan plan.now }
+{
+    let wanted = rows_of(alloc, plan, tables)?;
+    let found = made.canonical()?;
+    Ok(found.as_slice() == wanted.as_slice())
+}
+
+/// An operator takes a change. Whether the answers so far make the same rows as the query from scratch.
+fn step<O: Operator>(
+    alloc: Global,
+    plan: &Plan,
+    op: &mut O,
+    tables: &mut Vec<Table>,
+    made: &mut Table,
+    port: usize,
+    change: &Change,
+) -> Result<bool, Fail>
+    requires plan { IsPlan plan.now }
+    requires stands { O.stands op.old tables.old.items (replicate (length tables.old.items) 0) }
+    ensures { OnOk result (O.stands op.new tables.new.items (replicate (length tables.new.items) 0)) }
+{
+    let mut out = Vec::new(alloc);
+    if !feed(alloc, op, tables, port, change, &mut out)? {
+        return Ok(false);
+    }
+    apply_all(made, out.as_slice())?;
+    is_query(alloc, plan, tables.as_slice(), made)
+}
+
+/// A new operator takes eight changes.
+fn history<O: Operator>(
+    alloc: Global,
+    plan: &Plan,
+    op: &mut O,
+    ports: usize,
+    random: &mut Random,
+    seen: &mut Seen,
+) -> Result<(), Fail>
+    requires plan { IsPlan plan.now }
+    requires stands { O.stands op.old (replicate ports []) (replicate ports 0) }
+{
+    let mut tables = no_tables(alloc, ports)?;
+    let mut made = Table::new(alloc);
+    for _ in 0..8 {
+        let (port, change) = some_port(alloc, random, tables.as_slice())?;
+        let same = step(alloc, plan, op, &mut tables, &mut made, port, &change)?;
+        seen.note(&change, same);
+    }
+    Ok(())
+}
+
+fn nothing_seen() -> Seen {
+    Seen {
+        same: 0,
+        cut: 0,
+        withdrawn: 0,
+    }
+}
+
+/// Each of 200 histories of eight changes was compared, and many changes of each kind came.
+fn check_all(rt: &impl Abort, seen: &Seen) {
+    assert_eq!(rt; seen.same, 1600);
+    assert!(rt; seen.cut > 100);
+    assert!(rt; seen.withdrawn > 100);
+}
+
+/// A grouping by the first column, with the count and the sum of the second one.
+fn group(alloc: Global) -> Result<Group, Fail>
+    ensures { IfOk result (λ group. ⟦<Group as Operator>⟧.stands group ([] ∷ []) (0 ∷ [])) }
+{
+    let keys = Keep::new(vec![in alloc; 0usize]?, &[FieldType::Bytes])?;
+    Ok(Group::new(alloc, keys, true, vec![in alloc; 1usize]?))
+}
+
+/// The test that columns 0 and 2 are equal, of payloads of two fields.
+fn same_texts(alloc: Global) -> Result<Vec<Test>, Fail> {
+    let mut tests = Vec::new(alloc);
+    tests.push(Test {
+        left: 0,
+        op: Op::Eq,
+        right: Operand::Column(2),
+    })?;
+    Ok(tests)
+}
+
+const TYPES: [FieldType; 2] = [FieldType::Bytes, FieldType::Number];
+
+fn join(alloc: Global) -> Result<Join, Fail>
+    ensures { IfOk result (λ join. ⟦<Join as Operator>⟧.stands join ([] ∷ [] ∷ []) (0 ∷ 0 ∷ [])) }
+{
+    let tests = Tests::new(same_texts(alloc)?, &TYPES, &TYPES)?;
+    Ok(Join::new(alloc, tests))
+}
+
+fn unless(alloc: Global) -> Result<Unless, Fail>
+    ensures { IfOk result (λ unless. ⟦<Unless as Operator>⟧.stands unless ([] ∷ [] ∷ []) (0 ∷ 0 ∷ [])) }
+{
+    let tests = Tests::new(same_texts(alloc)?, &TYPES, &TYPES)?;
+    Ok(Unless::new(alloc, 4, 3, tests))
+}
+
+/// Pairs of any rows within six.
+fn sequence(alloc: Global) -> Result<Sequence, Fail>
+    ensures { IfOk result (λ sequence. ⟦<Sequence as Operator>⟧.stands sequence ([] ∷ [] ∷ []) (0 ∷ 0 ∷ [])) }
+{
+    let tests = Tests::new(Vec::new(alloc), &[], &[])?;
+    Ok(Sequence::new(alloc, 2, 6, tests)?)
+}
+
+#[test]
+fn groups_answer_like_the_query_from_scratch(rt: HostRuntime) -> Result<(), Fail> {
+    let alloc = rt.alloc();
+    let plan = plan(
+        alloc,
+        r#"{"version":1,"nodes":[
+ {"name":"s","op":"source","file":"s.csv","fields":["text","int"]},
+ {"name":"g","op":"group","from":["s"],"keys":[0],"count":true,"sum":[1]},
+ {"name":"out","op":"output","from":["g"]}]}"#,
+    )?;
+    let mut random = Random { state: 1 };
+    let mut seen = nothing_seen();
+    for _ in 0..200 {
+        let mut op = group(alloc)?;
+        history(alloc, &plan, &mut op, 1, &mut random, &mut seen)?;
+    }
+    check_all(&rt, &seen);
+    Ok(())
+}
+
+#[test]
+fn joins_answer_like_the_query_from_scratch(rt: HostRuntime) -> Result<(), Fail> {
+    let alloc = rt.alloc();
+    let plan = plan(
+        alloc,
+        r#"{"version":1,"nodes":[
+ {"name":"a","op":"source","file":"a.csv","fields":["text","int"]},
+ {"name":"b","op":"source","file":"b.csv","fields":["text","int"]},
+ {"name":"j","op":"join","from":["a","b"],"where":[[0,"=",{"column":2}]]},
+ {"name":"out","op":"output","from":["j"]}]}"#,
+    )?;
+    let mut random = Random { state: 2 };
+    let mut seen = nothing_seen();
+    for _ in 0..200 {
+        let mut op = join(alloc)?;
+        history(alloc, &plan, &mut op, 2, &mut random, &mut seen)?;
+    }
+    check_all(&rt, &seen);
+    Ok(())
+}
+
+#[test]
+fn unlesses_answer_like_the_query_from_scratch(rt: HostRuntime) -> Result<(), Fail> {
+    let alloc = rt.alloc();
+    let plan = plan(
+        alloc,
+        r#"{"version":1,"nodes":[
+ {"name":"a","op":"source","file":"a.csv","fields":["text","int"]},
+ {"name":"b","op":"source","file":"b.csv","fields":["text","int"]},
+ {"name":"u","op":"unless","from":["a","b"],"scope":4,"hold":3,"where":[[0,"=",{"column":2}]]},
+ {"name":"out","op":"output","from":["u"]}]}"#,
+    )?;
+    let mut random = Random { state: 3 };
+    let mut seen = nothing_seen();
+    for _ in 0..200 {
+        let mut op = unless(alloc)?;
+        history(alloc, &plan, &mut op, 2, &mut random, &mut seen)?;
+    }
+    check_all(&rt, &seen);
+    Ok(())
+}
+
+#[test]
+fn sequences_answer_like_the_query_from_scratch(rt: HostRuntime) -> Result<(), Fail> {
+    let alloc = rt.alloc();
+    let plan = plan(
+        alloc,
+        r#"{"version":1,"nodes":[
+ {"name":"a","op":"source","file":"a.csv","fields":["text","int"]},
+ {"name":"b","op":"source","file":"b.csv","fields":["text","int"]},
+ {"name":"q","op":"sequence","from":["a","b"],"scope":6,"where":[]},
+ {"name":"out","op":"output","from":["q"]}]}"#,
+    )?;
+    let mut random = Random { state: 4 };
+    let mut seen = nothing_seen();
+    for _ in 0..200 {
+        let mut op = sequence(alloc)?;
+        history(alloc, &plan, &mut op, 2, &mut random, &mut seen)?;
+    }
+    check_all(&rt, &seen);
+    Ok(())
+}
