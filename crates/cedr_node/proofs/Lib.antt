@@ -4,3 +4,5 @@ pub mod Goes
 pub mod Echo
 pub mod First
 pub mod Takes
+pub mod FedLemmas
+pub mod LevelLemmas

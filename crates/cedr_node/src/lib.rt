@@ -6,8 +6,14 @@
 #![tactic(auto)]
 
 mod fault;
+mod law;
 mod node;
+mod planned;
 mod port;
 
 pub use fault::NodeFault;
+pub use law::accepted_nodes;
 pub use node::Node;
+
+#[cfg(test)]
+mod tests;

@@ -1,21 +1,18 @@
 -- The nodes of a plan, one after the other.
-use Rattle.std.proofs.Common.{◌≡◌, ℕ, zero, suc, ◌+◌, ◌<◌, ◌≤◌, List, [], ◌∷◌, ◌++◌, Bool, true, false, cond, length, get_or, take, refl, ap, subst, sym, ◌∙◌, arith, append_assoc}
+use Rattle.std.proofs.Common.{◌≡◌, ℕ, zero, suc, ◌+◌, ◌<◌, List, [], ◌∷◌, ◌++◌, true, cond, length, get_or, take, ap, subst, sym, ◌∙◌, arith, append_assoc}
 use Rattle.std.specs.Prelude.{map, All, count_by}
 use Rattle.std.proofs.lemmas.List.{append-nil, take_more, length-map}
 use Rattle.std.proofs.lemmas.List.Sums.{sum_by-cons}
-use Rattle.std.proofs.lemmas.List.Elements.{All-get_or, All-from_get_or, All-head, All-tail}
+use Rattle.std.proofs.lemmas.List.Elements.{All-get_or, All-from_get_or}
 use Rattle.cedr_base.specs.declared.row.Row.{Row}
 use Rattle.cedr_base.specs.Rows.{count_of, SameRows, IsRow}
-use Rattle.cedr_plan.specs.declared.plan.NodeKind.{NodeKind}
-use Rattle.cedr_plan.specs.declared.plan.NodeKind.TheVariants as kind
 use Rattle.cedr_plan.specs.declared.plan.PlanNode.{PlanNode}
-use Rattle.cedr_plan.specs.Drawn.{Node, kind_of, node_of, is_output as is_drawn_output}
-use Rattle.cedr_plan.specs.Operators.{row_of}
-use Rattle.cedr_plan.specs.Rules.{operator_of_kind, numbers_of, IsNumber, IsInput, IsNode, AreNodes}
+use Rattle.cedr_plan.specs.Drawn.{Node, node_of, is_output as is_drawn_output}
+use Rattle.cedr_plan.specs.Rules.{IsInput, IsNode, AreNodes}
 use Rattle.cedr_table.specs.Operators.{Tables, SameTables, table_at}
 use Rattle.cedr_query.specs.Asked.{HasRows, AreRows}
-use Rattle.cedr_query.specs.Queries.{each_node, is_source, source_count}
-use Rattle.op_planned.specs.Ready.{IsReady}
+use Rattle.cedr_query.specs.Queries.{each_node, source_count}
+use Rattle.op_planned.specs.Ready.{is_source}
 
 more_behind : {X : Type 0} (make : List PlanNode → List X → PlanNode → X) (before : List PlanNode) (done : List X) (nodes : List PlanNode) (node : PlanNode)
     → each_node make before done (nodes ++ node ∷ []) ≡ each_node make before done nodes ++ make (before ++ nodes) (each_node make before done nodes) node ∷ []
@@ -62,32 +59,6 @@ pub inputs_are : (before : List PlanNode) (node : PlanNode) → IsNode (map node
 inputs_are before node is =
     All-from_get_or (λ (place : ℕ). place < length before) node.inputs.items 0
     (λ k h. let input = (All-get_or (IsInput (map node_of before)) node.inputs.items k 0 h is.inputs).0 in omega (arith, input, length-map before node_of))
-
-ready_from : (k : NodeKind) (ports : ℕ) → is_source k ≡ false → (row_of (operator_of_kind (kind_of k))).least ≤ ports → ports ≤ (row_of (operator_of_kind (kind_of k))).most → All IsNumber (numbers_of (kind_of k)) → IsReady k ports
-ready_from (kind.Source file) ports isnt least most numbers = cc
-ready_from (kind.Select tests) ports isnt least most numbers = omega arith
-ready_from (kind.Project keep) ports isnt least most numbers = omega arith
-ready_from kind.Union ports isnt least most numbers = (omega arith, omega arith)
-ready_from (kind.Join tests) ports isnt least most numbers = omega arith
-ready_from (kind.Window width) ports isnt least most numbers = let n = All-head IsNumber width [] numbers in (omega arith, record { least = n.0; most = n.1 })
-ready_from (kind.Shift by) ports isnt least most numbers = let n = All-head IsNumber by [] numbers in (omega arith, record { least = n.0; most = n.1 })
-ready_from (kind.Hop every width) ports isnt least most numbers =
-    let n = All-head IsNumber every (width ∷ []) numbers in
-    let m = All-head IsNumber width [] (All-tail IsNumber every (width ∷ []) numbers) in
-    (omega arith, record { least = n.0; most = n.1 }, record { least = m.0; most = m.1 })
-ready_from kind.Starts ports isnt least most numbers = omega arith
-ready_from kind.Ends ports isnt least most numbers = omega arith
-ready_from (kind.Group keys count sums) ports isnt least most numbers = omega arith
-ready_from (kind.Sequence scope tests) ports isnt least most numbers = let n = All-head IsNumber scope [] numbers in (omega arith, omega arith, record { least = n.0; most = n.1 })
-ready_from (kind.Unless scope hold tests) ports isnt least most numbers =
-    let n = All-head IsNumber scope (hold ∷ []) numbers in
-    let m = All-head IsNumber hold [] (All-tail IsNumber scope (hold ∷ []) numbers) in
-    (omega arith, record { least = n.0; most = n.1 }, record { least = m.0; most = m.1 })
-ready_from kind.Output ports isnt least most numbers = omega arith
-
--- a node of a plan that is no source has what its operator asks for
-pub node_ready : (before : List Node) (node : PlanNode) → IsNode before (node_of node) → is_source node.kind ≡ false → IsReady node.kind (length node.inputs.items)
-node_ready before node is isnt = ready_from node.kind (length node.inputs.items) isnt is.least_ports is.most_ports is.numbers
 
 -- what a node adds to the number of sources
 abbrev counted : PlanNode → ℕ

@@ -1,19 +1,19 @@
 -- The tables and the marks of a plan's nodes.
-use Rattle.std.proofs.Common.{◌≡◌, ℕ, zero, suc, ◌+◌, ◌<◌, ◌≤◌, List, [], ◌∷◌, ◌++◌, Bool, true, false, cond, length, get_or, take, replicate, refl, ap, subst, sym, ◌∙◌, arith, not}
-use Rattle.std.specs.Prelude.{map, All, nat_lt, unwrap_or}
+use Rattle.std.proofs.Common.{◌≡◌, ℕ, zero, suc, ◌+◌, ◌<◌, ◌≤◌, List, [], ◌∷◌, ◌++◌, Bool, true, false, cond, length, get_or, take, replicate, ap, subst, sym, ◌∙◌, arith, not}
+use Rattle.std.specs.Prelude.{map, nat_lt, unwrap_or}
 use Rattle.std.specs.List.{position_or_len, prefix_len}
 use Rattle.std.proofs.lemmas.List.{length-take}
 use Rattle.std.proofs.lemmas.Bool.{lt-ltb}
 use Rattle.std.specs.Prelude.{Some, None}
 use Rattle.cedr_base.specs.declared.row.Row.{Row}
 use Rattle.cedr_base.specs.declared.time.TheConstants.{FOREVER}
-use Rattle.cedr_base.specs.Rows.{count_of, SameRows, IsRow}
+use Rattle.cedr_base.specs.Rows.{SameRows}
 use Rattle.cedr_plan.specs.declared.plan.PlanNode.{PlanNode}
-use Rattle.cedr_plan.specs.Drawn.{Node, node_of}
+use Rattle.cedr_plan.specs.Drawn.{node_of}
 use Rattle.cedr_plan.specs.Rules.{IsNode, AreNodes}
 use Rattle.cedr_table.specs.Operators.{Tables, SameTables, AreTimes, table_at, mark_at}
 use Rattle.cedr_table.specs.PortLaws.{same_at, time_at}
-use Rattle.cedr_query.specs.Asked.{HasRows, AreRows}
+use Rattle.cedr_query.specs.Asked.{HasRows}
 use Rattle.cedr_query.proofs.NodeLemmas.{node_is, inputs_are}
 
 pub copied_rows : (copied rows : List Row) → SameRows copied rows → HasRows rows → HasRows copied

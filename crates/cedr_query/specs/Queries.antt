@@ -1,16 +1,13 @@
 -- What a plan's nodes make of the tables and the marks of its sources.
-use Rattle.std.specs.Prelude.{ℕ, List, [], ◌∷◌, ◌++◌, Bool, true, false, length, map, count_by, unwrap_or, if◌then◌else◌}
+use Rattle.std.specs.Prelude.{ℕ, List, [], ◌∷◌, ◌++◌, Bool, true, false, map, count_by, unwrap_or, if◌then◌else◌}
 use Rattle.std.specs.List.{position}
 use Rattle.cedr_base.specs.declared.row.Row.{Row}
 use Rattle.cedr_plan.specs.declared.plan.NodeKind.{NodeKind}
 use Rattle.cedr_plan.specs.declared.plan.NodeKind.TheVariants as kind
 use Rattle.cedr_plan.specs.declared.plan.PlanNode.{PlanNode}
-use Rattle.cedr_table.specs.Operators.{Tables, Meaning, table_at, mark_at}
+use Rattle.cedr_table.specs.Operators.{Tables, table_at, mark_at}
 use Rattle.op_planned.specs.Meanings.{meaning_of}
-
-abbrev pub is_source : NodeKind → Bool
-is_source (kind.Source file) = true
-is_source other = false
+use Rattle.op_planned.specs.Ready.{is_source}
 
 abbrev pub is_output : NodeKind → Bool
 is_output kind.Output = true

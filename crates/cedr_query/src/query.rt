@@ -3,8 +3,8 @@ ghost use Rattle.cedr_base.specs.Rows.{SameRows};
 ghost use Rattle.cedr_table.specs.Operators.{Tables, AreTimes, SameTables, table_at, mark_at};
 ghost use Rattle.cedr_base.specs.declared.time.TheConstants.{FOREVER};
 ghost use Rattle.cedr_query.specs.Asked.{HasRows, AreRows};
-ghost use Rattle.cedr_query.specs.Queries.{is_source, is_output, source_count, output_place, query, reaches, each_node, node_table, node_mark};
-ghost use Rattle.op_planned.specs.Ready.{IsReady};
+ghost use Rattle.cedr_query.specs.Queries.{is_output, source_count, output_place, query, reaches, each_node, node_table, node_mark};
+ghost use Rattle.op_planned.specs.Ready.{is_source, IsReady};
 ghost use Rattle.cedr_plan.specs.Rules.{IsPlan};
 
 use crate::node::ask_node;

@@ -3,7 +3,8 @@ ghost use Rattle.cedr_base.specs.Rows.{IsRow};
 ghost use Rattle.cedr_base.specs.declared.time.TheConstants.{FOREVER};
 ghost use Rattle.cedr_plan.specs.Rules.{IsPlan};
 ghost use Rattle.cedr_query.specs.Asked.{HasRows, AreRows};
-ghost use Rattle.cedr_query.specs.Queries.{is_source, source_count};
+ghost use Rattle.cedr_query.specs.Queries.{source_count};
+ghost use Rattle.op_planned.specs.Ready.{is_source};
 
 use crate::{evaluate, reach};
 use cedr_base::{FOREVER, Field, OutOfMemory, Payload, Row, Text, Time};

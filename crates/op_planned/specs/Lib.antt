@@ -2,5 +2,6 @@ pub mod Outputs
 pub mod OutputLaws
 pub mod Meanings
 pub mod Ready
+pub mod ReadyLaws
 pub mod Chosen
 pub mod ChosenLaws

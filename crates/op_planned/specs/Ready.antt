@@ -1,8 +1,12 @@
 -- What a node's operator asks of the node, as an accepted plan has it.
-use Rattle.std.specs.Prelude.{ℕ, ◌≡◌, ◌≤◌}
+use Rattle.std.specs.Prelude.{ℕ, ◌≡◌, ◌≤◌, Bool, true, false}
 use Rattle.cedr_plan.specs.declared.plan.NodeKind.{NodeKind}
 use Rattle.cedr_plan.specs.declared.plan.NodeKind.TheVariants as kind
 use Rattle.cedr_stream.specs.Times.{IsWhile}
+
+abbrev pub is_source : NodeKind → Bool
+is_source (kind.Source file) = true
+is_source other = false
 
 -- the node is no source, has as many ports as its operator, and its numbers are whiles
 abbrev pub IsReady : NodeKind → ℕ → Type 0

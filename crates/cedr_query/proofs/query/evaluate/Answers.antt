@@ -2,7 +2,7 @@ use Rattle.std.proofs.Common.{◌≡◌, ◌<◌, ◌∙◌, sym, ap, subst, ℕ
 use Rattle.cedr_base.specs.declared.row.Row.{Row}
 use Rattle.cedr_base.specs.Rows.{SameRows}
 use Rattle.cedr_plan.specs.declared.plan.PlanNode.{PlanNode}
-use Rattle.cedr_table.specs.Operators.{Tables, table_at}
+use Rattle.cedr_table.specs.Operators.{table_at}
 use Rattle.cedr_table.specs.PortLaws.{same_at}
 use Rattle.cedr_query.specs.Queries.{query, output_place}
 use Rattle.cedr_query.proofs.Feeding.{read_is}

@@ -1,8 +1,7 @@
-use Rattle.std.proofs.Common.{◌≡◌, ◌<◌, ◌≤◌, ◌∙◌, sym, ap, subst, ℕ, List, Bool, arith, length, cond}
+use Rattle.std.proofs.Common.{◌≡◌, ◌∙◌, sym, ap, subst, ℕ, List, Bool, arith}
 use Rattle.std.specs.Prelude.{if◌then◌else◌, map}
 use Rattle.std.proofs.lemmas.List.{take_all}
-use Rattle.cedr_base.specs.declared.time.TheConstants.{FOREVER}
-use Rattle.cedr_table.specs.Operators.{Tables, AreTimes, mark_at}
+use Rattle.cedr_table.specs.Operators.{AreTimes, mark_at}
 use Rattle.cedr_table.specs.PortLaws.{time_at}
 use Rattle.cedr_query.specs.Queries.{source_count, input_tables, input_marks}
 use Rattle.op_planned.specs.Meanings.{meaning_of}

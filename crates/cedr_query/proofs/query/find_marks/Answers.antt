@@ -4,7 +4,8 @@ use Rattle.cedr_plan.specs.Drawn.{node_of}
 use Rattle.cedr_table.specs.Operators.{Tables, AreTimes}
 use Rattle.std.specs.Prelude.{map}
 use Rattle.cedr_query.specs.Queries.{each_node, node_mark}
-use Rattle.cedr_query.proofs.NodeLemmas.{node_ready, one_node_more}
+use Rattle.cedr_query.proofs.NodeLemmas.{one_node_more}
+use Rattle.op_planned.specs.ReadyLaws.{node_ready}
 use Rattle.cedr_query.proofs.QueryLemmas.{plan_node, reads_earlier, times_push}
 use Rattle.cedr_query.proofs.query.find_marks.Goals as goal
 

@@ -1,5 +1,4 @@
-use Rattle.std.proofs.Common.{◌≡◌, ℕ, [], List, length, take}
-use Rattle.cedr_base.specs.declared.row.Row.{Row}
+use Rattle.std.proofs.Common.{◌≡◌, [], length, take}
 use Rattle.cedr_table.specs.Operators.{Tables, SameTables, AreTimes}
 use Rattle.cedr_query.specs.Queries.{each_node, node_mark}
 use Rattle.cedr_query.proofs.query.find_marks.Given as goal

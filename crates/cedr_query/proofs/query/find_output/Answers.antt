@@ -1,6 +1,5 @@
-use Rattle.std.proofs.Common.{◌≡◌, ◌∙◌, sym, ap, subst, ℕ, arith, length}
+use Rattle.std.proofs.Common.{◌∙◌, sym, ap, ℕ, arith, length}
 use Rattle.std.specs.Prelude.{unwrap_or, nat_lt, cond, Some, None}
-use Rattle.std.specs.List.{position_or_len}
 use Rattle.cedr_plan.specs.declared.plan.PlanNode.{PlanNode}
 use Rattle.cedr_query.specs.Queries.{is_output}
 use Rattle.cedr_query.proofs.QueryLemmas.{found_at, place_is}

@@ -1,9 +1,8 @@
-use Rattle.std.proofs.Common.{◌≡◌, ◌<◌, ◌∙◌, sym, ap, subst, ℕ, List, Bool, arith, length, cond, replicate}
+use Rattle.std.proofs.Common.{◌<◌, ◌∙◌, sym, subst, ℕ, List, Bool, arith}
 use Rattle.std.specs.Prelude.{if◌then◌else◌}
 use Rattle.cedr_base.specs.declared.row.Row.{Row}
 use Rattle.cedr_base.specs.Rows.{SameRows, count_of}
-use Rattle.cedr_table.specs.Operators.{Tables, AreTimes, table_at}
-use Rattle.cedr_query.specs.Asked.{HasRows}
+use Rattle.cedr_table.specs.Operators.{AreTimes, table_at}
 use Rattle.cedr_query.specs.Queries.{source_count, input_tables}
 use Rattle.op_planned.specs.Meanings.{meaning_of}
 use Rattle.cedr_query.proofs.Feeding.{read_is, same_tables_itself}

@@ -1,13 +1,12 @@
-use Rattle.std.proofs.Common.{◌≡◌, ◌<◌, ◌+◌, ◌++◌, ◌∷◌, ◌∙◌, [], sym, ap, subst, ℕ, List, arith, length, take, get_or}
-use Rattle.cedr_base.specs.declared.row.Row.{Row}
-use Rattle.cedr_base.specs.Rows.{SameRows}
+use Rattle.std.proofs.Common.{◌≡◌, ◌<◌, ◌+◌, ◌++◌, ◌∷◌, ◌∙◌, [], sym, ap, subst, arith, length, take}
 use Rattle.cedr_plan.specs.declared.plan.PlanNode.{PlanNode}
 use Rattle.cedr_plan.specs.Drawn.{node_of}
 use Rattle.cedr_table.specs.Operators.{Tables, SameTables}
 use Rattle.std.specs.Prelude.{map}
 use Rattle.cedr_query.specs.Asked.{AreRows}
 use Rattle.cedr_query.specs.Queries.{each_node, node_table}
-use Rattle.cedr_query.proofs.NodeLemmas.{node_ready, one_node_more, same_tables_push, are_rows_push}
+use Rattle.cedr_query.proofs.NodeLemmas.{one_node_more, same_tables_push, are_rows_push}
+use Rattle.op_planned.specs.ReadyLaws.{node_ready}
 use Rattle.cedr_query.proofs.QueryLemmas.{plan_node, reads_earlier}
 use Rattle.cedr_query.proofs.query.find_tables.Goals as goal
 

@@ -1,5 +1,4 @@
-use Rattle.std.proofs.Common.{◌≡◌, ℕ, [], List, length, take}
-use Rattle.cedr_base.specs.declared.row.Row.{Row}
+use Rattle.std.proofs.Common.{◌≡◌, [], length, take}
 use Rattle.cedr_table.specs.Operators.{SameTables}
 use Rattle.cedr_query.specs.Asked.{AreRows}
 use Rattle.cedr_query.specs.Queries.{each_node, node_table}

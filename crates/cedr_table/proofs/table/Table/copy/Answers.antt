@@ -1,4 +1,4 @@
-use Rattle.std.proofs.Common.{◌≡◌, ◌∙◌, sym, ap, subst, ℕ, List, arith, length, take}
+use Rattle.std.proofs.Common.{◌≡◌, ◌∙◌, subst, List, arith, take}
 use Rattle.std.proofs.lemmas.List.{take_all}
 use Rattle.cedr_base.specs.declared.row.Row.{Row}
 use Rattle.cedr_base.specs.Rows.{SameRows, in_order}
