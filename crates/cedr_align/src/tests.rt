@@ -1,21 +1,11 @@
 ghost use Rattle.cedr_laws.specs.Pass.{IsLevel};
 
 use super::*;
-use cedr_base::{Change, FOREVER, Field, Level, Message, OutOfMemory, Payload, Row, Time};
+use cedr_base::{FOREVER, Level, OutOfMemory, Time};
 use cedr_laws::Cause;
+use msg_feed::{Told, message_of, tell};
 use std::alloc::Global;
 use std::test::Fail;
-
-/// What a message says: an insertion of a row, a retraction of one to an end, a mark, the end, or a break. A row's
-/// payload is a number, which stands first.
-#[derive(Clone, Copy, Debug, PartialEq, Eq)]
-enum Told {
-    Add(i128, Time, Time),
-    Cut(i128, Time, Time, Time),
-    Mark(Time),
-    End,
-    Broken,
-}
 
 /// What became of a message.
 #[derive(Clone, Copy, Debug, PartialEq, Eq)]
@@ -23,49 +13,6 @@ enum Became {
     Kept,
     Late(Time),
     Orphan(Time),
-}
-
-fn row(alloc: Global, number: i128, begin: Time, end: Time) -> Result<Row, OutOfMemory> {
-    let mut payload = Payload::new(alloc);
-    payload.push(Field::Number(number))?;
-    Ok(Row {
-        end,
-        begin,
-        payload,
-    })
-}
-
-fn message(alloc: Global, told: Told) -> Result<Message, OutOfMemory> {
-    match told {
-        Told::Add(number, begin, end) => {
-            Ok(Message::Change(Change::Add(row(alloc, number, begin, end)?)))
-        }
-        Told::Cut(number, begin, end, earlier) => {
-            Ok(Message::Change(Change::Cut(row(alloc, number, begin, end)?, earlier)))
-        }
-        Told::Mark(time) => Ok(Message::Mark(time)),
-        Told::End => Ok(Message::End),
-        Told::Broken => Ok(Message::Broken),
-    }
-}
-
-fn number_of(row: &Row) -> i128 {
-    match row.payload.fields().first() {
-        Some(Field::Number(number)) => *number,
-        _ => -1,
-    }
-}
-
-fn tell(message: &Message) -> Told {
-    match message {
-        Message::Change(Change::Add(row)) => Told::Add(number_of(row), row.begin, row.end),
-        Message::Change(Change::Cut(row, end)) => {
-            Told::Cut(number_of(row), row.begin, row.end, *end)
-        }
-        Message::Mark(time) => Told::Mark(*time),
-        Message::End => Told::End,
-        Message::Broken => Told::Broken,
-    }
 }
 
 fn tell_fate(fate: Fate) -> Became {
@@ -85,7 +32,7 @@ fn take(
     told: Told,
 ) -> Result<(Vec<Told>, Became), OutOfMemory> {
     let mut out = Vec::new(alloc);
-    let fate = aligner.take(alloc, message(alloc, told)?, &mut out)?;
+    let fate = aligner.take(alloc, message_of(alloc, told)?, &mut out)?;
     let mut passed = Vec::new(alloc);
     for message in &out {
         passed.push(tell(message))?;
@@ -214,15 +161,12 @@ fn many_rows_are_held_and_released_in_order(rt: HostRuntime) -> Result<(), Fail>
     let mut out = Vec::new(alloc);
     for i in 0..65_536u64 {
         let end = 1 + i * 40_503 % 65_536;
-        aligner.take(
-            alloc,
-            Message::Change(Change::Add(row(alloc, 1, 0, end)?)),
-            &mut out,
-        )?;
+        let add = message_of(alloc, Told::Add(1, 0, end))?;
+        aligner.take(alloc, add, &mut out)?;
     }
     assert_eq!(rt; out.len(), 0);
     for mark in 1..65_538u64 {
-        aligner.take(alloc, Message::Mark(mark), &mut out)?;
+        aligner.take(alloc, message_of(alloc, Told::Mark(mark))?, &mut out)?;
     }
     assert_eq!(rt; out.len(), 65_537);
     for (end, message) in (1..65_537u64).zip(&out) {
