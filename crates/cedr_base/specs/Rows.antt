@@ -37,6 +37,10 @@ abbrev pub in_order : List Row → List Row
 in_order [] = []
 in_order (row ∷ rows) = put_in_order row (in_order rows)
 
+-- each row of a bag is one
+pub record AreRows (rows : List Row) : Type 0 where
+  pub each : (r : Row) → 0 < count_of r rows → IsRow r
+
 -- the same bag
 pub record SameRows (xs ys : List Row) : Type 0 where
   pub each : (r : Row) → count_of r xs ≡ count_of r ys

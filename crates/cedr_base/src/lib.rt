@@ -20,7 +20,7 @@ pub use memory::OutOfMemory;
 pub use payload::Payload;
 pub use row::{Row, RowFault, canonical_order, sort_rows};
 pub use text::Text;
-pub use time::{FOREVER, Time, later};
+pub use time::{FOREVER, Time, finite_times, later};
 
 #[cfg(test)]
 mod tests;

@@ -136,3 +136,24 @@ fn a_change_is_seen_from_its_begin_or_its_new_end(rt: HostRuntime) -> Result<(),
     assert_eq!(rt; cut.copy(alloc)?.sync(), 7);
     Ok(())
 }
+
+#[test]
+fn a_copied_message_is_the_same_one(rt: HostRuntime) -> Result<(), Fail> {
+    let alloc = rt.alloc();
+    let row = Row::new(3, 9, payload(alloc, &[b"a", b"b"])?)?;
+    let kept = row.copy(alloc)?;
+    let added = Message::Change(Change::Add(row));
+    match added.copy(alloc)? {
+        Message::Change(Change::Add(copied)) => assert!(rt; copied == kept),
+        _ => assert!(rt; false, "an insertion"),
+    }
+    let cut = Message::Change(Change::cut(kept.copy(alloc)?, 7)?);
+    match cut.copy(alloc)? {
+        Message::Change(Change::Cut(copied, end)) => assert!(rt; copied == kept && end == 7),
+        _ => assert!(rt; false, "a retraction"),
+    }
+    assert!(rt; matches!(Message::Mark(7).copy(alloc)?, Message::Mark(7)));
+    assert!(rt; matches!(Message::End.copy(alloc)?, Message::End));
+    assert!(rt; matches!(Message::Broken.copy(alloc)?, Message::Broken));
+    Ok(())
+}

@@ -14,3 +14,8 @@ pub fn later(t: Time, d: u64) -> Time
 {
     (t + d).min(FOREVER)
 }
+
+/// The law of times: the finite ones are those below 2^62.
+pub fn finite_times()
+    ensures { FOREVER ≡ 2 ^ 62 }
+{}
