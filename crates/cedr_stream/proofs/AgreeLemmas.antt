@@ -12,13 +12,13 @@ use Rattle.cedr_base.specs.declared.change.Change.TheVariants.{Add, Cut}
 use Rattle.cedr_base.specs.declared.change.Message.{Message}
 use Rattle.cedr_base.specs.declared.change.Message.TheVariants as message
 use Rattle.cedr_base.specs.Messages.{changes_of, mark_of, IsTableOf, IsLegalBehind, IsLegal}
-use Rattle.cedr_base.proofs.Bags.{count_of-append}
-use Rattle.cedr_base.specs.Rows.{count_of, one_if_same}
+use Rattle.cedr_base.proofs.Bags.{count_of-append, count_of-cons, one_if_same_exact}
+use Rattle.cedr_base.specs.Rows.{count_of, one_if_same, IsRow, AreRows, SameRows}
 use Rattle.cedr_base.specs.Changes.{IsChange, puts, takes, all_puts, all_takes, remnant}
 use Rattle.cedr_stream.specs.Repairs.{AllFrom, Leads}
 use Rattle.cedr_stream.specs.Agreeing.{row_up_to, rows_up_to, AgreeUpTo}
-use Rattle.cedr_stream.proofs.BagSums.{sum_by-same, sum_by-flat_map, same_flat_map}
-use Rattle.cedr_stream.proofs.Moves.{remnant_some, remnant_none, may_is}
+use Rattle.cedr_stream.proofs.BagSums.{sum_by-same, sum_by-flat_map, same_flat_map, same_itself, same_back, same_along}
+use Rattle.cedr_stream.proofs.Moves.{remnant_some, remnant_none, may_is, puts_are_rows}
 use Rattle.cedr_stream.proofs.RepairLemmas.{AllChanges, takes-append, puts-append}
 use Rattle.cedr_stream.proofs.Legal.{changes-append, mark-append}
 
@@ -139,3 +139,64 @@ pub going_on_agrees : (ms more : List Message) (old new : List Row) → IsLegal 
 going_on_agrees ms more old new legal before after =
     let rest = behind (mark_of ms) ms more (omega arith) (legal_rest [] ms more legal) in
     leads_agree (mark_of ms) old new (changes_of more) rest.are rest.from (leads_from ms more old new before after)
+
+-- a row that isn't another one is no copy of it
+differs : (r x : Row) → (r ≡ x → ⊥) → one_if_same r x ≡ 0
+differs r x apart = elim (cases_lt 0 (one_if_same r x)) [
+  | inl there ↦ absurd (apart (one_if_same_exact r x there))
+  | inr gone ↦ omega (arith, gone)
+]
+
+-- a row that ends before a time is a copy of what another one is before it exactly where it is a copy of that one
+lowered : (t : ℕ) (r x : Row) → r.end < t → one_if_same r (record x { end = min x.end t }) ≡ one_if_same r x
+lowered t r x h = elim (cases_lt t x.end) [
+  | inl beyond ↦
+      differs r (record x { end = min x.end t }) (λ same. let ends = ap (λ (y : Row). y.end) same in absurd (omega arith))
+      ∙ sym (differs r x (λ same. let ends = ap (λ (y : Row). y.end) same in absurd (omega arith)))
+  | inr within ↦ ap (λ n. one_if_same r (record x { end = n })) (omega arith)
+]
+
+count_before : (t : ℕ) (r x : Row) (b : Bool) → nat_lt x.begin (min x.end t) ≡ b → r.begin < r.end → r.end < t → count_of r (cond b (record x { end = min x.end t } ∷ []) []) ≡ one_if_same r x
+count_before t r x true is lives h = omega (arith, count_of-cons r (record x { end = min x.end t }) [], lowered t r x h)
+count_before t r x false is lives h =
+    let none = ltb-false x.begin (min x.end t) is in
+    sym (differs r x (λ same. let ends = ap (λ (y : Row). y.end) same in let begins = ap (λ (y : Row). y.begin) same in absurd (omega arith)))
+
+-- of a row that ends before a time there are as many copies before that time as in all
+ended_before : (t : ℕ) (r : Row) (xs : List Row) → r.begin < r.end → r.end < t → count_of r (rows_up_to t xs) ≡ count_of r xs
+ended_before t r [] lives h = refl
+ended_before t r (x ∷ xs) lives h =
+    omega (arith, count_of-append r (row_up_to t x) (rows_up_to t xs), count_of-cons r x xs, count_before t r x (nat_lt x.begin (min x.end t)) refl lives h, ended_before t r xs lives h)
+
+-- tables that agree up to a time have the same copies of each row that ends before it
+pub agree_ended : (t : ℕ) (xs ys : List Row) (r : Row) → AgreeUpTo t xs ys → IsRow r → r.end < t → count_of r xs ≡ count_of r ys
+agree_ended t xs ys r agree is h = sym (ended_before t r xs is.lives h) ∙ (agree.same.each r ∙ ended_before t r ys is.lives h)
+
+pub agree_itself : (t : ℕ) (xs : List Row) → AgreeUpTo t xs xs
+agree_itself t xs = record { same = same_itself (rows_up_to t xs) }
+
+pub agree_back : (t : ℕ) (xs ys : List Row) → AgreeUpTo t xs ys → AgreeUpTo t ys xs
+agree_back t xs ys h = record { same = same_back (rows_up_to t xs) (rows_up_to t ys) h.same }
+
+pub agree_along : (t : ℕ) (xs ys zs : List Row) → AgreeUpTo t xs ys → AgreeUpTo t ys zs → AgreeUpTo t xs zs
+agree_along t xs ys zs h k = record { same = same_along (rows_up_to t xs) (rows_up_to t ys) (rows_up_to t zs) h.same k.same }
+
+-- the same bag agrees up to any time
+pub agree_same : (t : ℕ) (xs ys : List Row) → SameRows xs ys → AgreeUpTo t xs ys
+agree_same t xs ys h = record { same = same_flat_map (row_up_to t) xs ys h }
+
+-- what changes put is a row
+all_puts_are_rows : (cs : List Change) (r : Row) → AllChanges cs → 0 < count_of r (all_puts cs) → IsRow r
+all_puts_are_rows [] r are there = absurd (omega arith)
+all_puts_are_rows (c ∷ cs) r are there = elim (cases_lt 0 (count_of r (puts c))) [
+  | inl here ↦ puts_are_rows c r are.0 here
+  | inr later ↦ all_puts_are_rows cs r are.1 (omega (arith, puts-append r (c ∷ []) cs, count_of-append r (puts c) (all_puts cs)))
+]
+
+-- the table of a legal list has only rows
+pub table_rows : (ms : List Message) (rows : List Row) → IsLegal ms → IsTableOf ms rows → AreRows rows
+table_rows ms rows legal table = record {
+  each = λ r there.
+      all_puts_are_rows (changes_of ms) r ((behind 0 [] ms (omega arith) legal).are)
+      (omega (arith, table.sums.each r, count_of-append r rows (all_takes (changes_of ms))));
+}

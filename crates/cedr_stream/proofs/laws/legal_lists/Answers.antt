@@ -1,5 +1,6 @@
 use Rattle.std.proofs.Common.{◌∷◌, []}
 use Rattle.cedr_stream.proofs.Legal.{legal-push, table_moved, table_stays, mark-append}
+use Rattle.cedr_stream.proofs.AgreeLemmas.{table_rows}
 use Rattle.cedr_stream.proofs.laws.legal_lists.Goals as goal
 
 pub returns-clause-goes_on : goal.returns-clause-goes_on
@@ -13,3 +14,6 @@ returns-clause-same_table c = table_stays
 
 pub returns-clause-mark : goal.returns-clause-mark
 returns-clause-mark c = λ ms m. mark-append ms (m ∷ [])
+
+pub returns-clause-rows : goal.returns-clause-rows
+returns-clause-rows c = table_rows
