@@ -9,7 +9,8 @@ use Rattle.std.proofs.lemmas.Bool.{cases_Bool}
 use Rattle.cedr_base.specs.declared.row.Row.{Row}
 use Rattle.cedr_base.specs.Rows.{row_cmp, same_row, one_if_same, count_of, SameRows, put_in_order, in_order}
 use Rattle.cedr_base.specs.RowLaws.{row_total}
-use Rattle.cedr_stream.proofs.BagSums.{without, count_of-itself}
+use Rattle.cedr_stream.specs.Bags.{without}
+use Rattle.cedr_stream.proofs.BagSums.{count_of-itself}
 use Rattle.cedr_base.proofs.Bags.{same_row_exact, same_row_itself, count_of-cons}
 use Rattle.cedr_base.proofs.RowLemmas.{exact_rows}
 use Rattle.cedr_laws.specs.Surplus.{less, is_after, AllFromRow, Ascend}

@@ -5,7 +5,7 @@ use Rattle.cedr_base.specs.declared.row.Row.{Row}
 use Rattle.cedr_base.specs.declared.change.Change.{Change}
 use Rattle.cedr_base.specs.Rows.{row_cmp}
 use Rattle.cedr_base.specs.Changes.{all_puts, all_takes}
-use Rattle.cedr_stream.proofs.BagSums.{without}
+use Rattle.cedr_stream.specs.Bags.{without}
 
 -- the rows less one copy for each of other rows
 abbrev pub less : List Row → List Row → List Row

@@ -9,6 +9,7 @@ use Rattle.cedr_base.specs.declared.row.Row.{Row}
 use Rattle.cedr_base.specs.Rows.{row_cmp, same_row, one_if_same, count_of, SameRows}
 use Rattle.cedr_base.specs.RowLaws.{row_total}
 use Rattle.cedr_base.proofs.Bags.{same_row_exact, count_of-cons, one_of_itself}
+use Rattle.cedr_stream.specs.Bags.{without}
 
 -- two rows are the same where they compare as equal
 pub same_row_is : (a b : Row) → same_row a b ≡ is_eq (row_cmp a b)
@@ -19,11 +20,6 @@ same_row_is a b = refl
 pub same_row_equiv : IsEquivalence same_row
 unfolding same_row
 same_row_equiv = eq_by_cmp_equiv row_total
-
--- a bag with one copy of a row less
-abbrev pub without : Row → List Row → List Row
-without x [] = []
-without x (y ∷ ys) = cond (same_row x y) ys (y ∷ without x ys)
 
 module _ (w : Row → ℕ) where
   sum_by-without_at : (x y : Row) (ys : List Row) (b : Bool) → same_row x y ≡ b → (b ≡ false → sum_by w (without x ys) + w x ≡ sum_by w ys) → sum_by w (cond b ys (y ∷ without x ys)) + w x ≡ sum_by w (y ∷ ys)

@@ -10,7 +10,8 @@ use Rattle.cedr_base.specs.Rows.{IsRow, count_of, SameRows, same_row, one_if_sam
 use Rattle.cedr_base.specs.Changes.{IsChange, puts, takes, remnant, MayFollow}
 use Rattle.cedr_base.proofs.Bags.{same_row_exact, count_of-append, one_if_same_exact}
 use Rattle.cedr_stream.specs.Repairs.{IsMoved}
-use Rattle.cedr_stream.proofs.BagSums.{sum_by-same, sum_by-without, without}
+use Rattle.cedr_stream.specs.Bags.{without}
+use Rattle.cedr_stream.proofs.BagSums.{sum_by-same, sum_by-without}
 
 -- what a change does to a sum over a bag
 pub sum_by-moved : (w : Row → ℕ) (c : Change) (old new : List Row) → SameRows (new ++ takes c) (old ++ puts c)

@@ -1,3 +1,4 @@
+pub mod Bags
 pub mod Repairs
 pub mod Agreeing
 pub mod Times
