@@ -8,3 +8,7 @@ pub mod Passes
 pub mod Strong
 pub mod Recent
 pub mod PassedAgree
+pub mod Ends
+pub mod Giving
+pub mod Parts
+pub mod Middle

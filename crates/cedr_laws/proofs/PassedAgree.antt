@@ -1,5 +1,5 @@
 -- A passed table agrees with the kept one up to the front.
-use Rattle.std.proofs.Common.{◌≡◌, ℕ, ◌+◌, ◌<◌, ◌≤◌, List, [], ◌∷◌, ◌++◌, Bool, true, false, cond, not, refl, ap, sym, ◌∙◌, subst, arith}
+use Rattle.std.proofs.Common.{◌≡◌, ℕ, ◌+◌, ◌<◌, ◌≤◌, List, [], ◌∷◌, Bool, true, false, cond, not, refl, ap, arith}
 use Rattle.std.specs.Prelude.{sum_by, filter}
 use Rattle.std.proofs.lemmas.List.Sums.{sum_by-cons}
 use Rattle.cedr_base.specs.declared.level.Level.{Level}
@@ -8,7 +8,7 @@ use Rattle.cedr_base.specs.declared.change.Message.{Message}
 use Rattle.cedr_base.specs.Rows.{count_of, one_if_same}
 use Rattle.cedr_base.specs.Messages.{mark_of}
 use Rattle.cedr_base.proofs.Bags.{count_of-cons}
-use Rattle.cedr_stream.specs.Agreeing.{row_up_to, rows_up_to, AgreeUpTo}
+use Rattle.cedr_stream.specs.Agreeing.{row_up_to, AgreeUpTo}
 use Rattle.cedr_stream.proofs.BagSums.{sum_by-flat_map, count_of-itself}
 use Rattle.cedr_stream.proofs.AgreeLemmas.{up_to_late}
 use Rattle.cedr_laws.specs.Kept.{kept_table}

@@ -1,5 +1,5 @@
 -- What a port with a memory keeps and forgets.
-use Rattle.std.specs.Prelude.{ℕ, ◌≡◌, ◌+◌, ◌≤◌, List, [], ◌∷◌, ◌++◌, max, Bool, false, nat_lt, nat_eq, if◌then◌else◌, Option, Some, None}
+use Rattle.std.specs.Prelude.{ℕ, ◌≡◌, ◌+◌, ◌≤◌, List, [], ◌∷◌, ◌++◌, map, max, Bool, false, nat_lt, nat_eq, if◌then◌else◌, Option, Some, None}
 use Rattle.cedr_base.specs.declared.row.Row.{Row}
 use Rattle.cedr_base.specs.declared.change.Change.{Change}
 use Rattle.cedr_base.specs.declared.change.Change.TheVariants.{Add, Cut}
@@ -69,6 +69,10 @@ forgotten_of memory before message.Broken = []
 -- the late changes and the orphans, in order
 abbrev pub forgot : Option ℕ → List Message → List Forgotten
 forgot memory ms = each_place (forgotten_of memory) ms
+
+-- the changes that were forgotten
+abbrev pub changes_in : List Forgotten → List Change
+changes_in listed = map (λ (f : Forgotten). f.change) listed
 
 -- the kept table
 abbrev pub kept_table : Option ℕ → List Message → List Row

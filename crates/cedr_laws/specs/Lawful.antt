@@ -50,6 +50,18 @@ abbrev pub all_over : Lists → Bool
 all_over [] = true
 all_over (l ∷ ls) = is_over l && all_over ls
 
+-- some list has a message
+abbrev pub any_came : Lists → Bool
+any_came [] = false
+any_came ([] ∷ ls) = any_came ls
+any_came ((m ∷ ms) ∷ ls) = true
+
+-- a list has one Broken, as its last message
+pub record EndsBroken (ms : List Message) : Type 0 where
+  pub before : List Message
+  pub whole : ms ≡ before ++ message.Broken ∷ []
+  pub unbroken : has_broken before ≡ false
+
 -- What a node gave fits what it took, where no list is broken. What it gave is legal, its table is the result of the
 -- passed tables, and its mark is the bound of the passed tables and fronts. It has its End exactly where each list
 -- has, and no Broken. Each row that it ever put is one of the result at tables that the passed lists once had. An
@@ -97,10 +109,17 @@ given_by (s ∷ ss) = s.piece ++ given_by ss
 abbrev pub no_lists : List Level → Lists
 no_lists levels = replicate (length levels) []
 
--- A node is lawful from what it took to what it gave: there is an order of the messages, which keeps that of each
--- list, and a cutting of what was given into a piece for each, such that it is right after each message.
+-- each step is on one of so many ports
+abbrev pub AreOnPorts : ℕ → List Step → Type 0
+AreOnPorts ports [] = Unit {0}
+AreOnPorts ports (s ∷ ss) = (s.port < ports) × AreOnPorts ports ss
+
+-- A node is lawful from what it took to what it gave: there is an order of the messages, each on one of its ports,
+-- which keeps that of each list, and a cutting of what was given into a piece for each, such that it is right after
+-- each message.
 pub record IsLawful (meaning : Meaning) (levels : List Level) (lists : Lists) (given : List Message) : Type 0 where
   pub steps : List Step
+  pub on_ports : AreOnPorts (length levels) steps
   pub lists_are : lists_behind (no_lists levels) steps ≡ lists
   pub given_is : given_by steps ≡ given
   pub right : AreRightBehind meaning levels (no_lists levels) [] steps

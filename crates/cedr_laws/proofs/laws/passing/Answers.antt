@@ -1,3 +1,4 @@
+use Rattle.cedr_laws.proofs.Middle.{ended_passed, ended_front}
 use Rattle.cedr_laws.proofs.Passes.{passes}
 use Rattle.cedr_laws.proofs.PassedAgree.{passed_agrees}
 use Rattle.cedr_laws.proofs.laws.passing.Goals as goal
@@ -13,3 +14,9 @@ returns-clause-mark c = λ level ms legal. (passes level ms legal).mark
 
 pub returns-clause-agree : goal.returns-clause-agree
 returns-clause-agree c = passed_agrees
+
+pub returns-clause-ended : goal.returns-clause-ended
+returns-clause-ended c = ended_passed
+
+pub returns-clause-last : goal.returns-clause-last
+returns-clause-last c = ended_front
