@@ -75,7 +75,7 @@ impl Join {
         ensures stands { OnOk result (StandsAfter (StandsOnTwo self.old.tests self.old.width self.old.left.entries self.old.right.entries)
             (StandsOnTwo self.new.tests self.new.width self.new.left.entries self.new.right.entries) 0 change.now) }
         ensures repairs { OnOk result (RepairsAfter (StandsOnTwo self.old.tests self.old.width self.old.left.entries self.old.right.entries) (join_of self.old.tests) 0 change.now out.old.items out.new.items) }
-        ensures tests { OnOk result (self.new.tests ≡ self.old.tests) }
+        ensures tests { self.new.tests ≡ self.old.tests }
         ensures err { OnErr result (take (length out.old.items) out.new.items ≡ out.old.items) }
     {
         let row = row_of(change);
@@ -97,7 +97,7 @@ impl Join {
         ensures stands { OnOk result (StandsAfter (StandsOnTwo self.old.tests self.old.width self.old.left.entries self.old.right.entries)
             (StandsOnTwo self.new.tests self.new.width self.new.left.entries self.new.right.entries) 1 change.now) }
         ensures repairs { OnOk result (RepairsAfter (StandsOnTwo self.old.tests self.old.width self.old.left.entries self.old.right.entries) (join_of self.old.tests) 1 change.now out.old.items out.new.items) }
-        ensures tests { OnOk result (self.new.tests ≡ self.old.tests) }
+        ensures tests { self.new.tests ≡ self.old.tests }
         ensures err { OnErr result (take (length out.old.items) out.new.items ≡ out.old.items) }
     {
         let row = row_of(change);
@@ -125,7 +125,7 @@ impl Join {
         ensures stands { OnOk result (StandsAfter (StandsOnTwo self.old.tests self.old.width self.old.left.entries self.old.right.entries)
             (StandsOnTwo self.new.tests self.new.width self.new.left.entries self.new.right.entries) port change.now) }
         ensures repairs { OnOk result (RepairsAfter (StandsOnTwo self.old.tests self.old.width self.old.left.entries self.old.right.entries) (join_of self.old.tests) port change.now out.old.items out.new.items) }
-        ensures tests { OnOk result (self.new.tests ≡ self.old.tests) }
+        ensures tests { self.new.tests ≡ self.old.tests }
         ensures err { OnErr result (take (length out.old.items) out.new.items ≡ out.old.items) }
     {
         if port == 0 {
