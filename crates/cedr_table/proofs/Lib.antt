@@ -3,3 +3,4 @@ pub mod RangeLemmas
 pub mod OrderLemmas
 pub mod RowWiseLemmas
 pub mod ChoiceLemmas
+pub mod RowsLemmas

@@ -3,7 +3,7 @@ use Rattle.std.specs.Prelude.{ℕ, ◌≡◌, ◌<◌, ◌≤◌, List, [], ◌�
 use Rattle.cedr_base.specs.declared.time.TheConstants.{FOREVER}
 use Rattle.cedr_base.specs.declared.row.Row.{Row}
 use Rattle.cedr_base.specs.declared.change.Change.{Change}
-use Rattle.cedr_base.specs.Rows.{count_of, SameRows}
+use Rattle.cedr_base.specs.Rows.{count_of, AreRows, SameRows}
 use Rattle.cedr_base.specs.Changes.{sync_of, MayFollow}
 use Rattle.cedr_stream.specs.Repairs.{Repair}
 
@@ -35,6 +35,10 @@ mark_at marks port = slice_index marks port
 -- the tables with another one on a port
 abbrev pub with_table : Tables → ℕ → List Row → Tables
 with_table tables port rows = slice_set tables port rows
+
+-- each table has rows only
+pub record HaveRows (tables : Tables) : Type 0 where
+  pub each : (port : ℕ) → AreRows (table_at tables port)
 
 -- a change may come on a port: it may follow in the port's table, and isn't seen before the port's mark
 pub record CanTake (tables : Tables) (marks : List ℕ) (port : ℕ) (change : Change) : Type 0 where

@@ -7,7 +7,7 @@ use Rattle.cedr_base.specs.declared.field.Field.{Field}
 use Rattle.cedr_base.specs.declared.row.Row.{Row}
 use Rattle.cedr_base.specs.declared.change.Change.{Change}
 use Rattle.cedr_base.specs.declared.change.Change.TheVariants.{Add, Cut}
-use Rattle.cedr_base.specs.Rows.{count_of}
+use Rattle.cedr_base.specs.Rows.{count_of, AreRows}
 use Rattle.cedr_base.specs.Changes.{sync_of, IsChange, puts, takes, all_puts, all_takes}
 use Rattle.cedr_base.proofs.Bags.{count_of-cons}
 use Rattle.cedr_stream.specs.Repairs.{AllFrom}
@@ -15,10 +15,11 @@ use Rattle.cedr_stream.proofs.BagSums.{count_of-itself}
 use Rattle.cedr_stream.proofs.RepairLemmas.{AllChanges, AllChanges-append, AllFrom-append, takes-flat_map, puts-flat_map, takes_adds, Turns}
 use Rattle.cedr_table.specs.Choices.{chosen}
 use Rattle.cedr_table.proofs.ChoiceLemmas.{sum_chosen, sum_chosen-cons, count_chosen}
+use Rattle.cedr_table.proofs.RowsLemmas.{first_is, others_are}
 use Rattle.std.proofs.Math.Nat.{max_comm, min_comm}
 use Rattle.op_join.specs.declared.side.Side.{Side}
 use Rattle.op_join.specs.declared.side.Side.TheVariants.{Left, Right}
-use Rattle.op_join.specs.Joins.{PairTest, meet, joined, joined_rows, AreRows}
+use Rattle.op_join.specs.Joins.{PairTest, meet, joined, joined_rows}
 use Rattle.op_join.specs.Pairs.{met, passes_on, both_on, pair_changes, changed_row, all_changes}
 use Rattle.op_join.proofs.SumLemmas.{sum_by-alike, sum_by-plus, sum_by-zero, sum_by-turned, sum_by-partners}
 use Rattle.op_join.proofs.PairLemmas.{pair_sums, pair_there, cut_takes_late, cut_puts_early, pair_good}
@@ -35,8 +36,8 @@ module _ (p : PairTest) (side : Side) (c : Change) where
   all_good : (t : ℕ) (found : List Row) → IsChange c → AreRows found → t ≤ sync_of c → AllChanges (all_changes p side c found) × AllFrom t (all_changes p side c found)
   all_good t [] is are late = (tt, tt)
   all_good t (o ∷ os) is are late =
-      let here = pair_good p side t c o is (are.each o (count_of-itself o os)) late in
-      let rest = all_good t os is (record { each = λ r there. are.each r (omega (arith, count_of-cons r o os)) }) late in
+      let here = pair_good p side t c o is (first_is o os are) late in
+      let rest = all_good t os is (others_are o os are) late in
       (AllChanges-append (of_pair o) (all_changes p side c os) here.0 rest.0, AllFrom-append t (of_pair o) (all_changes p side c os) here.1 rest.1)
 
   -- a row that doesn't pass gives no change

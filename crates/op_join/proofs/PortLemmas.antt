@@ -9,11 +9,11 @@ use Rattle.cedr_base.specs.declared.row.Row.{Row}
 use Rattle.cedr_base.specs.declared.change.Change.{Change}
 use Rattle.cedr_base.specs.declared.change.Change.TheVariants.{Add, Cut}
 use Rattle.cedr_base.specs.Order.{payload_cmp}
-use Rattle.cedr_base.specs.Rows.{count_of, SameRows}
+use Rattle.cedr_base.specs.Rows.{count_of, AreRows, SameRows}
 use Rattle.cedr_base.specs.Changes.{IsChange, puts, takes, MayFollow}
 use Rattle.cedr_base.proofs.Bags.{count_of-append}
 use Rattle.cedr_stream.specs.Repairs.{IsMoved}
-use Rattle.cedr_stream.proofs.Moves.{may_is, row_came, puts_are_rows}
+use Rattle.cedr_stream.proofs.Moves.{may_is}
 use Rattle.cedr_expr.specs.declared.test.Test.{Test}
 use Rattle.cedr_expr.specs.Tests.{passes}
 use Rattle.cedr_table.specs.Counted.{LacksRow}
@@ -21,12 +21,13 @@ use Rattle.cedr_table.specs.Operators.{Tables, table_at, with_table, least_of, C
 use Rattle.cedr_table.specs.PortLaws.{table_at-with, table_at-with_other, least_below}
 use Rattle.cedr_table.specs.Choices.{chosen}
 use Rattle.cedr_table.proofs.ChoiceLemmas.{chosen_repairs}
+use Rattle.cedr_table.proofs.RowsLemmas.{same_are, moved_are}
 use Rattle.op_join.specs.declared.side.Side.TheVariants.{Left, Right}
 use Rattle.op_join.specs.Keys.{full_key, left_key, right_key}
 use Rattle.op_join.specs.Filed.{FiledRows, under, all_under, listed, Files, right_partners, left_partners}
 use Rattle.op_join.specs.Pairs.{changed_row, all_changes}
-use Rattle.op_join.specs.Joins.{joined_rows, AreRows, StandsOnTwo}
-use Rattle.op_join.specs.JoinLaws.{same_are, files_alike}
+use Rattle.op_join.specs.Joins.{joined_rows, StandsOnTwo}
+use Rattle.op_join.specs.JoinLaws.{files_alike}
 use Rattle.op_join.proofs.KeyLemmas.{keys_same}
 use Rattle.op_join.proofs.FiledLemmas.{same_or_not, files_moved, count_all, count_listed}
 use Rattle.op_join.proofs.JoinLemmas.{FindsPartners, pairs_turn, count_left, count_right}
@@ -81,9 +82,6 @@ stands_settled tests width later lefts rights filed tables marks empty sorted fi
   left_rows = h.left_rows;
   right_rows = h.right_rows;
 }
-
-are_moved : (c : Change) (old new : List Row) → IsChange c → IsMoved c old new → AreRows old → AreRows new
-are_moved c old new is moved are = record { each = λ r there. elim (row_came c old new r moved there) [ inl was ↦ are.each r was | inr put ↦ puts_are_rows c r is put ] }
 
 under_at : (key_of : List Field → List Field) (filed : FiledRows) (rows : List Row) (key : List Field) (r : Row) → Files key_of filed rows → (key ≡ key_of r.payload) ⊎ (key ≢ key_of r.payload) → count_of r (under filed key) ≤ count_of r rows
 under_at key_of filed rows key r files (inl same) = let there = files.there r in let at = ap (λ (k : List Field). count_of r (under filed k)) same in omega (arith, there, at)
@@ -182,7 +180,7 @@ module _ (tests : List Test) (width : ℕ) (lefts rights : FiledRows) (tables : 
           mark = h.mark;
           left = subst (Files (left_key width tests) lefts') (sym at) (files_after (left_key width tests) c key lefts lefts' (table_at tables 0) after is h.left here others moved);
           right = subst (Files (right_key width tests) rights) (sym other) h.right;
-          left_rows = subst AreRows (sym at) (are_moved c (table_at tables 0) after (may_is (table_at tables 0) [] c can.legal) moved h.left_rows);
+          left_rows = subst AreRows (sym at) (moved_are c (table_at tables 0) after (may_is (table_at tables 0) [] c can.legal) moved h.left_rows);
           right_rows = subst AreRows (sym other) h.right_rows;
         }
 
@@ -197,7 +195,7 @@ module _ (tests : List Test) (width : ℕ) (lefts rights : FiledRows) (tables : 
           left = subst (Files (left_key width tests) lefts) (sym other) h.left;
           right = subst (Files (right_key width tests) rights') (sym at) (files_after (right_key width tests) c key rights rights' (table_at tables 1) after is h.right here others moved);
           left_rows = subst AreRows (sym other) h.left_rows;
-          right_rows = subst AreRows (sym at) (are_moved c (table_at tables 1) after (may_is (table_at tables 1) [] c can.legal) moved h.right_rows);
+          right_rows = subst AreRows (sym at) (moved_are c (table_at tables 1) after (may_is (table_at tables 1) [] c can.legal) moved h.right_rows);
         }
 
     pub left_gains : (outs outs' : List Change) → CanTake tables marks 0 c → IsMoved c (table_at tables 0) after → key ≡ left_key width tests (changed_row c).payload → (key ≡ [] → IsStrictlySortedBy payload_cmp (keys_of rights))

@@ -9,12 +9,10 @@ use Rattle.cedr_table.specs.Operators.{Tables, AllRise, SameTables}
 use Rattle.cedr_table.specs.PortLaws.{rise_length, same_length, same_at, least_rises, least_is_time}
 use Rattle.cedr_table.specs.OperatorLaws.{OperatorLaws}
 use Rattle.cedr_table.proofs.ChoiceLemmas.{same_chosen, nothing_chosen}
+use Rattle.cedr_table.proofs.RowsLemmas.{same_are}
 use Rattle.cedr_expr.specs.Tests.{passes}
 use Rattle.op_join.specs.Filed.{FiledRows, Files}
-use Rattle.op_join.specs.Joins.{AreRows, StandsOnTwo, join_of, joined_rows}
-
-pub same_are : (xs ys : List Row) → SameRows xs ys → AreRows ys → AreRows xs
-same_are xs ys h are = record { each = λ r there. are.each r (let e = h.each r in omega arith) }
+use Rattle.op_join.specs.Joins.{StandsOnTwo, join_of, joined_rows}
 
 -- what is filed of a bag is filed of each list of it
 pub files_alike : (key_of : List Field → List Field) (filed : FiledRows) (xs ys : List Row) → SameRows xs ys → Files key_of filed xs → Files key_of filed ys

@@ -1,8 +1,8 @@
 -- Joins.
-use Rattle.std.specs.Prelude.{ℕ, ◌≡◌, ◌<◌, List, [], ◌∷◌, ◌++◌, length, Bool, true, false, nat_lt, min, max, ◌&&◌, if◌then◌else◌}
+use Rattle.std.specs.Prelude.{ℕ, ◌≡◌, List, [], ◌∷◌, ◌++◌, length, Bool, true, false, nat_lt, min, max, ◌&&◌, if◌then◌else◌}
 use Rattle.cedr_base.specs.declared.field.Field.{Field}
 use Rattle.cedr_base.specs.declared.row.Row.{Row}
-use Rattle.cedr_base.specs.Rows.{IsRow, count_of}
+use Rattle.cedr_base.specs.Rows.{AreRows}
 use Rattle.cedr_expr.specs.declared.test.Test.{Test}
 use Rattle.cedr_expr.specs.Tests.{passes}
 use Rattle.cedr_base.specs.declared.change.Change.{Change}
@@ -40,11 +40,7 @@ join_of tests = record {
   stateless = false;
 }
 
--- every row of a table is one
-pub record AreRows (rows : List Row) : Type 0 where
-  pub each : (r : Row) → 0 < count_of r rows → IsRow r
-
--- both tables are filed under the fields that equality tests compare, and every row of them is one
+-- both tables are filed under the fields that equality tests compare, and have rows only
 pub record StandsOnTwo (tests : List Test) (width : ℕ) (lefts rights : FiledRows) (tables : Tables) (marks : List ℕ) : Type 0 where
   pub table : length tables ≡ 2
   pub mark : length marks ≡ 2
