@@ -64,7 +64,10 @@ impl Sequence {
         requires port { port < length self.old.kept.items }
         requires ports { 2 ≤ length self.old.kept.items }
         requires there { HasRow (table_at self.old.kept.items port) change.now }
-        ensures ok { OnOk result ((self.new.scope ≡ self.old.scope) × (self.new.tests ≡ self.old.tests) × IsAnswered self.old.scope self.old.tests self.old.kept.items self.new.kept.items port change.now way row.now out.old.items out.new.items) }
+        ensures scope { self.new.scope ≡ self.old.scope }
+        ensures tests { self.new.tests ≡ self.old.tests }
+        ensures ports { length self.new.kept.items ≡ length self.old.kept.items }
+        ensures ok { OnOk result (IsAnswered self.old.scope self.old.tests self.old.kept.items self.new.kept.items port change.now way row.now out.old.items out.new.items) }
         ensures err { OnErr result (out.new.items ≡ out.old.items) }
     {
         let rows = find_matches(

@@ -16,20 +16,20 @@ returns-then-row-end-clause-repairs c = λ tables marks after stands can moved.
 
 pub returns-in-Add-clause-stands : goal.returns-in-Add-clause-stands
 returns-in-Add-clause-stands c = on_ok_weaker c.answer.result
-    (λ answered tables marks after stands can moved. answered_stands c.args.self.now.scope c.answer.new.self.scope c.args.self.now.tests c.args.self.now.kept.items c.answer.new.self.kept.items tables marks c.args.port c.args.change.now c.in-Add.row after c.args.out.now.items c.answer.new.out.items answered.0 stands moved answered.2)
+    (λ answered tables marks after stands can moved. answered_stands c.args.self.now.scope c.answer.new.self.scope c.args.self.now.tests c.args.self.now.kept.items c.answer.new.self.kept.items tables marks c.args.port c.args.change.now c.in-Add.row after c.args.out.now.items c.answer.new.out.items c.answer.ensures.scope stands moved answered)
     c.answer.ensures.ok
 
 pub returns-in-Add-clause-repairs : goal.returns-in-Add-clause-repairs
 returns-in-Add-clause-repairs c = on_ok_weaker c.answer.result
-    (λ answered tables marks after stands can moved. row_comes c.args.self.now.scope c.args.self.now.tests c.args.self.now.kept.items c.answer.new.self.kept.items tables marks c.args.port c.args.change.now c.in-Add.row after c.args.out.now.items c.answer.new.out.items c.in-Add.is stands can moved answered.2)
+    (λ answered tables marks after stands can moved. row_comes c.args.self.now.scope c.args.self.now.tests c.args.self.now.kept.items c.answer.new.self.kept.items tables marks c.args.port c.args.change.now c.in-Add.row after c.args.out.now.items c.answer.new.out.items c.in-Add.is stands can moved answered)
     c.answer.ensures.ok
 
 pub returns-else-row-end-clause-stands : goal.returns-else-row-end-clause-stands
 returns-else-row-end-clause-stands c = on_ok_weaker c.answer-in-Cut.result
-    (λ answered tables marks after stands can moved. answered_stands c.args.self.now.scope c.answer-in-Cut.new.self.scope c.args.self.now.tests c.args.self.now.kept.items c.answer-in-Cut.new.self.kept.items tables marks c.args.port c.args.change.now c.in-Cut.row after c.args.out.now.items c.answer-in-Cut.new.out.items answered.0 stands moved answered.2)
+    (λ answered tables marks after stands can moved. answered_stands c.args.self.now.scope c.answer-in-Cut.new.self.scope c.args.self.now.tests c.args.self.now.kept.items c.answer-in-Cut.new.self.kept.items tables marks c.args.port c.args.change.now c.in-Cut.row after c.args.out.now.items c.answer-in-Cut.new.out.items c.answer-in-Cut.ensures.scope stands moved answered)
     c.answer-in-Cut.ensures.ok
 
 pub returns-else-row-end-clause-repairs : goal.returns-else-row-end-clause-repairs
 returns-else-row-end-clause-repairs c = on_ok_weaker c.answer-in-Cut.result
-    (λ answered tables marks after stands can moved. row_goes c.args.self.now.scope c.args.self.now.tests c.args.self.now.kept.items c.answer-in-Cut.new.self.kept.items tables marks c.args.port c.args.change.now c.in-Cut.row c.in-Cut.end after c.args.out.now.items c.answer-in-Cut.new.out.items c.in-Cut.is c.if-row-end.false stands can moved answered.2)
+    (λ answered tables marks after stands can moved. row_goes c.args.self.now.scope c.args.self.now.tests c.args.self.now.kept.items c.answer-in-Cut.new.self.kept.items tables marks c.args.port c.args.change.now c.in-Cut.row c.in-Cut.end after c.args.out.now.items c.answer-in-Cut.new.out.items c.in-Cut.is c.if-row-end.false stands can moved answered)
     c.answer-in-Cut.ensures.ok
