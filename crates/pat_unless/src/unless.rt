@@ -56,7 +56,8 @@ impl Unless {
         requires whiles { AreWhiles self.old.terms.scope self.old.terms.hold }
         requires begin { row.now.begin < FOREVER }
         requires there { HasRow self.old.rows change.now }
-        ensures ok { OnOk result ((self.new.terms ≡ self.old.terms) × (self.new.blockers ≡ self.old.blockers) × IsStep change.now self.old.rows self.new.rows × Appends way (unblocked self.old.terms.scope self.old.terms.hold self.old.terms.tests self.old.blockers row.now) out.old.items out.new.items) }
+        ensures terms { self.new.terms ≡ self.old.terms }
+        ensures ok { OnOk result ((self.new.blockers ≡ self.old.blockers) × IsStep change.now self.old.rows self.new.rows × Appends way (unblocked self.old.terms.scope self.old.terms.hold self.old.terms.tests self.old.blockers row.now) out.old.items out.new.items) }
         ensures err { OnErr result (out.new.items ≡ out.old.items) }
     {
         let rows = self.terms.unblocked(alloc, &self.blockers, row)?;
@@ -75,7 +76,8 @@ impl Unless {
         requires whiles { AreWhiles self.old.terms.scope self.old.terms.hold }
         requires begin { blocker.now.begin < FOREVER }
         requires there { HasRow self.old.blockers change.now }
-        ensures ok { OnOk result ((self.new.terms ≡ self.old.terms) × (self.new.rows ≡ self.old.rows) × IsStep change.now self.old.blockers self.new.blockers × Appends Goes (decided self.old.terms.scope self.old.terms.hold self.old.terms.tests self.old.blockers blocker.now self.old.rows) out.old.items out.new.items) }
+        ensures terms { self.new.terms ≡ self.old.terms }
+        ensures ok { OnOk result ((self.new.rows ≡ self.old.rows) × IsStep change.now self.old.blockers self.new.blockers × Appends Goes (decided self.old.terms.scope self.old.terms.hold self.old.terms.tests self.old.blockers blocker.now self.old.rows) out.old.items out.new.items) }
         ensures err { OnErr result (out.new.items ≡ out.old.items) }
     {
         let rows = self
@@ -96,7 +98,8 @@ impl Unless {
         requires whiles { AreWhiles self.old.terms.scope self.old.terms.hold }
         requires begin { blocker.now.begin < FOREVER }
         requires there { HasRow self.old.blockers change.now }
-        ensures ok { OnOk result ((self.new.terms ≡ self.old.terms) × (self.new.rows ≡ self.old.rows) × IsStep change.now self.old.blockers self.new.blockers × Appends Comes (decided self.old.terms.scope self.old.terms.hold self.old.terms.tests self.new.blockers blocker.now self.old.rows) out.old.items out.new.items) }
+        ensures terms { self.new.terms ≡ self.old.terms }
+        ensures ok { OnOk result ((self.new.rows ≡ self.old.rows) × IsStep change.now self.old.blockers self.new.blockers × Appends Comes (decided self.old.terms.scope self.old.terms.hold self.old.terms.tests self.new.blockers blocker.now self.old.rows) out.old.items out.new.items) }
         ensures err { OnErr result (out.new.items ≡ out.old.items) }
     {
         self.blockers.apply(alloc, change)?;

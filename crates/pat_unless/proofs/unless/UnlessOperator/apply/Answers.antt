@@ -20,40 +20,40 @@ returns-then-row-end-clause-repairs c = λ tables marks after stands can moved.
 
 pub returns-then-port-eq0-clause-stands : goal.returns-then-port-eq0-clause-stands
 returns-then-port-eq0-clause-stands c = on_ok_weaker c.answer_row.result
-    (λ answered tables marks after stands can moved. rows_stand c.args.self.now.terms c.answer_row.new.self.terms c.args.self.now.rows c.answer_row.new.self.rows c.args.self.now.blockers c.answer_row.new.self.blockers tables marks c.args.port c.args.change.now after c.if-port-eq0.true answered.0 answered.1 answered.2 stands moved)
+    (λ answered tables marks after stands can moved. rows_stand c.args.self.now.terms c.answer_row.new.self.terms c.args.self.now.rows c.answer_row.new.self.rows c.args.self.now.blockers c.answer_row.new.self.blockers tables marks c.args.port c.args.change.now after c.if-port-eq0.true c.answer_row.ensures.terms answered.0 answered.1 stands moved)
     c.answer_row.ensures.ok
 
 pub returns-then-port-eq0-clause-repairs : goal.returns-then-port-eq0-clause-repairs
 returns-then-port-eq0-clause-repairs c = on_ok_weaker c.answer_row.result
-    (λ answered tables marks after stands can moved. row_comes c.args.self.now.terms.scope c.args.self.now.terms.hold c.args.self.now.terms.tests c.args.self.now.rows c.args.self.now.blockers tables marks c.args.port c.args.change.now c.in-Add.row after c.args.out.now.items c.answer_row.new.out.items c.if-port-eq0.true c.in-Add.is stands answered.3 can moved)
+    (λ answered tables marks after stands can moved. row_comes c.args.self.now.terms.scope c.args.self.now.terms.hold c.args.self.now.terms.tests c.args.self.now.rows c.args.self.now.blockers tables marks c.args.port c.args.change.now c.in-Add.row after c.args.out.now.items c.answer_row.new.out.items c.if-port-eq0.true c.in-Add.is stands answered.2 can moved)
     c.answer_row.ensures.ok
 
 pub returns-else-port-eq0-clause-stands : goal.returns-else-port-eq0-clause-stands
 returns-else-port-eq0-clause-stands c = on_ok_weaker c.block.result
-    (λ answered tables marks after stands can moved. blockers_stand c.args.self.now.terms c.block.new.self.terms c.args.self.now.rows c.block.new.self.rows c.args.self.now.blockers c.block.new.self.blockers tables marks c.args.port c.args.change.now after c.if-port-eq0.false answered.0 answered.1 answered.2 stands can moved)
+    (λ answered tables marks after stands can moved. blockers_stand c.args.self.now.terms c.block.new.self.terms c.args.self.now.rows c.block.new.self.rows c.args.self.now.blockers c.block.new.self.blockers tables marks c.args.port c.args.change.now after c.if-port-eq0.false c.block.ensures.terms answered.0 answered.1 stands can moved)
     c.block.ensures.ok
 
 pub returns-else-port-eq0-clause-repairs : goal.returns-else-port-eq0-clause-repairs
 returns-else-port-eq0-clause-repairs c = on_ok_weaker c.block.result
-    (λ answered tables marks after stands can moved. row_blocks c.args.self.now.terms.scope c.args.self.now.terms.hold c.args.self.now.terms.tests c.args.self.now.rows c.args.self.now.blockers tables marks c.args.port c.args.change.now c.in-Add.row after c.args.out.now.items c.block.new.out.items c.if-port-eq0.false c.in-Add.is stands answered.3 can moved)
+    (λ answered tables marks after stands can moved. row_blocks c.args.self.now.terms.scope c.args.self.now.terms.hold c.args.self.now.terms.tests c.args.self.now.rows c.args.self.now.blockers tables marks c.args.port c.args.change.now c.in-Add.row after c.args.out.now.items c.block.new.out.items c.if-port-eq0.false c.in-Add.is stands answered.2 can moved)
     c.block.ensures.ok
 
 pub returns-then-port-eq0-2-clause-stands : goal.returns-then-port-eq0-2-clause-stands
 returns-then-port-eq0-2-clause-stands c = on_ok_weaker c.answer_row-then-port-eq0-2.result
-    (λ answered tables marks after stands can moved. rows_stand c.args.self.now.terms c.answer_row-then-port-eq0-2.new.self.terms c.args.self.now.rows c.answer_row-then-port-eq0-2.new.self.rows c.args.self.now.blockers c.answer_row-then-port-eq0-2.new.self.blockers tables marks c.args.port c.args.change.now after c.if-port-eq0-2.true answered.0 answered.1 answered.2 stands moved)
+    (λ answered tables marks after stands can moved. rows_stand c.args.self.now.terms c.answer_row-then-port-eq0-2.new.self.terms c.args.self.now.rows c.answer_row-then-port-eq0-2.new.self.rows c.args.self.now.blockers c.answer_row-then-port-eq0-2.new.self.blockers tables marks c.args.port c.args.change.now after c.if-port-eq0-2.true c.answer_row-then-port-eq0-2.ensures.terms answered.0 answered.1 stands moved)
     c.answer_row-then-port-eq0-2.ensures.ok
 
 pub returns-then-port-eq0-2-clause-repairs : goal.returns-then-port-eq0-2-clause-repairs
 returns-then-port-eq0-2-clause-repairs c = on_ok_weaker c.answer_row-then-port-eq0-2.result
-    (λ answered tables marks after stands can moved. row_goes c.args.self.now.terms.scope c.args.self.now.terms.hold c.args.self.now.terms.tests c.args.self.now.rows c.args.self.now.blockers tables marks c.args.port c.args.change.now c.in-Cut.row c.in-Cut.end after c.args.out.now.items c.answer_row-then-port-eq0-2.new.out.items c.if-port-eq0-2.true c.in-Cut.is c.if-row-end.false stands answered.3 can moved)
+    (λ answered tables marks after stands can moved. row_goes c.args.self.now.terms.scope c.args.self.now.terms.hold c.args.self.now.terms.tests c.args.self.now.rows c.args.self.now.blockers tables marks c.args.port c.args.change.now c.in-Cut.row c.in-Cut.end after c.args.out.now.items c.answer_row-then-port-eq0-2.new.out.items c.if-port-eq0-2.true c.in-Cut.is c.if-row-end.false stands answered.2 can moved)
     c.answer_row-then-port-eq0-2.ensures.ok
 
 pub returns-else-port-eq0-2-clause-stands : goal.returns-else-port-eq0-2-clause-stands
 returns-else-port-eq0-2-clause-stands c = on_ok_weaker c.free.result
-    (λ answered tables marks after stands can moved. blockers_stand c.args.self.now.terms c.free.new.self.terms c.args.self.now.rows c.free.new.self.rows c.args.self.now.blockers c.free.new.self.blockers tables marks c.args.port c.args.change.now after c.if-port-eq0-2.false answered.0 answered.1 answered.2 stands can moved)
+    (λ answered tables marks after stands can moved. blockers_stand c.args.self.now.terms c.free.new.self.terms c.args.self.now.rows c.free.new.self.rows c.args.self.now.blockers c.free.new.self.blockers tables marks c.args.port c.args.change.now after c.if-port-eq0-2.false c.free.ensures.terms answered.0 answered.1 stands can moved)
     c.free.ensures.ok
 
 pub returns-else-port-eq0-2-clause-repairs : goal.returns-else-port-eq0-2-clause-repairs
 returns-else-port-eq0-2-clause-repairs c = on_ok_weaker c.free.result
-    (λ answered tables marks after stands can moved. row_frees c.args.self.now.terms.scope c.args.self.now.terms.hold c.args.self.now.terms.tests c.args.self.now.rows c.args.self.now.blockers c.free.new.self.blockers tables marks c.args.port c.args.change.now c.in-Cut.row c.in-Cut.end after c.args.out.now.items c.free.new.out.items c.if-port-eq0-2.false c.in-Cut.is c.if-row-end.false stands answered.2 answered.3 can moved)
+    (λ answered tables marks after stands can moved. row_frees c.args.self.now.terms.scope c.args.self.now.terms.hold c.args.self.now.terms.tests c.args.self.now.rows c.args.self.now.blockers c.free.new.self.blockers tables marks c.args.port c.args.change.now c.in-Cut.row c.in-Cut.end after c.args.out.now.items c.free.new.out.items c.if-port-eq0-2.false c.in-Cut.is c.if-row-end.false stands answered.1 answered.2 can moved)
     c.free.ensures.ok
