@@ -9,11 +9,11 @@ use Rattle.cedr_base.specs.declared.field.Field.{Field}
 use Rattle.cedr_base.specs.declared.row.Row.{Row}
 use Rattle.cedr_base.specs.declared.change.Change.{Change}
 use Rattle.cedr_base.specs.declared.change.Change.TheVariants.{Add, Cut}
-use Rattle.cedr_base.specs.Rows.{one_if_same, count_of}
+use Rattle.cedr_base.specs.Rows.{one_if_same, count_of, SameRows}
 use Rattle.cedr_base.specs.Changes.{IsChange, sync_of, puts, takes}
 use Rattle.cedr_base.proofs.Bags.{count_of-cons, one_if_same_exact}
 use Rattle.cedr_stream.specs.Repairs.{IsMoved}
-use Rattle.cedr_stream.proofs.BagSums.{count_of-itself}
+use Rattle.cedr_stream.proofs.BagSums.{count_of-itself, same_back}
 use Rattle.cedr_stream.proofs.Moves.{sum_by-moved, remnant_some, remnant_none}
 use Rattle.op_group.specs.Groups.{Grouping, number_at, key_of, same_payload, rows_of, grouped, cut_points, least_from, is_open, open_from}
 use Rattle.op_group.specs.Measures.{lives_at, edge_at, part_at, edges_of, living_of, sums_of, among, row_from, Fits, is_cut_of, key_in, IsMade}
@@ -92,6 +92,20 @@ open_rises mark higher rows rise = elim (open_is higher rows) [
         | inr not_less ↦ omega (arith, is, open_below mark rows)
       ]
 ]
+
+-- the bound of one list isn't above that of another with the same rows
+open_below_same : (mark : ℕ) (xs ys : List Row) → SameRows xs ys → open_from mark xs ≤ open_from mark ys
+open_below_same mark xs ys same = elim (open_is mark ys) [
+  | inl top ↦ omega (arith, top, open_below mark xs)
+  | inr open_row ↦
+      let there = open_row.there in
+      let is = open_row.is in
+      omega (arith, is, open_at mark xs open_row.row (omega (arith, there, same.each open_row.row)) (test_open mark open_row.row open_row.less open_row.within))
+]
+
+-- the bound depends on the bag alone
+pub same_open : (mark : ℕ) (xs ys : List Row) → SameRows xs ys → open_from mark xs ≡ open_from mark ys
+same_open mark xs ys same = omega (arith, open_below_same mark xs ys same, open_below_same mark ys xs (same_back xs ys same))
 
 -- the last time that a change touches
 abbrev pub last_of : Change → ℕ
