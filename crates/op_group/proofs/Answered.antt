@@ -17,6 +17,7 @@ use Rattle.cedr_table.specs.PortLaws.{table_at-with}
 use Rattle.std.proofs.lemmas.List.{length-take}
 use Rattle.std.proofs.lemmas.List.Sums.{sum_by-append}
 use Rattle.cedr_base.specs.Changes.{all_puts, all_takes}
+use Rattle.cedr_base.specs.Rows.{AreRows}
 use Rattle.cedr_stream.proofs.BagSums.{sum_by-same}
 use Rattle.op_group.specs.declared.index.Interval.{Interval}
 use Rattle.op_group.specs.Index.{interval_of, one_if_same_interval, copies_at, IsIndex, Follows}
@@ -25,8 +26,9 @@ use Rattle.op_group.specs.Groups.{Grouping, key_of, same_payload, rows_of, group
 use Rattle.op_group.specs.Cuts.{differences}
 use Rattle.op_group.specs.BoundLaws.{last_of}
 use Rattle.op_group.specs.GroupLaws.{payload_exact, payload_itself}
-use Rattle.op_group.specs.State.{AreRows, ShowsRows, ShowsAll, AllOrdered, Answers, StandsForGroups, cuts_of, row_of}
-use Rattle.op_group.proofs.GroupRepairs.{group_moves, group_follows, rows_of_are, moved_are, other_shows, group_repairs}
+use Rattle.op_group.specs.State.{ShowsRows, ShowsAll, AllOrdered, Answers, StandsForGroups, cuts_of, row_of}
+use Rattle.op_group.proofs.GroupRepairs.{group_moves, group_follows, rows_of_are, other_shows, group_repairs}
+use Rattle.cedr_table.proofs.RowsLemmas.{moved_are}
 
 pub last_row : (c : Change) → (row_of c).end ≡ last_of c
 last_row (Add r) = refl
@@ -167,7 +169,7 @@ unfolding IsStrictlySortedBy
 new_stands g groups index none empty = subst (λ gs. StandsForGroups g gs index ([] ∷ []) (0 ∷ [])) (sym none) (subst (λ is. StandsForGroups g [] is ([] ∷ []) (0 ∷ [])) (sym empty) (record {
   table = refl;
   mark = refl;
-  rows = λ r there. absurd (omega arith);
+  rows = record { each = λ r there. absurd (omega arith) };
   ordered = λ key. empty_sorted;
   shown = λ key. record { at = λ t. refl };
   counted = λ i within. refl;

@@ -5,7 +5,7 @@ use Rattle.std.specs.List.{flat_map}
 use Rattle.std.proofs.lemmas.Bool.{cases_lt, lt-ltb, le-ltb, ltb-false}
 use Rattle.cedr_base.specs.declared.row.Row.{Row}
 use Rattle.cedr_base.specs.declared.change.Change.TheVariants.{Add, Cut}
-use Rattle.cedr_base.specs.Rows.{IsRow, one_if_same, count_of}
+use Rattle.cedr_base.specs.Rows.{IsRow, AreRows, one_if_same, count_of}
 use Rattle.cedr_base.specs.Changes.{all_puts, all_takes, remnant}
 use Rattle.cedr_base.proofs.Bags.{count_of-cons, count_of-append, one_if_same_exact}
 use Rattle.cedr_stream.specs.Repairs.{AllFrom}
@@ -13,7 +13,7 @@ use Rattle.cedr_stream.proofs.BagSums.{count_of-itself}
 use Rattle.cedr_stream.proofs.Moves.{remnant_none}
 use Rattle.cedr_stream.proofs.RepairLemmas.{AllChanges, AllChanges-append, AllFrom-append, takes-append, puts-append, Turns}
 use Rattle.op_group.specs.Cuts.{withdrawn_unless, added_unless, differences}
-use Rattle.op_group.specs.State.{AreRows}
+use Rattle.cedr_table.proofs.RowsLemmas.{first_is, others_are}
 
 -- a copy of a row counts where the row isn't among others
 same_choice : (r x : Row) (rows : List Row) → cond (nat_lt 0 (count_of x rows)) 0 (one_if_same r x) ≡ cond (nat_lt 0 (count_of r rows)) 0 (one_if_same r x)
@@ -86,15 +86,15 @@ none_there x rows h = let none = ltb-false 0 (count_of x rows) h in omega arith
 withdrawals : (t : ℕ) (news olds : List Row) → AreRows olds → ((r : Row) → 0 < count_of r olds → count_of r news ≡ 0 → t ≤ r.begin) → AllChanges (flat_map (withdrawn_unless news) olds) × AllFrom t (flat_map (withdrawn_unless news) olds)
 withdrawals t news [] are from = (tt, tt)
 withdrawals t news (x ∷ olds) are from =
-    let one = one_withdrawn x t (nat_lt 0 (count_of x news)) (are x (count_of-itself x olds)) (λ h. from x (count_of-itself x olds) (none_there x news h)) in
-    let rest = withdrawals t news olds (λ r there. are r (omega (arith, there, count_of-cons r x olds))) (λ r there. from r (omega (arith, there, count_of-cons r x olds))) in
+    let one = one_withdrawn x t (nat_lt 0 (count_of x news)) (first_is x olds are) (λ h. from x (count_of-itself x olds) (none_there x news h)) in
+    let rest = withdrawals t news olds (others_are x olds are) (λ r there. from r (omega (arith, there, count_of-cons r x olds))) in
     (AllChanges-append (withdrawn_unless news x) (flat_map (withdrawn_unless news) olds) one.0 rest.0, AllFrom-append t (withdrawn_unless news x) (flat_map (withdrawn_unless news) olds) one.1 rest.1)
 
 additions : (t : ℕ) (olds news : List Row) → AreRows news → ((r : Row) → 0 < count_of r news → count_of r olds ≡ 0 → t ≤ r.begin) → AllChanges (flat_map (added_unless olds) news) × AllFrom t (flat_map (added_unless olds) news)
 additions t olds [] are from = (tt, tt)
 additions t olds (x ∷ news) are from =
-    let one = one_added x t (nat_lt 0 (count_of x olds)) (are x (count_of-itself x news)) (λ h. from x (count_of-itself x news) (none_there x olds h)) in
-    let rest = additions t olds news (λ r there. are r (omega (arith, there, count_of-cons r x news))) (λ r there. from r (omega (arith, there, count_of-cons r x news))) in
+    let one = one_added x t (nat_lt 0 (count_of x olds)) (first_is x news are) (λ h. from x (count_of-itself x news) (none_there x olds h)) in
+    let rest = additions t olds news (others_are x news are) (λ r there. from r (omega (arith, there, count_of-cons r x news))) in
     (AllChanges-append (added_unless olds x) (flat_map (added_unless olds) news) one.0 rest.0, AllFrom-append t (added_unless olds x) (flat_map (added_unless olds) news) one.1 rest.1)
 
 -- counts of the old rows, the new ones, those that are taken and those that are put

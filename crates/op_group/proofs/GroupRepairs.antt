@@ -6,7 +6,7 @@ use Rattle.cedr_base.specs.declared.field.Field.{Field}
 use Rattle.cedr_base.specs.declared.row.Row.{Row}
 use Rattle.cedr_base.specs.declared.change.Change.{Change}
 use Rattle.cedr_base.specs.declared.change.Change.TheVariants.{Add, Cut}
-use Rattle.cedr_base.specs.Rows.{IsRow, one_if_same, count_of}
+use Rattle.cedr_base.specs.Rows.{IsRow, AreRows, one_if_same, count_of}
 use Rattle.cedr_base.specs.Changes.{IsChange, sync_of, puts, takes, MayFollow}
 use Rattle.cedr_base.proofs.Bags.{count_of-append, one_of_itself}
 use Rattle.cedr_stream.specs.Repairs.{IsMoved, Repair}
@@ -20,28 +20,22 @@ use Rattle.op_group.specs.Measures.{edge_at, part_at, edges_of, living_of, sums_
 use Rattle.op_group.specs.SegmentLaws.{sum_by-filter, segments_are, segment_fits}
 use Rattle.op_group.specs.GroupLaws.{payload_exact, payload_itself, fits_key, grouped_count, made_from_there, there_from_made, SameAt, same_at, count_alike}
 use Rattle.op_group.specs.BoundLaws.{open_below, open_at, test_open, was_open, same_outside, keyed, untouched_sums, Untouched}
-use Rattle.op_group.specs.State.{AreRows, ShowsRows, asked, Turned, row_of}
+use Rattle.op_group.specs.State.{ShowsRows, asked, Turned, row_of}
+use Rattle.cedr_table.proofs.RowsLemmas.{fewer_are, moved_are}
 use Rattle.op_group.proofs.Regions.{edges_are_times}
 use Rattle.op_group.proofs.Shown.{shows_alike}
 use Rattle.op_group.proofs.Differences.{differences_turn}
 
 -- the rows of a group are rows
 pub rows_of_are : (g : Grouping) (key : List Field) (rows : List Row) → AreRows rows → AreRows (rows_of g key rows)
-rows_of_are g key rows are r there = are r (omega (arith, there, sum_by-filter (one_if_same r) (λ x. same_payload key (key_of g x)) rows, fewer rows))
+rows_of_are g key rows are = fewer_are (rows_of g key rows) rows (λ r there. omega (arith, there, sum_by-filter (one_if_same r) (λ x. same_payload key (key_of g x)) rows, fewer r rows)) are
   where
-    fewer_at : (x : Row) (b : Bool) → cond b (one_if_same r x) 0 ≤ one_if_same r x
-    fewer_at x true = omega arith
-    fewer_at x false = omega arith
+    fewer_at : (r x : Row) (b : Bool) → cond b (one_if_same r x) 0 ≤ one_if_same r x
+    fewer_at r x true = omega arith
+    fewer_at r x false = omega arith
 
-    fewer : (xs : List Row) → sum_by (λ x. cond (same_payload key (key_of g x)) (one_if_same r x) 0) xs ≤ count_of r xs
-    fewer xs = Rattle.std.proofs.lemmas.List.Sums.sum_by-le-sum_by (λ x. cond (same_payload key (key_of g x)) (one_if_same r x) 0) (one_if_same r) xs (λ x. fewer_at x (same_payload key (key_of g x)))
-
--- the new rows are rows
-pub moved_are : (c : Change) (old new : List Row) → IsChange c → IsMoved c old new → AreRows old → AreRows new
-moved_are c old new is moved are r there = elim (row_came c old new r moved there) [
-  | inl was ↦ are r was
-  | inr put ↦ puts_are_rows c r is put
-]
+    fewer : (r : Row) (xs : List Row) → sum_by (λ x. cond (same_payload key (key_of g x)) (one_if_same r x) 0) xs ≤ count_of r xs
+    fewer r xs = Rattle.std.proofs.lemmas.List.Sums.sum_by-le-sum_by (λ x. cond (same_payload key (key_of g x)) (one_if_same r x) 0) (one_if_same r) xs (λ x. fewer_at r x (same_payload key (key_of g x)))
 
 -- each row of a change has the same key
 keyed_one : (g : Grouping) (key : List Field) (w : Row → ℕ) (c : Change) → same_payload key (key_of g (row_of c)) ≡ true → (sum_by (keyed g key w) (takes c) ≡ sum_by w (takes c)) × (sum_by (keyed g key w) (puts c) ≡ sum_by w (puts c))
@@ -197,8 +191,8 @@ module _ (g : Grouping) (key : List Field) (c : Change) (old new : List Row) (ma
   pub group_repairs : Repair (grouped g old) (grouped g new) (open_from mark (grouped g old)) (differences olds news)
   group_repairs = repair_by_turns (grouped g old) (grouped g new) olds news (open_from mark (grouped g old)) (differences olds news)
       (differences_turn (open_from mark (grouped g old)) olds news
-      (λ r there. made_is_row g old r old_rows (made_from_there g old r (omega (arith, part_old r, there))))
-      (λ r there. made_is_row g new r new_rows (made_from_there g new r (omega (arith, part_new r, there))))
+      (record { each = λ r there. made_is_row g old r old_rows (made_from_there g old r (omega (arith, part_old r, there))) })
+      (record { each = λ r there. made_is_row g new r new_rows (made_from_there g new r (omega (arith, part_new r, there))) })
       (λ r. omega (arith, part_old r, one_made g old r))
       (λ r. omega (arith, part_new r, one_made g new r))
       goes_from comes_from)

@@ -15,7 +15,7 @@ use Rattle.cedr_base.specs.declared.time.TheConstants.{FOREVER}
 use Rattle.cedr_base.specs.declared.field.Field.{Field}
 use Rattle.cedr_base.specs.declared.row.Row.{Row}
 use Rattle.cedr_base.specs.declared.change.Change.{Change}
-use Rattle.cedr_base.specs.Rows.{IsRow, row_cmp, count_of}
+use Rattle.cedr_base.specs.Rows.{IsRow, AreRows, row_cmp, count_of}
 use Rattle.cedr_base.specs.Changes.{IsChange, sync_of}
 use Rattle.cedr_stream.specs.Repairs.{IsMoved}
 use Rattle.cedr_stream.proofs.Moves.{sum_by-moved}
@@ -27,7 +27,8 @@ use Rattle.op_group.specs.TimeLaws.{below_test, above_test, same_count, false_no
 use Rattle.op_group.specs.CutLaws.{above_among, fits_from_there, there_from_fits}
 use Rattle.op_group.specs.SegmentLaws.{fits_alike, segment_fits, fits_segment, map_alike}
 use Rattle.op_group.specs.BoundLaws.{last_of, Outside, untouched_sums, edges_untouched, parts_untouched, Untouched}
-use Rattle.op_group.specs.State.{ShowsRows, AreRows, asked, Turned}
+use Rattle.op_group.specs.State.{ShowsRows, asked, Turned}
+use Rattle.cedr_table.proofs.RowsLemmas.{first_is, others_are}
 use Rattle.op_group.proofs.Times.{at_is, lt_cmp, gt_cmp, cmp_lt, not_lt_cmp}
 use Rattle.op_group.proofs.Shown.{shown_some}
 
@@ -284,8 +285,8 @@ edges_are_times rows t are cut = within_rows rows are (Rattle.std.proofs.lemmas.
     within_rows : (rows : List Row) → AreRows rows → 0 < edges_of rows t → t ≤ FOREVER
     within_rows [] are some = absurd (omega arith)
     within_rows (x ∷ rows) are some = elim (cases_lt 0 (edge_at t x)) [
-      | inl here ↦ one_edge t x (are x (Rattle.cedr_stream.proofs.BagSums.count_of-itself x rows)) here
-      | inr not_here ↦ within_rows rows (λ r there. are r (omega (arith, there, Rattle.cedr_base.proofs.Bags.count_of-cons r x rows))) (omega (arith, some, not_here, Rattle.std.proofs.lemmas.List.Sums.sum_by-cons (edge_at t) x rows))
+      | inl here ↦ one_edge t x (first_is x rows are) here
+      | inr not_here ↦ within_rows rows (others_are x rows are) (omega (arith, some, not_here, Rattle.std.proofs.lemmas.List.Sums.sum_by-cons (edge_at t) x rows))
     ]
 
 some_cut : (cuts : List (ℕ × Segment)) (sums : List ℕ) (rows : List Row) (t : ℕ) → ShowsRows sums cuts rows → IsSome (segment_at t cuts) → is_cut_of rows t ≡ true

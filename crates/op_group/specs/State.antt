@@ -9,7 +9,7 @@ use Rattle.cedr_base.specs.declared.row.Row.{Row}
 use Rattle.cedr_base.specs.declared.change.Change.{Change}
 use Rattle.cedr_base.specs.declared.change.Change.TheVariants.{Add, Cut}
 use Rattle.cedr_base.specs.Order.{payload_cmp}
-use Rattle.cedr_base.specs.Rows.{IsRow, count_of}
+use Rattle.cedr_base.specs.Rows.{count_of, AreRows}
 use Rattle.cedr_table.specs.Operators.{Tables, table_at, mark_at}
 use Rattle.op_group.specs.declared.segment.Segment.{Segment}
 use Rattle.op_group.specs.declared.index.Interval.{Interval}
@@ -17,10 +17,6 @@ use Rattle.op_group.specs.Index.{IsIndex}
 use Rattle.op_group.specs.Groups.{Grouping, rows_of, segments, grouped}
 use Rattle.op_group.specs.Cuts.{Shows, differences}
 use Rattle.op_group.specs.Measures.{edges_of, living_of, sums_of}
-
--- each is a row
-abbrev pub AreRows : List Row → Type 0
-AreRows rows = (r : Row) → 0 < count_of r rows → IsRow r
 
 -- the cut points of a group, where there are any
 abbrev pub entries_of : Option (BTreeMap ℕ Segment) → List (ℕ × Segment)

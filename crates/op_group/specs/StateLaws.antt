@@ -12,7 +12,8 @@ use Rattle.cedr_stream.proofs.Moves.{may_is}
 use Rattle.cedr_table.specs.Operators.{Tables, table_at, mark_at, with_table, CanTake, AllRise, SameTables}
 use Rattle.cedr_table.specs.PortLaws.{rise_length, rise_at, same_length, same_at, time_at, table_at-with}
 use Rattle.cedr_table.specs.OperatorLaws.{OperatorLaws}
-use Rattle.cedr_stream.proofs.BagSums.{sum_by-same}
+use Rattle.cedr_stream.proofs.BagSums.{sum_by-same, same_back}
+use Rattle.cedr_table.proofs.RowsLemmas.{same_are}
 use Rattle.op_group.specs.declared.segment.Segment.{Segment}
 use Rattle.op_group.specs.declared.index.Interval.{Interval}
 use Rattle.op_group.specs.Index.{interval_of, one_if_same_interval}
@@ -45,7 +46,7 @@ stands_alike g groups index tables others marks same h =
     record {
       table = same_length tables others same ∙ h.table;
       mark = h.mark;
-      rows = λ r there. h.rows r (let e = rows.each r in omega arith);
+      rows = same_are (table_at others 0) (table_at tables 0) (same_back (table_at tables 0) (table_at others 0) rows) h.rows;
       ordered = h.ordered;
       shown = λ key. shows_bag g key (cuts_of groups key) (table_at tables 0) (table_at others 0) rows (h.shown key);
       counted = λ i within. h.counted i within ∙ sum_by-same (λ r. one_if_same_interval (interval_of r) i) (grouped g (table_at tables 0)) (grouped g (table_at others 0)) (same_grouped g (table_at tables 0) (table_at others 0) rows);

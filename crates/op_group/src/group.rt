@@ -4,10 +4,11 @@ ghost use Rattle.std.specs.Ordering.{nat_cmp};
 ghost use Rattle.cedr_base.specs.declared.row.Row.{Row};
 ghost use Rattle.cedr_base.specs.declared.field.Field.{Field};
 ghost use Rattle.cedr_base.specs.Order.{payload_cmp};
+ghost use Rattle.cedr_base.specs.Rows.{AreRows};
 ghost use Rattle.cedr_base.specs.Changes.{IsChange, MayFollow};
 ghost use Rattle.cedr_stream.specs.Repairs.{IsMoved};
 ghost use Rattle.op_group.specs.Groups.{grouping_by, group_of, key_of, rows_of};
-ghost use Rattle.op_group.specs.State.{AreRows, ShowsRows, ShowsAll, AllOrdered, Answers, cuts_of, row_of};
+ghost use Rattle.op_group.specs.State.{ShowsRows, ShowsAll, AllOrdered, Answers, cuts_of, row_of};
 ghost use Rattle.op_group.specs.Index.{Follows};
 ghost use Rattle.cedr_base.specs.declared.change.Change.{Change as ChangeValue};
 
