@@ -8,4 +8,5 @@ pub mod GroupLaws
 pub mod BoundLaws
 pub mod Index
 pub mod State
+pub mod Held
 pub mod StateLaws

@@ -186,13 +186,14 @@ pub(crate) fn answer_indexed(
 impl Operator for Group {
     ghost use Rattle.op_group.specs.Groups.{grouping_by, group_of};
     ghost use Rattle.op_group.specs.State.{StandsForGroups};
+    ghost use Rattle.op_group.specs.Held.{group_held};
     ghost use Rattle.op_group.specs.StateLaws.{group_laws};
 
     ghost meaning = { λ s. group_of (grouping_by s.keys s.count s.sums.items) };
 
     ghost stands = { λ s tables marks. StandsForGroups (grouping_by s.keys s.count s.sums.items) s.groups.entries s.index.entries tables marks };
 
-    ghost held = { λ _. [] };
+    ghost held = { λ s. group_held s.groups.entries s.index.entries };
 
     fn ports(&self) -> usize {
         1
