@@ -66,6 +66,9 @@ returns-in-Join-clause-stands c = rw c.in-Join.is c.apply-in-Join.ensures.stands
 pub returns-in-Join-clause-repairs : goal.returns-in-Join-clause-repairs
 returns-in-Join-clause-repairs c = rw c.in-Join.is c.apply-in-Join.ensures.repairs
 
+pub returns-in-Join-clause-meaning : goal.returns-in-Join-clause-meaning
+returns-in-Join-clause-meaning c = rw c.in-Join.is c.apply-in-Join.ensures.meaning
+
 pub returns-in-Window-clause-stands : goal.returns-in-Window-clause-stands
 returns-in-Window-clause-stands c = rw c.in-Window.is c.apply-in-Window.ensures.stands
 
@@ -107,6 +110,9 @@ returns-in-Sequence-clause-stands c = rw c.in-Sequence.is c.apply-in-Sequence.en
 
 pub returns-in-Sequence-clause-repairs : goal.returns-in-Sequence-clause-repairs
 returns-in-Sequence-clause-repairs c = rw c.in-Sequence.is c.apply-in-Sequence.ensures.repairs
+
+pub returns-in-Sequence-clause-meaning : goal.returns-in-Sequence-clause-meaning
+returns-in-Sequence-clause-meaning c = rw c.in-Sequence.is c.apply-in-Sequence.ensures.meaning
 
 pub returns-in-Unless-clause-stands : goal.returns-in-Unless-clause-stands
 returns-in-Unless-clause-stands c = rw c.in-Unless.is c.apply-in-Unless.ensures.stands
