@@ -10,6 +10,7 @@ use Rattle.op_join.specs.Joins.{join_of, StandsOnTwo}
 use Rattle.op_life.specs.Lifetimes.{with_life, windowed, shifted, shifted_mark, hopped, hopped_mark, started, ended}
 use Rattle.op_group.specs.Groups.{grouping_by, group_of}
 use Rattle.op_group.specs.State.{StandsForGroups}
+use Rattle.op_group.specs.Held.{group_held}
 use Rattle.pat_rows.specs.Answers.{StandsByBegin}
 use Rattle.pat_seq.specs.Sequences.{sequence_of, IsSequence}
 use Rattle.pat_unless.specs.Blocking.{unless_of, AreWhiles}
@@ -49,7 +50,16 @@ ChosenStands (planned.Output op) = StandsForOne
 
 -- the rows that it holds, port by port
 abbrev pub chosen_held : Planned → Tables
+chosen_held (planned.Select op) = []
+chosen_held (planned.Project op) = []
+chosen_held (planned.Union op) = []
 chosen_held (planned.Join op) = all_under op.left.entries ∷ all_under op.right.entries ∷ []
+chosen_held (planned.Window op) = []
+chosen_held (planned.Shift op) = []
+chosen_held (planned.Hop op) = []
+chosen_held (planned.Starts op) = []
+chosen_held (planned.Ends op) = []
+chosen_held (planned.Group op) = group_held op.groups.entries op.index.entries
 chosen_held (planned.Sequence op) = op.kept.items
 chosen_held (planned.Unless op) = op.rows ∷ op.blockers ∷ []
-chosen_held other = []
+chosen_held (planned.Output op) = []
