@@ -13,7 +13,7 @@ pub type Step<'a> = (Given, &'a [WantedRow<'a>]);
 
 /// Applies the answers of an operator to the rows of its result, up to the first one that may not come. Whether all
 /// of them came.
-fn repair(rows: &mut Table, answers: &[Change]) -> bool {
+pub(crate) fn repair(rows: &mut Table, answers: &[Change]) -> bool {
     for answer in answers {
         if !may_come(rows, answer) || rows.apply(answer).is_err() {
             return false;

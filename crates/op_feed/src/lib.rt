@@ -7,3 +7,6 @@ mod leading;
 
 pub use feeding::{Given, Wanted, change_of, feed, gives, may_come, no_tables, note};
 pub use leading::{Step, WantedRow, leads};
+
+#[cfg(test)]
+mod tests;
