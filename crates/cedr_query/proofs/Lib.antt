@@ -2,3 +2,4 @@ pub mod Changing
 pub mod Feeding
 pub mod NodeLemmas
 pub mod QueryLemmas
+pub mod PlaceLemmas

@@ -61,7 +61,7 @@ inputs_are before node is =
     (λ k h. let input = (All-get_or (IsInput (map node_of before)) node.inputs.items k 0 h is.inputs).0 in omega (arith, input, length-map before node_of))
 
 -- what a node adds to the number of sources
-abbrev counted : PlanNode → ℕ
+abbrev pub counted : PlanNode → ℕ
 counted node = cond (is_source node.kind) 1 0
 
 -- before a source there are fewer sources than in all

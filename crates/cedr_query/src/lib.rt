@@ -6,9 +6,11 @@
 #![tactic(auto)]
 
 mod ask;
+mod law;
 mod node;
 mod query;
 
+pub use law::plan_places;
 pub use query::{evaluate, reach};
 
 #[cfg(test)]
