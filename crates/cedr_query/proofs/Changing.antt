@@ -4,14 +4,13 @@ use Rattle.std.proofs.lemmas.List.{append-nil, take_more}
 use Rattle.cedr_base.specs.declared.row.Row.{Row}
 use Rattle.cedr_base.specs.declared.change.Change.{Change}
 use Rattle.cedr_base.specs.declared.change.Change.TheVariants.{Add, Cut}
-use Rattle.cedr_base.specs.Rows.{count_of, SameRows, IsRow}
+use Rattle.cedr_base.specs.Rows.{count_of, SameRows, IsRow, AreRows}
 use Rattle.cedr_base.specs.Changes.{puts, takes, all_puts, all_takes, MayFollow}
 use Rattle.cedr_base.proofs.Bags.{count_of-append}
 use Rattle.std.proofs.lemmas.Bool.{cases_lt}
 use Rattle.cedr_stream.specs.Repairs.{IsMoved, AreLegal, Leads}
 use Rattle.cedr_stream.proofs.Moves.{may_is, puts_are_rows}
 use Rattle.cedr_stream.proofs.RepairLemmas.{takes-append, puts-append}
-use Rattle.cedr_query.specs.Asked.{HasRows}
 
 -- what may follow changes may follow in the table that they lead to
 follows_led : (old now : List Row) (before : List Change) (c : Change) → Leads old before now → MayFollow old before c → MayFollow now [] c
@@ -88,7 +87,7 @@ put_rows old before (c ∷ cs) r legal there = elim (cases_lt 0 (count_of r (put
 ]
 
 -- legal changes lead from rows to rows
-pub rows_led : (old new : List Row) (cs : List Change) → HasRows old → AreLegal old [] cs → Leads old cs new → HasRows new
+pub rows_led : (old new : List Row) (cs : List Change) → AreRows old → AreLegal old [] cs → Leads old cs new → AreRows new
 rows_led old new cs rows legal leads = record {
   each = λ r there. elim (cases_lt 0 (count_of r old)) [
     | inl was ↦ rows.each r was

@@ -7,14 +7,14 @@ use Rattle.cedr_base.specs.declared.row.Row.{Row}
 use Rattle.cedr_base.specs.declared.change.Change.{Change}
 use Rattle.cedr_base.specs.declared.change.Change.TheVariants.{Add}
 use Rattle.cedr_base.specs.declared.time.TheConstants.{FOREVER}
-use Rattle.cedr_base.specs.Rows.{count_of, SameRows, IsRow, in_order}
+use Rattle.cedr_base.specs.Rows.{count_of, SameRows, IsRow, in_order, AreRows}
 use Rattle.cedr_base.proofs.Bags.{count_of-append, count_of-cons}
 use Rattle.cedr_base.proofs.Sorting.{in_order_counts}
 use Rattle.cedr_stream.specs.Repairs.{IsMoved, AreLegal, Leads}
 use Rattle.cedr_stream.proofs.BagSums.{count_of-itself, same_itself, same_back, same_along}
 use Rattle.cedr_table.specs.Operators.{Tables, Meaning, table_at, mark_at, with_table, CanTake, Gains, AllRise, SameTables}
 use Rattle.cedr_table.specs.OperatorLaws.{OperatorLaws}
-use Rattle.cedr_query.specs.Asked.{HasRows, Works, IsAnswer}
+use Rattle.cedr_query.specs.Asked.{Works, IsAnswer}
 use Rattle.cedr_query.proofs.Changing.{legal_alike, leads_alike, rows_led}
 
 none_promised : (n k : ℕ) → mark_at (replicate n 0) k ≡ 0
@@ -121,11 +121,11 @@ pub with_last : (tables : Tables) (port i : ℕ) (rows : List Row) → length ro
 with_last tables port i rows past = ap (λ (t : List Row). set tables port (table_at tables port ++ t)) (take_all i rows past)
 
 -- rows in canonical order are rows
-pub order_has_rows : (rows : List Row) → HasRows rows → HasRows (in_order rows)
+pub order_has_rows : (rows : List Row) → AreRows rows → AreRows (in_order rows)
 order_has_rows rows has = record { each = λ r there. has.each r (omega (arith, (in_order_counts rows).each r)) }
 
 -- an item of a list is there
-pub at_has_row : (rows : List Row) (i : ℕ) (d : Row) → i < length rows → HasRows rows → IsRow (get_or rows i d)
+pub at_has_row : (rows : List Row) (i : ℕ) (d : Row) → i < length rows → AreRows rows → IsRow (get_or rows i d)
 at_has_row rows i d within has = has.each (get_or rows i d) (there rows i d within)
   where
     there : (xs : List Row) (k : ℕ) (e : Row) → k < length xs → 0 < count_of (get_or xs k e) xs

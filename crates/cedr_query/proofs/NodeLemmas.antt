@@ -5,12 +5,11 @@ use Rattle.std.proofs.lemmas.List.{append-nil, take_more, length-map}
 use Rattle.std.proofs.lemmas.List.Sums.{sum_by-cons}
 use Rattle.std.proofs.lemmas.List.Elements.{All-get_or, All-from_get_or}
 use Rattle.cedr_base.specs.declared.row.Row.{Row}
-use Rattle.cedr_base.specs.Rows.{count_of, SameRows, IsRow}
+use Rattle.cedr_base.specs.Rows.{count_of, SameRows, IsRow, AreRows}
 use Rattle.cedr_plan.specs.declared.plan.PlanNode.{PlanNode}
 use Rattle.cedr_plan.specs.Drawn.{Node, node_of, is_output as is_drawn_output}
 use Rattle.cedr_plan.specs.Rules.{IsInput, IsNode, AreNodes}
-use Rattle.cedr_table.specs.Operators.{Tables, SameTables, table_at}
-use Rattle.cedr_query.specs.Asked.{HasRows, AreRows}
+use Rattle.cedr_table.specs.Operators.{Tables, SameTables, table_at, HaveRows}
 use Rattle.cedr_query.specs.Queries.{each_node, source_count}
 use Rattle.op_planned.specs.Ready.{is_source}
 
@@ -32,17 +31,17 @@ same_tables_push [] (y ∷ us) t u same last = absurd same
 same_tables_push (x ∷ ts) [] t u same last = absurd same
 same_tables_push (x ∷ ts) (y ∷ us) t u same last = (same.0, same_tables_push ts us t u same.1 last)
 
-rows_push : (ts : Tables) (t : List Row) → ((k : ℕ) (r : Row) → 0 < count_of r (table_at ts k) → IsRow r) → HasRows t → (k : ℕ) (r : Row) → 0 < count_of r (table_at (ts ++ t ∷ []) k) → IsRow r
-rows_push [] t are has zero r there = has.each r there
-rows_push [] t are has (suc k) r there = absurd (omega arith)
-rows_push (x ∷ ts) t are has zero r there = are 0 r there
-rows_push (x ∷ ts) t are has (suc k) r there = rows_push ts t (λ j. are (suc j)) has k r there
+rows_push : (ts : Tables) (t : List Row) → ((k : ℕ) → AreRows (table_at ts k)) → AreRows t → (k : ℕ) → AreRows (table_at (ts ++ t ∷ []) k)
+rows_push [] t are has zero = has
+rows_push [] t are has (suc k) = are k
+rows_push (x ∷ ts) t are has zero = are 0
+rows_push (x ∷ ts) t are has (suc k) = rows_push ts t (λ j. are (suc j)) has k
 
-pub are_rows_push : (ts : Tables) (t : List Row) → AreRows ts → HasRows t → AreRows (ts ++ t ∷ [])
+pub are_rows_push : (ts : Tables) (t : List Row) → HaveRows ts → AreRows t → HaveRows (ts ++ t ∷ [])
 are_rows_push ts t are has = record { each = rows_push ts t are.each has }
 
-pub no_rows : AreRows []
-no_rows = record { each = λ k r there. absurd (omega arith) }
+pub no_rows : HaveRows []
+no_rows = record { each = λ k. record { each = λ r there. absurd (omega arith) } }
 
 node_behind : (earlier : List Node) (nodes : List PlanNode) (i : ℕ) (d : PlanNode) → AreNodes earlier (map node_of nodes) → i < length nodes → IsNode (earlier ++ map node_of (take i nodes)) (node_of (get_or nodes i d))
 node_behind earlier [] i d are within = absurd (omega arith)

@@ -7,17 +7,13 @@ use Rattle.std.proofs.lemmas.Bool.{lt-ltb}
 use Rattle.std.specs.Prelude.{Some, None}
 use Rattle.cedr_base.specs.declared.row.Row.{Row}
 use Rattle.cedr_base.specs.declared.time.TheConstants.{FOREVER}
-use Rattle.cedr_base.specs.Rows.{SameRows}
+use Rattle.cedr_base.specs.Rows.{SameRows, AreRows}
 use Rattle.cedr_plan.specs.declared.plan.PlanNode.{PlanNode}
 use Rattle.cedr_plan.specs.Drawn.{node_of}
 use Rattle.cedr_plan.specs.Rules.{IsNode, AreNodes}
 use Rattle.cedr_table.specs.Operators.{Tables, SameTables, AreTimes, table_at, mark_at}
 use Rattle.cedr_table.specs.PortLaws.{same_at, time_at}
-use Rattle.cedr_query.specs.Asked.{HasRows}
 use Rattle.cedr_query.proofs.NodeLemmas.{node_is, inputs_are}
-
-pub copied_rows : (copied rows : List Row) → SameRows copied rows → HasRows rows → HasRows copied
-copied_rows copied rows same has = record { each = λ r there. has.each r (omega (arith, there, same.each r)) }
 
 pub zeros_are_times : (n : ℕ) → AreTimes (replicate n 0)
 zeros_are_times zero = tt

@@ -1,9 +1,9 @@
 ghost use Rattle.std.specs.Prelude.{ℕ, ◌≡◌, ◌<◌, ◌++◌, ◌∷◌, [], List, All, OnOk, IfOk, length, map, replicate, slice_index};
-ghost use Rattle.cedr_base.specs.Rows.{IsRow};
+ghost use Rattle.cedr_base.specs.Rows.{IsRow, AreRows};
 ghost use Rattle.cedr_base.specs.Changes.{MayFollow};
 ghost use Rattle.cedr_stream.specs.Repairs.{IsMoved, AreLegal, Leads};
-ghost use Rattle.cedr_table.specs.Operators.{Tables, AreTimes, SameTables, table_at, with_table};
-ghost use Rattle.cedr_query.specs.Asked.{HasRows, AreRows, Works, IsAnswer};
+ghost use Rattle.cedr_table.specs.Operators.{Tables, AreTimes, SameTables, table_at, with_table, HaveRows};
+ghost use Rattle.cedr_query.specs.Asked.{Works, IsAnswer};
 
 use cedr_base::{Change, OutOfMemory, Row, Time};
 use cedr_table::{Operator, Table, TableFault};
@@ -69,7 +69,7 @@ fn add_rows<O: Operator>(
     rows: &[Row],
     made: &mut Table,
 ) -> Result<(), OutOfMemory>
-    requires rows { HasRows rows.now }
+    requires rows { AreRows rows.now }
     requires port { port < (O.meaning op.old).ports }
     requires works { (tables : Tables) × Works (O.meaning op.old) (O.stands op.old) tables made.old }
     ensures works { OnOk result ((tables : Tables) → Works (O.meaning op.old) (O.stands op.old) tables made.old → Works (O.meaning op.new) (O.stands op.new) (with_table tables port (table_at tables port ++ rows.now)) made.new) }
@@ -92,7 +92,7 @@ fn add_tables<O: Operator>(
     requires new { O.stands op.old (replicate (O.meaning op.old).ports []) (replicate (O.meaning op.old).ports 0) }
     requires ports { length inputs.now ≡ (O.meaning op.old).ports }
     requires inputs { All (λ place. place < length tables.now) inputs.now }
-    requires rows { AreRows tables.now }
+    requires rows { HaveRows tables.now }
     requires empty { made.old ≡ [] }
     ensures works { OnOk result ((others : Tables) → SameTables (map (table_at tables.now) inputs.now) others → Works (O.meaning op.new) (O.stands op.new) others made.new) }
     ensures meaning { OnOk result (O.meaning op.new ≡ O.meaning op.old) }
@@ -116,7 +116,7 @@ pub(crate) fn ask<O: Operator + Drop>(
     requires new { O.stands op (replicate (O.meaning op).ports []) (replicate (O.meaning op).ports 0) }
     requires ports { length inputs.now ≡ (O.meaning op).ports }
     requires inputs { All (λ place. place < length tables.now) inputs.now }
-    requires rows { AreRows tables.now }
+    requires rows { HaveRows tables.now }
     requires marks { length marks.now ≡ length inputs.now }
     requires times { AreTimes marks.now }
     ensures { IfOk result (λ answer. (others : Tables) → SameTables (map (table_at tables.now) inputs.now) others → IsAnswer (O.meaning op) others marks.now answer.rows answer.mark) }

@@ -1,6 +1,6 @@
 ghost use Rattle.std.specs.Prelude.{ℕ, ◌≡◌, ◌<◌, All, IfOk, length};
-ghost use Rattle.cedr_table.specs.Operators.{Tables, AreTimes, SameTables};
-ghost use Rattle.cedr_query.specs.Asked.{AreRows, IsAnswer};
+ghost use Rattle.cedr_table.specs.Operators.{Tables, AreTimes, SameTables, HaveRows};
+ghost use Rattle.cedr_query.specs.Asked.{IsAnswer};
 ghost use Rattle.cedr_query.specs.Queries.{input_tables};
 ghost use Rattle.op_planned.specs.Meanings.{meaning_of};
 ghost use Rattle.op_planned.specs.Ready.{IsReady};
@@ -22,7 +22,7 @@ pub(crate) fn ask_node(
 ) -> Result<Answer, OutOfMemory>
     requires ready { IsReady node.now.kind (length node.now.inputs.items) }
     requires inputs { All (λ place. place < length tables.now) node.now.inputs.items }
-    requires rows { AreRows tables.now }
+    requires rows { HaveRows tables.now }
     requires marks { length marks.now ≡ length node.now.inputs.items }
     requires times { AreTimes marks.now }
     ensures { IfOk result (λ answer. (others : Tables) → SameTables (input_tables tables.now node.now) others → IsAnswer (meaning_of node.now) others marks.now answer.rows answer.mark) }

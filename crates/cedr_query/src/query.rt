@@ -1,8 +1,7 @@
 ghost use Rattle.std.specs.Prelude.{ℕ, ◌≡◌, ◌<◌, ◌≤◌, [], All, IfOk, OnOk, true, false, length};
-ghost use Rattle.cedr_base.specs.Rows.{SameRows};
-ghost use Rattle.cedr_table.specs.Operators.{Tables, AreTimes, SameTables, table_at, mark_at};
+ghost use Rattle.cedr_base.specs.Rows.{SameRows, AreRows};
+ghost use Rattle.cedr_table.specs.Operators.{Tables, AreTimes, SameTables, table_at, mark_at, HaveRows};
 ghost use Rattle.cedr_base.specs.declared.time.TheConstants.{FOREVER};
-ghost use Rattle.cedr_query.specs.Asked.{HasRows, AreRows};
 ghost use Rattle.cedr_query.specs.Queries.{is_output, source_count, output_place, query, reaches, each_node, node_table, node_mark};
 ghost use Rattle.op_planned.specs.Ready.{is_source, IsReady};
 ghost use Rattle.cedr_plan.specs.Rules.{IsPlan};
@@ -49,10 +48,10 @@ fn find_table(
     requires source { is_source node.now.kind ≡ true → source_count before.now < length sources.now }
     requires ready { is_source node.now.kind ≡ false → IsReady node.now.kind (length node.now.inputs.items) }
     requires inputs { All (λ place. place < length tables.now) node.now.inputs.items }
-    requires rows { AreRows tables.now }
-    requires source_rows { AreRows sources.now }
+    requires rows { HaveRows tables.now }
+    requires source_rows { HaveRows sources.now }
     ensures same { IfOk result (λ table. (others : Tables) → SameTables tables.now others → SameRows table (node_table sources.now before.now others node.now)) }
-    ensures rows { IfOk result HasRows }
+    ensures rows { IfOk result AreRows }
 {
     if is_source(&node.kind) {
         let copied = sources[count_sources(before)].copy()?;
@@ -67,9 +66,9 @@ fn find_table(
 fn find_tables(alloc: Global, plan: &Plan, sources: &[Table]) -> Result<Vec<Table>, OutOfMemory>
     requires plan { IsPlan plan.now }
     requires count { length sources.now ≡ source_count plan.now.nodes.items }
-    requires rows { AreRows sources.now }
+    requires rows { HaveRows sources.now }
     ensures same { IfOk result (λ tables. SameTables tables.items (query sources.now plan.now.nodes.items)) }
-    ensures rows { IfOk result (λ tables. AreRows tables.items) }
+    ensures rows { IfOk result (λ tables. HaveRows tables.items) }
     ensures len { IfOk result (λ tables. length tables.items ≡ length plan.now.nodes.items) }
 {
     let nodes = plan.nodes.as_slice();
@@ -100,7 +99,7 @@ fn find_mark(
     requires ready { is_source node.now.kind ≡ false → IsReady node.now.kind (length node.now.inputs.items) }
     requires inputs { All (λ place. place < length tables.now) node.now.inputs.items }
     requires earlier { All (λ place. place < length marks.now) node.now.inputs.items }
-    requires rows { AreRows tables.now }
+    requires rows { HaveRows tables.now }
     requires source_times { AreTimes sources.now }
     requires times { AreTimes marks.now }
     ensures is { IfOk result (λ mark. (others : Tables) → SameTables tables.now others → mark ≡ node_mark others sources.now before.now marks.now node.now) }
@@ -127,7 +126,7 @@ fn find_marks(
     requires plan { IsPlan plan.now }
     requires count { length sources.now ≡ source_count plan.now.nodes.items }
     requires tables { length tables.now ≡ length plan.now.nodes.items }
-    requires rows { AreRows tables.now }
+    requires rows { HaveRows tables.now }
     requires times { AreTimes sources.now }
     ensures len { IfOk result (λ marks. length marks.items ≡ length plan.now.nodes.items) }
     ensures marks { IfOk result (λ marks. (others : Tables) → SameTables tables.now others → marks.items ≡ each_node (node_mark others sources.now) [] [] plan.now.nodes.items) }
@@ -163,10 +162,13 @@ fn find_output(nodes: &[PlanNode]) -> usize
 
 /// The query of a plan from scratch: the rows of its output, from one table for each source, in plan order. It takes a
 /// change for each row that a node reads. The tables are left as they are.
+///
+/// A [`Table`] doesn't say that each of its rows begins before it ends (an aligner files rows with these two exchanged),
+/// so that is asked for here. The table of a legal list of messages has rows only.
 pub fn evaluate(alloc: Global, plan: &Plan, sources: &[Table]) -> Result<Table, OutOfMemory>
     requires plan { IsPlan plan.now }
     requires count { length sources.now ≡ source_count plan.now.nodes.items }
-    requires rows { AreRows sources.now }
+    requires rows { HaveRows sources.now }
     ensures { IfOk result (λ table. SameRows table (table_at (query sources.now plan.now.nodes.items) (output_place plan.now.nodes.items))) }
 {
     let mut tables = find_tables(alloc, plan, sources)?;
@@ -176,6 +178,9 @@ pub fn evaluate(alloc: Global, plan: &Plan, sources: &[Table]) -> Result<Table, 
 
 /// How far a plan's output reaches from scratch: the guarantee that its output has, from one table and one guarantee for
 /// each source, in plan order. It takes two changes for each row that a node reads. The tables are left as they are.
+///
+/// A [`Table`] doesn't say that each of its rows begins before it ends (an aligner files rows with these two exchanged),
+/// so that is asked for here. The table of a legal list of messages has rows only.
 pub fn reach(
     alloc: Global,
     plan: &Plan,
@@ -186,7 +191,7 @@ pub fn reach(
     requires count { length sources.now ≡ source_count plan.now.nodes.items }
     requires marks { length marks.now ≡ source_count plan.now.nodes.items }
     requires times { AreTimes marks.now }
-    requires rows { AreRows sources.now }
+    requires rows { HaveRows sources.now }
     ensures { IfOk result (λ mark. mark ≡ mark_at (reaches sources.now marks.now plan.now.nodes.items) (output_place plan.now.nodes.items)) }
 {
     let tables = find_tables(alloc, plan, sources)?;

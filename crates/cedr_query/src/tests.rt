@@ -1,8 +1,8 @@
 ghost use Rattle.std.specs.Prelude.{◌≡◌, ◌≤◌, true, IfOk, OnOk, length};
-ghost use Rattle.cedr_base.specs.Rows.{IsRow};
+ghost use Rattle.cedr_base.specs.Rows.{IsRow, AreRows};
 ghost use Rattle.cedr_base.specs.declared.time.TheConstants.{FOREVER};
 ghost use Rattle.cedr_plan.specs.Rules.{IsPlan};
-ghost use Rattle.cedr_query.specs.Asked.{HasRows, AreRows};
+ghost use Rattle.cedr_table.specs.Operators.{HaveRows};
 ghost use Rattle.cedr_query.specs.Queries.{source_count};
 ghost use Rattle.op_planned.specs.Ready.{is_source};
 
@@ -47,8 +47,8 @@ fn is_row(row: &Row) -> bool
 
 /// A table gets a copy of a row, where it is one.
 fn put(alloc: Global, table: &mut Table, row: &Row) -> Result<(), Fail>
-    requires { HasRows table.old }
-    ensures { OnOk result (HasRows table.new) }
+    requires { AreRows table.old }
+    ensures { OnOk result (AreRows table.new) }
 {
     if is_row(row) {
         let copied = row.copy(alloc)?;
@@ -60,7 +60,7 @@ fn put(alloc: Global, table: &mut Table, row: &Row) -> Result<(), Fail>
 
 /// A copy of a table, whose rows are tested.
 fn tested(alloc: Global, table: &Table) -> Result<Table, Fail>
-    ensures { IfOk result HasRows }
+    ensures { IfOk result AreRows }
 {
     let rows = table.canonical()?;
     let mut copied = Table::new(alloc);
@@ -72,7 +72,7 @@ fn tested(alloc: Global, table: &Table) -> Result<Table, Fail>
 
 /// Copies of tables, whose rows are tested.
 fn all_tested(alloc: Global, tables: &[Table]) -> Result<Vec<Table>, Fail>
-    ensures { IfOk result (λ copied. AreRows copied.items) }
+    ensures { IfOk result (λ copied. HaveRows copied.items) }
 {
     let mut copied = Vec::new(alloc);
     for table in tables {

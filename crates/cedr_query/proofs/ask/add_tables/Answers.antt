@@ -2,17 +2,16 @@ use Rattle.std.proofs.Common.{◌≡◌, ℕ, ◌<◌, ◌+◌, ◌++◌, List, 
 use Rattle.std.specs.Prelude.{replicate}
 use Rattle.std.proofs.lemmas.List.Elements.{All-get_or}
 use Rattle.cedr_base.specs.declared.row.Row.{Row}
-use Rattle.cedr_base.specs.Rows.{in_order}
-use Rattle.cedr_table.specs.Operators.{Tables, Meaning, table_at, with_table}
-use Rattle.cedr_query.specs.Asked.{HasRows, AreRows}
+use Rattle.cedr_base.specs.Rows.{in_order, AreRows}
+use Rattle.cedr_table.specs.Operators.{Tables, Meaning, table_at, with_table, HaveRows}
 use Rattle.cedr_query.proofs.Feeding.{FedTo, fed_next, order_has_rows, works_fed, read_is}
 use Rattle.cedr_query.proofs.ask.add_tables.Goals as goal
 
 rows_are : (tables : Tables) (inputs : List ℕ) (port : ℕ) (table rows : List Row) → get_or inputs port 0 < length tables → table ≡ get_or tables (get_or inputs port 0) table → rows ≡ in_order table → rows ≡ in_order (table_at tables (get_or inputs port 0))
 rows_are tables inputs port table rows within is order = order ∙ ap in_order (read_is tables (get_or inputs port 0) table within is)
 
-read_rows : (tables : Tables) (place : ℕ) (rows : List Row) → AreRows tables → rows ≡ in_order (table_at tables place) → HasRows rows
-read_rows tables place rows are is = subst HasRows (sym is) (order_has_rows (table_at tables place) (record { each = are.each place }))
+read_rows : (tables : Tables) (place : ℕ) (rows : List Row) → HaveRows tables → rows ≡ in_order (table_at tables place) → AreRows rows
+read_rows tables place rows are is = subst AreRows (sym is) (order_has_rows (table_at tables place) (are.each place))
 
 pub add_rows-requires-clause-rows : goal.add_rows-requires-clause-rows
 add_rows-requires-clause-rows g c =

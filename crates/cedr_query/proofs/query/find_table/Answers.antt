@@ -1,12 +1,13 @@
 use Rattle.std.proofs.Common.{◌<◌, ◌∙◌, sym, subst, ℕ, List, Bool, arith}
 use Rattle.std.specs.Prelude.{if◌then◌else◌}
 use Rattle.cedr_base.specs.declared.row.Row.{Row}
-use Rattle.cedr_base.specs.Rows.{SameRows, count_of}
+use Rattle.cedr_base.specs.Rows.{AreRows, SameRows}
 use Rattle.cedr_table.specs.Operators.{AreTimes, table_at}
+use Rattle.cedr_table.proofs.RowsLemmas.{same_are}
 use Rattle.cedr_query.specs.Queries.{source_count, input_tables}
 use Rattle.op_planned.specs.Meanings.{meaning_of}
 use Rattle.cedr_query.proofs.Feeding.{read_is, same_tables_itself}
-use Rattle.cedr_query.proofs.QueryLemmas.{copied_rows, zeros_are_times, same_inputs}
+use Rattle.cedr_query.proofs.QueryLemmas.{zeros_are_times, same_inputs}
 use Rattle.cedr_query.proofs.query.find_table.Goals as goal
 
 pub returns-then-is_source-clause-rows : goal.returns-then-is_source-clause-rows
@@ -14,8 +15,7 @@ returns-then-is_source-clause-rows c =
     let t = c.index-sources-count_sources.result in
     let fewer = c.requires.source (sym c.is_source.ensures ∙ c.if-is_source.true) in
     let at = read_is c.args.sources.now c.count_sources.result t (omega (arith, fewer, c.count_sources.ensures)) c.index-sources-count_sources.is in
-    copied_rows c.in_ok-copied.copied t c.in_ok-copied.ensures
-    (record { each = λ r there. c.requires.source_rows.each c.count_sources.result r (subst (λ (rows : List Row). 0 < count_of r rows) at there) })
+    same_are c.in_ok-copied.copied t c.in_ok-copied.ensures (subst AreRows (sym at) (c.requires.source_rows.each c.count_sources.result))
 
 pub ask_node-requires-clause-times : goal.ask_node-requires-clause-times
 ask_node-requires-clause-times c = subst (λ (ms : List ℕ). AreTimes ms) (sym (c.as_slice.ensures.value ∙ c.in_ok-marks.ensures)) (zeros_are_times c.len.result)

@@ -1,9 +1,8 @@
 use Rattle.std.proofs.Common.{◌≡◌, ◌<◌, ◌+◌, ◌++◌, ◌∷◌, ◌∙◌, [], sym, ap, subst, arith, length, take}
 use Rattle.cedr_plan.specs.declared.plan.PlanNode.{PlanNode}
 use Rattle.cedr_plan.specs.Drawn.{node_of}
-use Rattle.cedr_table.specs.Operators.{Tables, SameTables}
+use Rattle.cedr_table.specs.Operators.{Tables, SameTables, HaveRows}
 use Rattle.std.specs.Prelude.{map}
-use Rattle.cedr_query.specs.Asked.{AreRows}
 use Rattle.cedr_query.specs.Queries.{each_node, node_table}
 use Rattle.cedr_query.proofs.NodeLemmas.{one_node_more, same_tables_push, are_rows_push}
 use Rattle.op_planned.specs.ReadyLaws.{node_ready}
@@ -48,6 +47,6 @@ loop-place-preserved c =
     record {
       same = subst (λ (ts : Tables). SameTables ts (each_node (node_table sources) [] [] (take (i + 1) nodes))) (sym c.in_ok-push.ensures.items)
           (subst (λ (vs : Tables). SameTables (tables ++ t ∷ []) vs) (sym all) (same_tables_push tables us t u l.invariant.same here));
-      rows = subst (λ (ts : Tables). AreRows ts) (sym c.in_ok-push.ensures.items) (are_rows_push tables t l.invariant.rows c.in_ok-table.ensures.rows);
+      rows = subst (λ (ts : Tables). HaveRows ts) (sym c.in_ok-push.ensures.items) (are_rows_push tables t l.invariant.rows c.in_ok-table.ensures.rows);
       len = omega (arith, c.in_ok-push.ensures.len, l.invariant.len);
     }

@@ -1,5 +1,5 @@
-use Rattle.cedr_query.specs.Asked.{HasRows}
+use Rattle.cedr_base.specs.Rows.{AreRows}
 use Rattle.cedr_query.proofs.tests.tested.Given as goal
 
 abbrev pub invariant-loop-row : goal.invariant-loop-row
-invariant-loop-row l = HasRows l.copied
+invariant-loop-row l = AreRows l.copied
