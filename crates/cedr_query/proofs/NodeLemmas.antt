@@ -5,7 +5,7 @@ use Rattle.std.proofs.lemmas.List.{append-nil, take_more, length-map}
 use Rattle.std.proofs.lemmas.List.Sums.{sum_by-cons}
 use Rattle.std.proofs.lemmas.List.Elements.{All-get_or, All-from_get_or}
 use Rattle.cedr_base.specs.declared.row.Row.{Row}
-use Rattle.cedr_base.specs.Rows.{count_of, SameRows, IsRow, AreRows}
+use Rattle.cedr_base.specs.Rows.{SameRows, AreRows}
 use Rattle.cedr_plan.specs.declared.plan.PlanNode.{PlanNode}
 use Rattle.cedr_plan.specs.Drawn.{Node, node_of, is_output as is_drawn_output}
 use Rattle.cedr_plan.specs.Rules.{IsInput, IsNode, AreNodes}

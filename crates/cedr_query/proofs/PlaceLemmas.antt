@@ -1,6 +1,6 @@
 -- Where the output and the sources of a plan stand among its nodes.
 use Rattle.std.proofs.Common.{◌≡◌, ℕ, ◌+◌, ◌<◌, List, [], ◌∷◌, ◌++◌, Bool, true, false, cond, not, length, refl, ap, subst, sym, ◌∙◌, arith}
-use Rattle.std.specs.Prelude.{map, count_by, unwrap_or, nat_lt, Some, None}
+use Rattle.std.specs.Prelude.{map, count_by}
 use Rattle.std.specs.List.{position_or_len}
 use Rattle.std.proofs.lemmas.List.Sums.{sum_by-cons, sum_by-append}
 use Rattle.cedr_plan.specs.declared.plan.NodeKind.{NodeKind}

@@ -1,5 +1,5 @@
 -- Bags that have rows only.
-use Rattle.std.proofs.Common.{◌<◌, inl, inr, List, [], ◌∷◌, arith}
+use Rattle.std.proofs.Common.{◌<◌, inl, inr, List, ◌∷◌, arith}
 use Rattle.cedr_base.specs.declared.row.Row.{Row}
 use Rattle.cedr_base.specs.declared.change.Change.{Change}
 use Rattle.cedr_base.specs.Rows.{count_of, IsRow, AreRows, SameRows}

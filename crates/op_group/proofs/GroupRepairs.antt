@@ -11,7 +11,7 @@ use Rattle.cedr_base.specs.Changes.{IsChange, sync_of, puts, takes, MayFollow}
 use Rattle.cedr_base.proofs.Bags.{count_of-append, one_of_itself}
 use Rattle.cedr_stream.specs.Repairs.{IsMoved, Repair}
 use Rattle.cedr_stream.proofs.BagSums.{sum_by-without}
-use Rattle.cedr_stream.proofs.Moves.{sum_by-moved, row_came, puts_are_rows, remnant_some, remnant_none}
+use Rattle.cedr_stream.proofs.Moves.{sum_by-moved, remnant_some, remnant_none}
 use Rattle.cedr_stream.proofs.RepairLemmas.{repair_by_turns}
 use Rattle.op_group.specs.declared.segment.Segment.{Segment}
 use Rattle.op_group.specs.Groups.{Grouping, number_at, key_of, same_payload, rows_of, segments, grouped, open_from}

@@ -9,9 +9,7 @@ use Rattle.cedr_base.specs.declared.change.Change.{Change}
 use Rattle.cedr_base.specs.declared.change.Change.TheVariants.{Add, Cut}
 use Rattle.cedr_base.specs.Rows.{count_of, AreRows}
 use Rattle.cedr_base.specs.Changes.{sync_of, IsChange, puts, takes, all_puts, all_takes}
-use Rattle.cedr_base.proofs.Bags.{count_of-cons}
 use Rattle.cedr_stream.specs.Repairs.{AllFrom}
-use Rattle.cedr_stream.proofs.BagSums.{count_of-itself}
 use Rattle.cedr_stream.proofs.RepairLemmas.{AllChanges, AllChanges-append, AllFrom-append, takes-flat_map, puts-flat_map, takes_adds, Turns}
 use Rattle.cedr_table.specs.Choices.{chosen}
 use Rattle.cedr_table.proofs.ChoiceLemmas.{sum_chosen, sum_chosen-cons, count_chosen}

@@ -10,7 +10,7 @@ use Rattle.cedr_base.specs.declared.change.Change.{Change}
 use Rattle.cedr_base.specs.declared.change.Change.TheVariants.{Add, Cut}
 use Rattle.cedr_base.specs.Order.{payload_cmp}
 use Rattle.cedr_base.specs.Rows.{count_of, AreRows, SameRows}
-use Rattle.cedr_base.specs.Changes.{IsChange, puts, takes, MayFollow}
+use Rattle.cedr_base.specs.Changes.{puts, takes, MayFollow}
 use Rattle.cedr_base.proofs.Bags.{count_of-append}
 use Rattle.cedr_stream.specs.Repairs.{IsMoved}
 use Rattle.cedr_stream.proofs.Moves.{may_is}

@@ -1,13 +1,10 @@
 -- What a node means that is as an accepted plan has it keeps the laws of meanings.
-use Rattle.std.proofs.Common.{◌≡◌, ℕ, zero, suc, ◌<◌, ◌≤◌, List, [], length, replicate, refl, subst, sym, arith}
-use Rattle.std.proofs.lemmas.List.{length-replicate}
+use Rattle.std.proofs.Common.{◌≡◌, ℕ, zero, suc, ◌<◌, ◌≤◌, List, [], replicate, refl, subst, sym, arith}
 use Rattle.cedr_base.specs.declared.time.TheConstants.{FOREVER}
 use Rattle.cedr_base.specs.declared.row.Row.{Row}
-use Rattle.cedr_base.specs.Rows.{SameRows}
 use Rattle.cedr_expr.specs.declared.test.Test.{Test}
 use Rattle.cedr_plan.specs.declared.plan.NodeKind.{NodeKind}
 use Rattle.cedr_plan.specs.declared.plan.NodeKind.TheVariants as kind
-use Rattle.cedr_stream.specs.Times.{IsWhile}
 use Rattle.cedr_stream.proofs.BagSums.{same_flat_map}
 use Rattle.cedr_table.specs.Operators.{table_at, mark_at, least_of}
 use Rattle.cedr_table.specs.PortLaws.{same_at, rise_at, time_at, least_rises, least_is_time}

@@ -1,6 +1,5 @@
-use Rattle.std.proofs.Common.{◌<◌, ◌∙◌, sym, subst, ℕ, List, Bool, arith}
+use Rattle.std.proofs.Common.{◌∙◌, sym, subst, ℕ, List, Bool, arith}
 use Rattle.std.specs.Prelude.{if◌then◌else◌}
-use Rattle.cedr_base.specs.declared.row.Row.{Row}
 use Rattle.cedr_base.specs.Rows.{AreRows, SameRows}
 use Rattle.cedr_table.specs.Operators.{AreTimes, table_at}
 use Rattle.cedr_table.proofs.RowsLemmas.{same_are}
