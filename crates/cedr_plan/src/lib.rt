@@ -4,7 +4,7 @@
 //! exactly as `plan_of` in `specs/Plans.antt` says. The plan language is there in parts: what the members and
 //! the ports of each operator are (`Operators`), each fault of a node and the types of its result (`Nodes`,
 //! `NodeFaults`), and the document (`Plans`). An accepted plan keeps the rules of `IsPlan` (`Rules`), which
-//! whatever takes a plan asks for.
+//! whatever takes a plan asks for. A copy of a node equals its source.
 #![tactic(auto)]
 
 mod check;
@@ -30,5 +30,7 @@ pub use fault::{PlanFault, PlanKind};
 pub use plan::{NodeKind, Plan, PlanNode};
 pub use reader::{PLAN_LIMIT, read_plan};
 
+#[cfg(test)]
+mod copy_tests;
 #[cfg(test)]
 mod tests;

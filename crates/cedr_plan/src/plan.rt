@@ -1,5 +1,9 @@
-use cedr_base::{FieldType, Level, Text};
+ghost use Rattle.std.specs.Prelude.{◌≡◌, IfOk};
+ghost use Rattle.cedr_plan.specs.Drawn.{group, kind_of, node_of};
+
+use cedr_base::{FieldType, Level, OutOfMemory, Text};
 use cedr_expr::{Keep, Tests};
+use std::alloc::Global;
 
 /// What a node does, with its numbers in application time.
 #[derive(Drop)]
@@ -60,4 +64,77 @@ pub struct PlanNode {
 pub struct Plan {
     pub nodes: Vec<PlanNode>,
     pub edge: usize,
+}
+
+impl NodeKind {
+    /// O(n) in the tests, the columns and the file's name.
+    pub fn copy(&self, alloc: Global) -> Result<NodeKind, OutOfMemory>
+        ensures { IfOk result (λ kind. kind_of kind ≡ kind_of self.now) }
+    {
+        match self {
+            NodeKind::Source { file } => Ok(NodeKind::Source {
+                file: file.copy(alloc)?,
+            }),
+            NodeKind::Select(tests) => Ok(NodeKind::Select(tests.copy(alloc)?)),
+            NodeKind::Project(keep) => Ok(NodeKind::Project(keep.copy(alloc)?)),
+            NodeKind::Union => Ok(NodeKind::Union),
+            NodeKind::Join(tests) => Ok(NodeKind::Join(tests.copy(alloc)?)),
+            NodeKind::Window { width } => Ok(NodeKind::Window { width: *width }),
+            NodeKind::Shift { by } => Ok(NodeKind::Shift { by: *by }),
+            NodeKind::Hop { every, width } => Ok(NodeKind::Hop {
+                every: *every,
+                width: *width,
+            }),
+            NodeKind::Starts => Ok(NodeKind::Starts),
+            NodeKind::Ends => Ok(NodeKind::Ends),
+            NodeKind::Group { keys, count, sums } => copy_group(
+                alloc,
+                keys,
+                *count,
+                sums.as_slice(),
+            ),
+            NodeKind::Sequence { scope, tests } => Ok(NodeKind::Sequence {
+                scope: *scope,
+                tests: tests.copy(alloc)?,
+            }),
+            NodeKind::Unless { scope, hold, tests } => Ok(NodeKind::Unless {
+                scope: *scope,
+                hold: *hold,
+                tests: tests.copy(alloc)?,
+            }),
+            NodeKind::Output => Ok(NodeKind::Output),
+        }
+    }
+}
+
+fn copy_group(
+    alloc: Global,
+    keys: &Keep,
+    count: bool,
+    sums: &[usize],
+) -> Result<NodeKind, OutOfMemory>
+    ensures { IfOk result (λ kind. kind_of kind ≡ group keys.now count sums.now) }
+{
+    let keys = keys.copy(alloc)?;
+    let sums = Vec::from_slice(alloc, sums)?;
+    Ok(NodeKind::Group { keys, count, sums })
+}
+
+impl PlanNode {
+    /// O(n) in what the node holds.
+    pub fn copy(&self, alloc: Global) -> Result<PlanNode, OutOfMemory>
+        ensures { IfOk result (λ node. node_of node ≡ node_of self.now) }
+    {
+        let name = self.name.copy(alloc)?;
+        let kind = self.kind.copy(alloc)?;
+        let inputs = Vec::from_slice(alloc, self.inputs.as_slice())?;
+        let types = Vec::from_slice(alloc, self.types.as_slice())?;
+        Ok(PlanNode {
+            name,
+            kind,
+            inputs,
+            level: self.level,
+            types,
+        })
+    }
 }
