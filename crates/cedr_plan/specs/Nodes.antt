@@ -133,9 +133,12 @@ result_types outcome.Grouped d first all = group_types (columns_at (codes "keys"
 
 -- how many fields a result of these types has, where a column that isn't there counts too
 abbrev pub result_width : Outcome → Data → List FieldType → ℕ
+result_width outcome.Declared d types = length types
+result_width outcome.First d types = length types
+result_width outcome.Alike d types = length types
 result_width outcome.Kept d types = length (columns_at (codes "keep") d)
+result_width outcome.Joined d types = length types
 result_width outcome.Grouped d types = length (columns_at (codes "keys") d) + (length (count_types (truth_at (codes "count") d)) + length (columns_at (codes "sum") d))
-result_width other d types = length types
 
 -- the types of a node's fields by its row, behind the earlier nodes
 abbrev pub types_under : Row → List Node → Data → List FieldType
@@ -170,9 +173,13 @@ has_missing_part row d = not (has (codes "name") is_name_value d) || (lacks_inpu
 
 -- over 16 fields or tests
 abbrev pub is_too_long : Form → Data → Bool
+is_too_long form.Text d = false
 is_too_long form.Types d = option_map_or (λ types. nat_lt 16 (length types)) (as_list d) false
 is_too_long form.Tests d = option_map_or (λ tests. nat_lt 16 (length tests)) (as_list d) false
-is_too_long other d = false
+is_too_long form.Columns d = false
+is_too_long form.Sums d = false
+is_too_long form.Truth d = false
+is_too_long form.Number d = false
 
 -- 5
 unfoldable pub has_too_many : Row → Data → Bool
@@ -180,11 +187,13 @@ has_too_many row d = nat_lt row.most (length (input_values row d)) || list_any (
 
 -- a number in it isn't whole or isn't in its range
 abbrev pub is_bad_number : Form → Data → Bool
+is_bad_number form.Text d = false
+is_bad_number form.Types d = false
 is_bad_number form.Tests d = option_map_or (list_any is_bad_test) (as_list d) false
 is_bad_number form.Columns d = option_map_or (list_any (λ column. is_none (as_whole column))) (as_list d) false
 is_bad_number form.Sums d = option_map_or (list_any (λ column. is_none (as_whole column))) (as_list d) false
+is_bad_number form.Truth d = false
 is_bad_number form.Number d = not (is_whole_within 1 (2 ^ 40) d)
-is_bad_number other d = false
 
 -- 6
 unfoldable pub has_bad_number : Row → Data → Bool
@@ -211,11 +220,18 @@ unfoldable pub is_too_wide : List Node → Row → Data → Bool
 is_too_wide earlier row d = nat_lt 16 (result_width row.outcome d (types_under row earlier d))
 
 abbrev pub is_bad_column : List FieldType → Data → Member → Bool
+is_bad_column types d member.File = false
+is_bad_column types d member.Fields = false
 is_bad_column types d member.Where = is_some (first_bad_column (tests_at d) types [])
 is_bad_column types d member.Keep = is_some (first_past_end (columns_at (codes "keep") d) types)
 is_bad_column types d member.Keys = is_some (first_past_end (columns_at (codes "keys") d) types)
+is_bad_column types d member.Count = false
 is_bad_column types d member.Sum = is_some (first_past_end (columns_at (codes "sum") d) types)
-is_bad_column types d other = false
+is_bad_column types d member.Width = false
+is_bad_column types d member.By = false
+is_bad_column types d member.Every = false
+is_bad_column types d member.Scope = false
+is_bad_column types d member.Hold = false
 
 -- 11: a column is past the end
 unfoldable pub has_bad_column : List Node → Row → Data → Bool
@@ -230,14 +246,27 @@ same_types (x ∷ xs) (y ∷ ys) = same_type x y && same_types xs ys
 same_types xs ys = false
 
 abbrev pub has_two_types : List FieldType → Data → Member → Bool
+has_two_types types d member.File = false
+has_two_types types d member.Fields = false
 has_two_types types d member.Where = is_some (first_differing (tests_at d) types [])
+has_two_types types d member.Keep = false
+has_two_types types d member.Keys = false
+has_two_types types d member.Count = false
 has_two_types types d member.Sum = list_any (is_text_column types) (columns_at (codes "sum") d)
-has_two_types types d other = false
+has_two_types types d member.Width = false
+has_two_types types d member.By = false
+has_two_types types d member.Every = false
+has_two_types types d member.Scope = false
+has_two_types types d member.Hold = false
 
 -- the ports of a node whose inputs have equal types haven't
 abbrev pub has_unlike_ports : Outcome → List (List FieldType) → Bool
+has_unlike_ports outcome.Declared ports = false
+has_unlike_ports outcome.First ports = false
 has_unlike_ports outcome.Alike ports = list_any (λ types. not (same_types (first_port ports) types)) ports
-has_unlike_ports other ports = false
+has_unlike_ports outcome.Kept ports = false
+has_unlike_ports outcome.Joined ports = false
+has_unlike_ports outcome.Grouped ports = false
 
 -- 12
 unfoldable pub has_type_difference : List Node → Row → Data → Bool

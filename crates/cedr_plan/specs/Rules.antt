@@ -52,12 +52,20 @@ pub record IsLevel (level : Level) : Type 0 where
 
 -- the numbers that a node is given
 abbrev pub numbers_of : Kind → List ℕ
+numbers_of (source file) = []
+numbers_of (select tests) = []
+numbers_of (project keep) = []
+numbers_of union = []
+numbers_of (join tests) = []
 numbers_of (window width) = width ∷ []
 numbers_of (shift by) = by ∷ []
 numbers_of (hop every width) = every ∷ width ∷ []
+numbers_of starts = []
+numbers_of ends = []
+numbers_of (group keys count sums) = []
 numbers_of (sequence scope tests) = scope ∷ []
 numbers_of (unless scope hold tests) = scope ∷ hold ∷ []
-numbers_of other = []
+numbers_of output = []
 
 abbrev pub IsNumber : ℕ → Type 0
 IsNumber number = (1 ≤ number) × (number ≤ 2 ^ 40)
@@ -74,23 +82,37 @@ AreSums ports sums = All (λ column. slice_get (all_ports ports) column ≡ Some
 
 -- what a node says of its columns fits the types of its ports
 abbrev pub FitsPorts : Kind → List (List FieldType) → Type 0
+FitsPorts (source file) ports = Unit {0}
 FitsPorts (select tests) ports = AreTests ports tests
 FitsPorts (project keep) ports = AreColumns ports keep
 FitsPorts union ports = All (λ types. types ≡ first_port ports) ports
 FitsPorts (join tests) ports = AreTests ports tests
+FitsPorts (window width) ports = Unit {0}
+FitsPorts (shift by) ports = Unit {0}
+FitsPorts (hop every width) ports = Unit {0}
+FitsPorts starts ports = Unit {0}
+FitsPorts ends ports = Unit {0}
 FitsPorts (group keys count sums) ports = AreColumns ports keys × AreSums ports sums
 FitsPorts (sequence scope tests) ports = AreTests ports tests
 FitsPorts (unless scope hold tests) ports = AreTests ports tests
-FitsPorts other ports = Unit {0}
+FitsPorts output ports = Unit {0}
 
 -- the field types of a result; a source's are its own
 abbrev pub HasTypes : Kind → List (List FieldType) → List FieldType → Type 0
 HasTypes (source file) ports types = Unit {0}
+HasTypes (select tests) ports types = types ≡ first_port ports
 HasTypes (project keep) ports types = types ≡ kept keep (all_ports ports)
+HasTypes union ports types = types ≡ first_port ports
 HasTypes (join tests) ports types = types ≡ all_ports ports
+HasTypes (window width) ports types = types ≡ first_port ports
+HasTypes (shift by) ports types = types ≡ first_port ports
+HasTypes (hop every width) ports types = types ≡ first_port ports
+HasTypes starts ports types = types ≡ first_port ports
+HasTypes ends ports types = types ≡ first_port ports
 HasTypes (group keys count sums) ports types = types ≡ group_types keys count sums (all_ports ports)
 HasTypes (sequence scope tests) ports types = types ≡ all_ports ports
-HasTypes other ports types = types ≡ first_port ports
+HasTypes (unless scope hold tests) ports types = types ≡ first_port ports
+HasTypes output ports types = types ≡ first_port ports
 
 -- a source has the middle level, since it has no port
 abbrev pub HasSourceLevel : Kind → Level → Type 0

@@ -74,7 +74,7 @@ pub(crate) fn is_too_long(form: Form, value: &Value) -> bool
 {
     match form {
         Form::Types | Form::Tests => has_over_sixteen(value),
-        _ => false,
+        Form::Text | Form::Columns | Form::Sums | Form::Truth | Form::Number => false,
     }
 }
 

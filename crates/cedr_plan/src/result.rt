@@ -104,7 +104,7 @@ pub(crate) fn result_width(
     match outcome {
         Outcome::Kept => Ok(columns_at(alloc, node, "keep")?.len()),
         Outcome::Grouped => group_width(alloc, node),
-        _ => Ok(types.len()),
+        Outcome::Declared | Outcome::First | Outcome::Alike | Outcome::Joined => Ok(types.len()),
     }
 }
 
@@ -123,7 +123,8 @@ pub(crate) fn has_unlike_ports(outcome: Outcome, earlier: &[PlanNode], inputs: &
 {
     match outcome {
         Outcome::Alike => some_are_unlike(first_port(earlier, inputs), earlier, inputs),
-        _ => false,
+        Outcome::Declared | Outcome::First | Outcome::Kept | Outcome::Joined | Outcome::Grouped =>
+            false,
     }
 }
 
