@@ -1,22 +1,27 @@
 -- What was read from a line is an event.
-use Rattle.std.proofs.Common.{◌≡◌, ℕ, ◌-◌, ◌<◌, ◌≤◌, List, [], ◌∷◌, Bool, true, false, cond, ◌&&◌, ◌||◌, length, Option, None, Some, Result, Ok, Err, IfSome, refl, ap, subst, arith}
+use Rattle.std.proofs.Common.{◌≡◌, ℕ, ◌-◌, ◌<◌, ◌≤◌, ◌↔◌, List, [], ◌∷◌, Bool, true, false, cond, ◌&&◌, ◌||◌, length, map, Option, None, Some, Result, Ok, Err, IfSome, refl, ap, ◌∙◌, subst, arith}
 use Rattle.std.specs.Prelude.{nat_lt, nat_le, nat_eq, codes}
 use Rattle.std.specs.List.{starts_with}
 use Rattle.std.specs.Str.{bytes_eq}
 use Rattle.std.specs.Str.Parse.{digits_value}
-use Rattle.std.proofs.lemmas.Bool.{and_parts, ltb-true, leb-true}
+use Rattle.std.proofs.lemmas.Bool.{and_parts, le-ltb, lt-ltb, ltb-true, leb-true}
 use Rattle.cedr_base.specs.declared.time.TheConstants.{FOREVER}
 use Rattle.cedr_base.specs.declared.field.Field.{Field}
+use Rattle.cedr_base.specs.declared.field.Field.TheVariants.{Bytes}
+use Rattle.cedr_base.specs.declared.field.FieldType.{FieldType}
 use Rattle.cedr_text.specs.declared.event_line.EventLine.{EventLine}
 use Rattle.cedr_text.specs.declared.event_line.Shape.{Shape}
+use Rattle.cedr_text.specs.declared.event_line.Shape.TheVariants.{AnyText, Fields}
 use Rattle.cedr_text.specs.declared.fault.LineFault.{LineFault}
-use Rattle.cedr_text.specs.declared.fault.LineFault.TheVariants.{BadForm, EmptyLife}
+use Rattle.cedr_text.specs.declared.fault.LineFault.TheVariants.{LineTooLong, BadForm, BadNumber, EmptyLife}
 use Rattle.cedr_text.specs.declared.fault.ReadLineFault.{ReadLineFault}
 use Rattle.cedr_text.specs.declared.fault.ReadLineFault.TheVariants as read_fault
+use Rattle.cedr_text.specs.declared.lines.TheConstants.{LINE_LIMIT}
+use Rattle.cedr_text.specs.Faults.{number_of}
 use Rattle.cedr_text.specs.Lines.{has_line_feed}
 use Rattle.cedr_text.specs.Numbers.{is_numeral, whole_number, id_value, begin_value, time_value}
 use Rattle.cedr_text.specs.Quoting.{line_fields, byte_order_mark}
-use Rattle.cedr_text.specs.Reading.{has_return, is_broken, Reads, payload_of, event, inserted, insertion, retracted, retraction, promised, guarantee, event_of, event_from, as_some, reading, IsEvent, SaysEvent}
+use Rattle.cedr_text.specs.Reading.{has_return, is_broken, Reads, field_value, with_field, typed_payload, payload_of, event, inserted, insertion, retracted, retraction, promised, guarantee, event_of, event_from, as_some, short_reading, reading, IsEvent, SaysEvent}
 
 -- a number is at most the last one
 whole_at : (test : Bool) (last value : ℕ) → (test ≡ true → value ≤ last) → IfSome (cond test (Some value) None) (λ n. n ≤ last)
@@ -45,54 +50,90 @@ time_at false (Some n) low = omega arith
 pub time_low : (text : List ℕ) → IfSome (time_value text) (λ n. n ≤ FOREVER)
 time_low text = time_at (bytes_eq text (codes "inf")) (begin_value text) (begin_finite text)
 
+-- a fault of a line that isn't too long
+abbrev pub IsShortFault : LineFault → Type 0
+IsShortFault fault = (2 ≤ number_of fault) × (number_of fault ≤ 5)
+
+bad_form : IsShortFault BadForm
+bad_form = (omega arith, omega arith)
+
+bad_number : IsShortFault BadNumber
+bad_number = (omega arith, omega arith)
+
 -- what was read is an event, if anything was
 abbrev pub IsEventIfRead : Result EventLine LineFault → Type 0
 IsEventIfRead (Ok line) = IsEvent line
-IsEventIfRead (Err fault) = Unit {0}
+IsEventIfRead (Err fault) = IsShortFault fault
+
+-- whatever was read, a fault is one of a line that isn't too long
+abbrev pub HasShortFault : {X : Type 0} → Result X LineFault → Type 0
+HasShortFault (Ok x) = Unit {0}
+HasShortFault (Err fault) = IsShortFault fault
+
+with_fault : (field : Option Field) (read : Result (Option (List Field)) LineFault) → HasShortFault read → HasShortFault (with_field field read)
+with_fault None (Ok fields) short = tt
+with_fault (Some field) (Ok None) short = tt
+with_fault (Some field) (Ok (Some fields)) short = tt
+with_fault None (Err fault) short = short
+with_fault (Some field) (Err fault) short = short
+
+typed_fault : (types : List FieldType) (texts : List (List ℕ)) → HasShortFault (typed_payload types texts)
+typed_fault [] [] = tt
+typed_fault [] (text ∷ texts) = bad_form
+typed_fault (type ∷ types) [] = bad_form
+typed_fault (type ∷ types) (text ∷ texts) = with_fault (field_value type text) (typed_payload types texts) (typed_fault types texts)
+
+few_fault : (few : Bool) (fields : Option (List Field)) → HasShortFault (cond few (Ok fields) (Err BadForm))
+few_fault true fields = tt
+few_fault false fields = bad_form
+
+payload_fault : (shape : Shape) (texts : List (List ℕ)) → HasShortFault (payload_of shape texts)
+payload_fault AnyText texts = few_fault (nat_le (length texts) 16) (Some (map (λ text. Bytes text) texts))
+payload_fault (Fields types) texts = typed_fault types.items texts
 
 event_of_payload : (id begin end : ℕ) (payload : Option (List Field)) → begin < FOREVER → end ≤ FOREVER → begin < end → IsEventIfRead (event id begin end payload)
-event_of_payload id begin end None finite low alive = tt
+event_of_payload id begin end None finite low alive = (omega arith, omega arith)
 event_of_payload id begin end (Some payload) finite low alive = record { lives = alive; begins = finite; ends = low }
 
 inserted_at : (test : Bool) (id begin end : ℕ) (payload : Option (List Field)) → nat_lt begin end ≡ test → begin < FOREVER → end ≤ FOREVER → IsEventIfRead (cond test (event id begin end payload) (Err EmptyLife))
 inserted_at true id begin end payload is finite low = event_of_payload id begin end payload finite low (ltb-true begin end is)
-inserted_at false id begin end payload is finite low = tt
+inserted_at false id begin end payload is finite low = (omega arith, omega arith)
 
 -- an insertion has a row
-pub inserted_event : (id begin end : Option ℕ) (payload : Result (Option (List Field)) LineFault) → IfSome begin (λ n. n < FOREVER) → IfSome end (λ n. n ≤ FOREVER) → IsEventIfRead (inserted id begin end payload)
-inserted_event id begin end (Err fault) finite low = tt
-inserted_event (Some id) (Some begin) (Some end) (Ok payload) finite low = inserted_at (nat_lt begin end) id begin end payload refl finite low
-inserted_event (Some id) (Some begin) None (Ok payload) finite low = tt
-inserted_event (Some id) None end (Ok payload) finite low = tt
-inserted_event None begin end (Ok payload) finite low = tt
+pub inserted_event : (id begin end : Option ℕ) (payload : Result (Option (List Field)) LineFault) → IfSome begin (λ n. n < FOREVER) → IfSome end (λ n. n ≤ FOREVER) → HasShortFault payload → IsEventIfRead (inserted id begin end payload)
+inserted_event id begin end (Err fault) finite low short = short
+inserted_event (Some id) (Some begin) (Some end) (Ok payload) finite low short = inserted_at (nat_lt begin end) id begin end payload refl finite low
+inserted_event (Some id) (Some begin) None (Ok payload) finite low short = bad_number
+inserted_event (Some id) None end (Ok payload) finite low short = bad_number
+inserted_event None begin end (Ok payload) finite low short = bad_number
 
 -- a retraction's new end is a time
 pub retracted_event : (id end : Option ℕ) → IfSome end (λ n. n ≤ FOREVER) → IsEventIfRead (retracted id end)
 retracted_event (Some id) (Some end) low = low
-retracted_event (Some id) None low = tt
-retracted_event None end low = tt
+retracted_event (Some id) None low = bad_number
+retracted_event None end low = bad_number
 
 -- a guarantee is a time
 pub promised_event : (time : Option ℕ) → IfSome time (λ n. n ≤ FOREVER) → IsEventIfRead (promised time)
 promised_event (Some time) low = low
-promised_event None low = tt
+promised_event None low = bad_number
 
 insertion_event : (shape : Shape) (fields : List (List ℕ)) → IsEventIfRead (insertion shape fields)
-insertion_event shape [] = tt
-insertion_event shape (id ∷ []) = tt
-insertion_event shape (id ∷ begin ∷ []) = tt
-insertion_event shape (id ∷ begin ∷ end ∷ texts) = inserted_event (id_value id) (begin_value begin) (time_value end) (payload_of shape texts) (begin_finite begin) (time_low end)
+insertion_event shape [] = bad_form
+insertion_event shape (id ∷ []) = bad_form
+insertion_event shape (id ∷ begin ∷ []) = bad_form
+insertion_event shape (id ∷ begin ∷ end ∷ texts) = inserted_event (id_value id) (begin_value begin) (time_value end) (payload_of shape texts) (begin_finite begin) (time_low end) (payload_fault shape texts)
 
 retraction_event : (fields : List (List ℕ)) → IsEventIfRead (retraction fields)
-retraction_event [] = tt
-retraction_event (id ∷ []) = tt
+retraction_event [] = bad_form
+retraction_event (id ∷ []) = bad_form
 retraction_event (id ∷ end ∷ []) = retracted_event (id_value id) (time_value end) (time_low end)
-retraction_event (id ∷ end ∷ more ∷ fields) = tt
+retraction_event (id ∷ end ∷ more ∷ fields) = bad_form
 
 guarantee_event : (fields : List (List ℕ)) → IsEventIfRead (guarantee fields)
-guarantee_event [] = tt
+guarantee_event [] = bad_form
 guarantee_event (time ∷ []) = promised_event (time_value time) (time_low time)
-guarantee_event (time ∷ more ∷ fields) = tt
+guarantee_event (time ∷ more ∷ fields) = bad_form
 
 kind_event : (is : Bool) (read other : Result EventLine LineFault) → IsEventIfRead read → IsEventIfRead other → IsEventIfRead (cond is read other)
 kind_event true read other event otherwise = event
@@ -100,33 +141,55 @@ kind_event false read other event otherwise = otherwise
 
 -- fields that have the form of a line say an event
 pub fields_event : (shape : Shape) (fields : List (List ℕ)) → IsEventIfRead (event_of shape fields)
-fields_event shape [] = tt
+fields_event shape [] = bad_form
 fields_event shape (kind ∷ fields) =
     let plus = bytes_eq kind (codes "+") in
     let minus = bytes_eq kind (codes "-") in
     let equals = bytes_eq kind (codes "=") in
     kind_event plus (insertion shape fields) (cond minus (retraction fields) (cond equals (guarantee fields) (Err BadForm))) (insertion_event shape fields)
     (kind_event minus (retraction fields) (cond equals (guarantee fields) (Err BadForm)) (retraction_event fields)
-    (kind_event equals (guarantee fields) (Err BadForm) (guarantee_event fields) tt))
+    (kind_event equals (guarantee fields) (Err BadForm) (guarantee_event fields) bad_form))
 
-said : (read : Result EventLine LineFault) → IsEventIfRead read → SaysEvent (as_some read)
-said (Ok line) event = event
-said (Err fault) event = tt
+-- what a line that isn't too long says
+abbrev SaysShort : Result (Option EventLine) LineFault → Type 0
+SaysShort read = SaysEvent read × HasShortFault read
 
-unless : (fails : Bool) (fault : LineFault) (read : Result (Option EventLine) LineFault) → SaysEvent read → SaysEvent (cond fails (Err fault) read)
-unless true fault read event = tt
-unless false fault read event = event
+said : (read : Result EventLine LineFault) → IsEventIfRead read → SaysShort (as_some read)
+said (Ok line) event = (event, tt)
+said (Err fault) short = (short.1, short)
+
+unless_broken : (broken : Bool) (read : Result (Option EventLine) LineFault) → SaysShort read → SaysShort (cond broken (Err BadForm) read)
+unless_broken true read says = (omega arith, bad_form)
+unless_broken false read says = says
 
 from_event : (shape : Shape) (fields : Option (List (List ℕ))) → IsEventIfRead (event_from shape fields)
-from_event shape None = tt
+from_event shape None = bad_form
 from_event shape (Some fields) = fields_event shape fields
+
+short_event : (shape : Shape) (line : List ℕ) → SaysShort (short_reading shape line)
+short_event shape [] = (tt, tt)
+short_event shape (b ∷ bs) =
+    let read = event_from shape (line_fields (b ∷ bs)) in
+    unless_broken (is_broken (b ∷ bs)) (as_some read) (said read (from_event shape (line_fields (b ∷ bs))))
+
+unless_long : (long : Bool) (read : Result (Option EventLine) LineFault) → SaysEvent read → SaysEvent (cond long (Err LineTooLong) read)
+unless_long true read says = omega arith
+unless_long false read says = says
 
 -- a line that was read is an event
 pub reading_event : (shape : Shape) (line : List ℕ) → SaysEvent (reading shape line)
-reading_event shape [] = tt
-reading_event shape (b ∷ bs) =
-    let read = event_from shape (line_fields (b ∷ bs)) in
-    unless (is_broken (b ∷ bs)) BadForm (as_some read) (said read (from_event shape (line_fields (b ∷ bs))))
+reading_event shape line = unless_long (nat_lt LINE_LIMIT (length line)) (short_reading shape line) (short_event shape line).0
+
+long_only : (long : Bool) (n : ℕ) (read : Result (Option EventLine) LineFault) → nat_lt LINE_LIMIT n ≡ long → HasShortFault read → cond long (Err LineTooLong) read ≡ Err LineTooLong → LINE_LIMIT < n
+long_only true n read is short e = ltb-true LINE_LIMIT n is
+long_only false n read is short e = let low : IsShortFault LineTooLong = subst HasShortFault e short in absurd (omega (arith, low.0))
+
+-- a line is too long exactly where it has more bytes than it may
+pub long_line : (shape : Shape) (line : List ℕ) → (reading shape line ≡ Err LineTooLong) ↔ (LINE_LIMIT < length line)
+long_line shape line = (
+  long_only (nat_lt LINE_LIMIT (length line)) (length line) (short_reading shape line) refl (short_event shape line).1,
+  λ long. ap (λ test. cond test (Err LineTooLong) (short_reading shape line)) (lt-ltb LINE_LIMIT (length line) long),
+)
 
 -- ---- how the code reads
 
@@ -139,10 +202,17 @@ no_break false false c h = (refl, refl, h)
 pub unbroken : (line : List ℕ) → is_broken line ≡ false → (has_return line ≡ false) × (has_line_feed line ≡ false) × (starts_with nat_eq line byte_order_mark ≡ false)
 unbroken line whole = no_break (has_return line) (has_line_feed line) (starts_with nat_eq line byte_order_mark) whole
 
--- its fields say what it says
-pub reading_whole : (shape : Shape) (line : List ℕ) → 0 < length line → is_broken line ≡ false → reading shape line ≡ as_some (event_from shape (line_fields line))
-reading_whole shape [] some whole = absurd (omega arith)
-reading_whole shape (b ∷ bs) some whole = ap (λ test. cond test (Err BadForm) (as_some (event_from shape (line_fields (b ∷ bs))))) whole
+short_whole : (shape : Shape) (line : List ℕ) → 0 < length line → is_broken line ≡ false → short_reading shape line ≡ as_some (event_from shape (line_fields line))
+short_whole shape [] some whole = absurd (omega arith)
+short_whole shape (b ∷ bs) some whole = ap (λ test. cond test (Err BadForm) (as_some (event_from shape (line_fields (b ∷ bs))))) whole
+
+-- a line that isn't too long says what it says by itself
+pub reading_short : (shape : Shape) (line : List ℕ) → length line ≤ LINE_LIMIT → reading shape line ≡ short_reading shape line
+reading_short shape line short = ap (λ test. cond test (Err LineTooLong) (short_reading shape line)) (le-ltb LINE_LIMIT (length line) short)
+
+-- the fields of a line that is neither too long nor broken say what it says
+pub reading_whole : (shape : Shape) (line : List ℕ) → length line ≤ LINE_LIMIT → 0 < length line → is_broken line ≡ false → reading shape line ≡ as_some (event_from shape (line_fields line))
+reading_whole shape line short some whole = reading_short shape line short ∙ short_whole shape line some whole
 
 -- nothing else is wrong with a line that has a fault
 pub reads_fault : (fault : ReadLineFault) (read : Result EventLine LineFault) → Reads {X = EventLine} (Err fault) read → Reads {X = Option EventLine} (Err fault) (as_some read)

@@ -13,9 +13,11 @@ use Rattle.cedr_text.specs.declared.event_line.EventLine.TheVariants.{Insert, Re
 use Rattle.cedr_text.specs.declared.event_line.Shape.{Shape}
 use Rattle.cedr_text.specs.declared.event_line.Shape.TheVariants.{AnyText, Fields}
 use Rattle.cedr_text.specs.declared.fault.LineFault.{LineFault}
-use Rattle.cedr_text.specs.declared.fault.LineFault.TheVariants.{BadForm, BadNumber, EmptyLife, BadField}
+use Rattle.cedr_text.specs.declared.fault.LineFault.TheVariants.{LineTooLong, BadForm, BadNumber, EmptyLife, BadField}
 use Rattle.cedr_text.specs.declared.fault.ReadLineFault.{ReadLineFault}
 use Rattle.cedr_text.specs.declared.fault.ReadLineFault.TheVariants as read_fault
+use Rattle.cedr_text.specs.declared.lines.TheConstants.{LINE_LIMIT}
+use Rattle.cedr_text.specs.Faults.{number_of}
 use Rattle.cedr_text.specs.Lines.{has_line_feed}
 use Rattle.cedr_text.specs.Quoting.{line_fields, byte_order_mark}
 use Rattle.cedr_text.specs.Texts.{carriage_return}
@@ -112,10 +114,15 @@ abbrev pub event_from : Shape → Option (List (List ℕ)) → Result EventLine 
 event_from shape None = Err BadForm
 event_from shape (Some fields) = event_of shape fields
 
--- what a line says, or its least fault; an empty line says nothing
+-- what a line says that isn't too long
+abbrev pub short_reading : Shape → List ℕ → Result (Option EventLine) LineFault
+short_reading shape [] = Ok None
+short_reading shape (b ∷ bs) = if is_broken (b ∷ bs) then Err BadForm else as_some (event_from shape (line_fields (b ∷ bs)))
+
+-- what a line says, or its least fault; an empty line says nothing. In a file the line feed and one carriage
+-- return before it are no part of the line here
 abbrev pub reading : Shape → List ℕ → Result (Option EventLine) LineFault
-reading shape [] = Ok None
-reading shape (b ∷ bs) = if is_broken (b ∷ bs) then Err BadForm else as_some (event_from shape (line_fields (b ∷ bs)))
+reading shape line = if nat_lt LINE_LIMIT (length line) then Err LineTooLong else short_reading shape line
 
 -- what the code answers is the reading, unless memory ran out
 abbrev pub Reads : {X : Type 0} → Result X ReadLineFault → Result X LineFault → Type 0
@@ -142,8 +149,8 @@ IsEvent (Insert id row) = IsRow row
 IsEvent (Retract id end) = end ≤ FOREVER
 IsEvent (Promise time) = time ≤ FOREVER
 
--- what a line says is an event, if it says anything
+-- what a line says is an event, if it says anything. A fault that a line has by itself is one of the first five
 abbrev pub SaysEvent : Result (Option EventLine) LineFault → Type 0
 SaysEvent (Ok None) = Unit {0}
 SaysEvent (Ok (Some line)) = IsEvent line
-SaysEvent (Err fault) = Unit {0}
+SaysEvent (Err fault) = number_of fault ≤ 5

@@ -5,7 +5,7 @@
 //! come in pieces into lines, `read_line` answers a line's reading, and `read_text_line` does so with the
 //! payload left in the line. `write_row` and `write_time` append exactly the texts that `specs/Texts.antt`
 //! defines; `sort_text_rows` and `write_text_rows` do that for rows whose payload still stands in the bytes of
-//! a file. `quoting_rule` and `reading_law` are laws of the grammar.
+//! a file. `quoting_rule`, `reading_law` and `line_limit` are laws of the grammar.
 #![tactic(auto)]
 
 mod bare;
@@ -28,7 +28,7 @@ pub use lines::{LINE_LIMIT, LineStep, Lines, without_return};
 pub use parts::Parts;
 pub use payload_text::{BareFields, PayloadText};
 pub use quoting::quoting_rule;
-pub use read::{read_line, read_text_line, reading_law};
+pub use read::{line_limit, read_line, read_text_line, reading_law};
 pub use text_row::{TextRow, sort_text_rows, write_text_rows};
 pub use write::{write_number, write_row, write_rows, write_time};
 

@@ -1,6 +1,8 @@
-ghost use Rattle.std.specs.Prelude.{◌≡◌, ◌<◌, ℕ, List, true, false, length, map, IfOk, IfSome};
+ghost use Rattle.std.specs.Prelude.{◌≡◌, ◌<◌, ◌≤◌, ◌↔◌, ℕ, List, true, false, length, map, IfOk, IfSome, Err};
 ghost use Rattle.cedr_text.specs.declared.event_line.Shape.{Shape};
 ghost use Rattle.cedr_text.specs.declared.event_line.Shape.TheVariants.{AnyText};
+ghost use Rattle.cedr_text.specs.declared.fault.LineFault.TheVariants.{LineTooLong};
+ghost use Rattle.cedr_text.specs.declared.lines.TheConstants.{LINE_LIMIT};
 ghost use Rattle.cedr_text.specs.EventTexts.{ReadsText};
 ghost use Rattle.cedr_text.specs.Quoting.{has_quote, line_fields};
 ghost use Rattle.cedr_text.specs.Reading.{is_broken, Reads, reading, event_of, event_from, insertion, retraction, guarantee, retracted_by, promised_by, payload_of, typed_payload, field_value, pushed, IsEvent, SaysEvent};
@@ -9,6 +11,7 @@ use crate::bare::read_bare;
 use crate::event_line::{EventLine, Shape};
 use crate::event_text::EventText;
 use crate::fault::{LineFault, ReadLineFault};
+use crate::lines::LINE_LIMIT;
 use crate::number::{read_begin, read_id, read_int, read_time};
 use crate::parts::Parts;
 use crate::quoting::join_fields;
@@ -22,7 +25,10 @@ pub(crate) const FIELD_LIMIT: usize = 16;
 const BYTE_ORDER_MARK: &[u8] = b"\xef\xbb\xbf";
 
 /// What a line says, without its line feed and the carriage return before that: nothing where it is empty.
-/// O(n), with memory for the payload, and for the line twice where it has a quote.
+/// One over `LINE_LIMIT` bytes is too long, which costs O(1). Else O(n), with memory for the payload, and for
+/// the line twice where it has a quote.
+///
+/// In a file the carriage return counts to the line's length, so whoever takes it off looks at that first.
 pub fn read_line(
     alloc: Global,
     line: &[u8],
@@ -34,6 +40,9 @@ pub fn read_line(
     if line.is_empty() {
         return Ok(None);
     }
+    if line.len() > LINE_LIMIT {
+        return Err(ReadLineFault::Line(LineFault::LineTooLong));
+    }
     if is_broken(line) {
         return Err(ReadLineFault::Line(LineFault::BadForm));
     }
@@ -43,8 +52,8 @@ pub fn read_line(
     }
 }
 
-/// What a line says whose payload fields are texts, which stay in the line where it has no quote. O(n), and
-/// without a quote it takes no memory.
+/// What a line says whose payload fields are texts, which stay in the line where it has no quote, as
+/// `read_line` says it. O(n), and without a quote it takes no memory.
 pub fn read_text_line(alloc: Global, line: &[u8]) -> Result<Option<EventText<'_>>, ReadLineFault>
     ensures { ReadsText result (reading AnyText line.now) }
 {
@@ -63,9 +72,16 @@ pub fn read_text_line(alloc: Global, line: &[u8]) -> Result<Option<EventText<'_>
     }
 }
 
-/// The law of what lines say: an insertion has a row, and no time is above `FOREVER`.
+/// The law of what lines say: an insertion has a row, no time is above `FOREVER`, and a fault is one of the
+/// first five.
 pub fn reading_law()
     ensures { (shape : Shape) (line : List ℕ) → SaysEvent (reading shape line) }
+{}
+
+/// The law of the limit: a line may have 65,536 bytes, and exactly one that has more is too long.
+pub fn line_limit()
+    ensures limit { LINE_LIMIT ≡ 65536 }
+    ensures long { (shape : Shape) (line : List ℕ) → (reading shape line ≡ Err LineTooLong) ↔ (LINE_LIMIT < length line) }
 {}
 
 /// Whether some byte is a quote.
@@ -82,8 +98,15 @@ fn is_broken(line: &[u8]) -> bool
     memchr2(b'\r', b'\n', line).is_some() || line.starts_with(BYTE_ORDER_MARK)
 }
 
-/// Whether a line has neither a quote nor a line break, and doesn't begin with a byte order mark.
+/// Whether a line isn't too long, has neither a quote nor a line break, and doesn't begin with a byte order
+/// mark.
 fn is_plain(line: &[u8]) -> bool
+    ensures { result ≡ true → (length line.now ≤ LINE_LIMIT) × (has_quote line.now ≡ false) × (is_broken line.now ≡ false) }
+{
+    line.len() <= LINE_LIMIT && has_plain_bytes(line)
+}
+
+fn has_plain_bytes(line: &[u8]) -> bool
     ensures { result ≡ true → (has_quote line.now ≡ false) × (is_broken line.now ≡ false) }
 {
     memchr3(b'"', b'\r', b'\n', line).is_none() && !line.starts_with(BYTE_ORDER_MARK)

@@ -178,6 +178,86 @@ fn a_text_is_quoted_exactly_where_it_has_to_be(rt: HostRuntime) -> Result<(), Fa
     Ok(())
 }
 
+/// The row has these texts as its fields, behind a number if there is one.
+fn row(
+    alloc: Global,
+    begin: Time,
+    end: Time,
+    number: Option<i128>,
+    texts: &[&[u8]],
+) -> Result<Row, Fail> {
+    let mut payload = Payload::new(alloc);
+    if let Some(number) = number {
+        payload.push(Field::Number(number))?;
+    }
+    for text in texts {
+        payload.push(Field::Bytes(Text::from_slice(alloc, text)?))?;
+    }
+    Ok(Row::new(begin, end, payload)?)
+}
+
+#[test]
+fn rows_are_written_a_line_each_in_their_order(rt: HostRuntime) -> Result<(), Fail> {
+    let alloc = rt.alloc();
+    let mut rows = Vec::new(alloc);
+    rows.push(row(alloc, 7, FOREVER, None, &[])?)?;
+    rows.push(row(alloc, 0, 4611686018427387903, Some(-12), &[b"a,b", b""])?)?;
+    rows.push(row(alloc, 3, 4, None, &[b"say \"so\"", b"\r", b"'x'"])?)?;
+    rows.push(row(alloc, 3, 4, None, &[b""])?)?;
+    rows.push(row(alloc, 1, 2, None, &[b"two\nlines"])?)?;
+    let wanted =
+        b"7,inf\n0,4611686018427387903,-12,\"a,b\",\n3,4,\"say \"\"so\"\"\",\"\r\",'x'\n3,4,\n1,2,\"two\nlines\"\n";
+    let mut out = Vec::new(alloc);
+    write_rows(&rows, &mut out)?;
+    assert_eq!(rt; out.as_slice(), wanted.as_slice());
+    let mut out = Vec::from_slice(alloc, b"before\n")?;
+    write_rows(&[], &mut out)?;
+    assert_eq!(rt; out.as_slice(), b"before\n".as_slice());
+    write_rows(&rows[..1], &mut out)?;
+    write_rows(&rows[3..], &mut out)?;
+    assert_eq!(rt;
+        out.as_slice(),
+        b"before\n7,inf\n3,4,\n1,2,\"two\nlines\"\n".as_slice()
+    );
+    Ok(())
+}
+
+/// The fault's number, by both ways of reading a line whose fields are texts: 0 where it is in form, and 100
+/// where they differ.
+fn fault_of(alloc: Global, line: &[u8]) -> u8 {
+    let fault = match read(alloc, line, &Shape::AnyText) {
+        Ok(_) => 0,
+        Err(fault) => fault,
+    };
+    let other = match read_text_line(alloc, line) {
+        Ok(_) => 0,
+        Err(ReadLineFault::Line(fault)) => fault.number(),
+        Err(ReadLineFault::OutOfMemory) => 99,
+    };
+    if fault == other { fault } else { 100 }
+}
+
+#[test]
+fn a_line_over_65536_bytes_is_too_long_whatever_it_says(rt: HostRuntime) -> Result<(), Fail> {
+    let alloc = rt.alloc();
+    for (front, length, wanted) in [
+        (b"".as_slice(), 65_536, 2),
+        (b"", 65_537, 1),
+        (b"+,1,1,2,", 65_536, 0),
+        (b"+,1,1,2,", 65_537, 1),
+        (b"+,\"1\",1,2,", 65_536, 0),
+        (b"+,\"1\",1,2,", 65_537, 1),
+        (b"+,1,9,9,", 65_536, 4),
+        (b"\r", 65_537, 1),
+        (b"\xef\xbb\xbf", 65_537, 1),
+    ] {
+        let mut line = Vec::from_slice(alloc, front)?;
+        line.resize(length, b'x')?;
+        assert_eq!(rt; fault_of(alloc, &line), wanted, "{length} bytes");
+    }
+    Ok(())
+}
+
 #[test]
 fn each_fault_has_its_number(rt: HostRuntime) {
     let faults = [

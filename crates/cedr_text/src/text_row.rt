@@ -98,8 +98,8 @@ pub fn sort_text_rows(rows: &mut Vec<TextRow<'_>>)
     rows.sort_unstable();
 }
 
-/// Appends the rows, a line each, in the order in which they stand. Their text is made in memory of its own,
-/// and copied where `out` is not empty. Where memory runs out `out` is as before.
+/// Appends the rows as `write_rows` does. Their text is made in memory of its own, and copied where `out` is
+/// not empty. Where memory runs out `out` is as before.
 pub fn write_text_rows(rows: &[TextRow<'_>], out: &mut Vec<u8>) -> Result<(), OutOfMemory>
     ensures ok { OnOk result (out.new.items ≡ out.old.items ++ rows_text rows.now) }
     ensures err { OnErr result (out.new.items ≡ out.old.items) }

@@ -8,6 +8,7 @@ use cedr_base::{FOREVER, Field, OutOfMemory, Row, Time};
 use csv::{Writer, WriterBuilder};
 use itoa::{Buffer, Integer};
 use std::alloc::Global;
+use std::slice;
 
 /// Appends the time in decimal digits, or `inf` for `FOREVER`. Where memory runs out `out` is as before.
 pub fn write_time(time: Time, out: &mut Vec<u8>) -> Result<(), OutOfMemory>
@@ -33,18 +34,18 @@ pub fn write_number<N: Integer>(number: N, out: &mut Vec<u8>) -> Result<(), OutO
 }
 
 /// Appends the row as one line, `BEGIN,END,FIELD..` and a line feed. Where memory runs out `out` is as
-/// before. For many rows `write_rows` takes less time, since each call makes a csv writer.
+/// before. It is for a row by itself: each call makes a csv writer, so a list of rows goes to `write_rows`.
 pub fn write_row(row: &Row, out: &mut Vec<u8>) -> Result<(), OutOfMemory>
     ensures ok { OnOk result (out.new.items ≡ out.old.items ++ row_text row.now) }
     ensures err { OnErr result (out.new.items ≡ out.old.items) }
 {
-    let mut writer = row_writer(*out.allocator());
-    put_row(row, &mut writer)?;
-    append_written(writer, out)
+    write_rows(slice::from_ref(row), out)
 }
 
-/// Appends the rows, a line each, in the order in which they stand. Their text is made in memory of its own,
-/// and copied where `out` is not empty. Where memory runs out `out` is as before.
+/// Appends the rows, a line each, in the order in which they stand, as `write_row` does one by one, with one
+/// csv writer for all. Their text is made in memory of its own, and copied where `out` is not empty. Where
+/// memory runs out `out` is as before. Rows whose payload stands in the bytes of a file go to
+/// `write_text_rows`, without a copy of their fields.
 pub fn write_rows(rows: &[Row], out: &mut Vec<u8>) -> Result<(), OutOfMemory>
     ensures ok { OnOk result (out.new.items ≡ out.old.items ++ rows_text rows.now) }
     ensures err { OnErr result (out.new.items ≡ out.old.items) }

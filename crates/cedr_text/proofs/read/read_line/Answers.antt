@@ -8,7 +8,7 @@ use Rattle.cedr_text.proofs.read.read_line.Goals as goal
 pub returns-in-Ok-clause-read : goal.returns-in-Ok-clause-read
 returns-in-Ok-clause-read c =
     let some = some_left (length c.args.line.now) (sym c.if-is_empty.ensures) in
-    reading_whole c.args.shape.now c.args.line.now some (sym c.if-is_broken.ensures) ∙ ap as_some c.in-Ok.ensures
+    reading_whole c.args.shape.now c.args.line.now c.if-line-gt-LINE_LIMIT.false some (sym c.if-is_broken.ensures) ∙ ap as_some c.in-Ok.ensures
 
 pub returns-in-Ok-clause-event : goal.returns-in-Ok-clause-event
 returns-in-Ok-clause-event c = event_read c.args.shape.now c.args.line.now c.in-Ok.event (returns-in-Ok-clause-read c)
@@ -17,4 +17,4 @@ pub returns-in-Err-clause-read : goal.returns-in-Err-clause-read
 returns-in-Err-clause-read c =
     let some = some_left (length c.args.line.now) (sym c.if-is_empty.ensures) in
     let fields = event_from c.args.shape.now (line_fields c.args.line.now) in
-    subst (Reads (Err c.in-Err.fault)) (sym (reading_whole c.args.shape.now c.args.line.now some (sym c.if-is_broken.ensures))) (reads_fault c.in-Err.fault fields c.in-Err.ensures)
+    subst (Reads (Err c.in-Err.fault)) (sym (reading_whole c.args.shape.now c.args.line.now c.if-line-gt-LINE_LIMIT.false some (sym c.if-is_broken.ensures))) (reads_fault c.in-Err.fault fields c.in-Err.ensures)

@@ -1,7 +1,8 @@
-use Rattle.std.proofs.Common.{◌≡◌, ◌<◌, List, ℕ, length, false, Result, ap, sym, ◌∙◌}
+use Rattle.std.proofs.Common.{◌≡◌, ◌<◌, ◌≤◌, List, ℕ, length, false, Result, ap, sym, ◌∙◌}
 use Rattle.cedr_text.specs.declared.event_line.EventLine.{EventLine}
 use Rattle.cedr_text.specs.declared.event_line.Shape.TheVariants.{AnyText}
 use Rattle.cedr_text.specs.declared.fault.LineFault.{LineFault}
+use Rattle.cedr_text.specs.declared.lines.TheConstants.{LINE_LIMIT}
 use Rattle.cedr_text.specs.Parts.{comma, parts_of}
 use Rattle.cedr_text.specs.Quoting.{has_quote}
 use Rattle.cedr_text.specs.Reading.{is_broken, event_of, event_from, as_some, reading}
@@ -11,10 +12,10 @@ use Rattle.cedr_text.proofs.ReadingLemmas.{reading_whole}
 use Rattle.cedr_text.proofs.read.read_text_line.Goals as goal
 
 -- a plain line says what the fields between its commas say
-plain_reading : (line : List ℕ) (read : Result EventLine LineFault) → 0 < length line → (has_quote line ≡ false) × (is_broken line ≡ false) → read ≡ event_of AnyText (parts_of comma line)
+plain_reading : (line : List ℕ) (read : Result EventLine LineFault) → 0 < length line → (length line ≤ LINE_LIMIT) × (has_quote line ≡ false) × (is_broken line ≡ false) → read ≡ event_of AnyText (parts_of comma line)
     → reading AnyText line ≡ as_some read
 plain_reading line read some plain is =
-    reading_whole AnyText line some plain.1 ∙ ap (λ fields. as_some (event_from AnyText fields)) (bare_fields line plain.0) ∙ ap as_some (sym is)
+    reading_whole AnyText line plain.0 some plain.2 ∙ ap (λ fields. as_some (event_from AnyText fields)) (bare_fields line plain.1) ∙ ap as_some (sym is)
 
 pub returns-in-Ok : goal.returns-in-Ok
 returns-in-Ok c = plain_reading c.args.line.now _ (some_left (length c.args.line.now) (sym c.if-is_empty.ensures)) (c.is_plain.ensures c.if-is_plain.true) c.in-Ok.ensures

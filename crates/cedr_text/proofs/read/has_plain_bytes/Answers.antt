@@ -7,7 +7,7 @@ use Rattle.cedr_text.specs.Lines.{has_line_feed}
 use Rattle.cedr_text.specs.Quoting.{byte_order_mark}
 use Rattle.cedr_text.specs.Reading.{has_return}
 use Rattle.cedr_text.proofs.Searches.{found_any, none_of_three}
-use Rattle.cedr_text.proofs.read.is_plain.Goals as goal
+use Rattle.cedr_text.proofs.read.has_plain_bytes.Goals as goal
 
 not_so : (b : Bool) → not b ≡ true → b ≡ false
 not_so true h = cc
