@@ -1,6 +1,7 @@
 -- The lines that are judged to be good are accepted, so a source's messages are legal.
-use Rattle.std.proofs.Common.{◌≡◌, ℕ, ◌+◌, List, [], ◌∷◌, ◌++◌, Bool, true, false, cond, length, take, Option, None, Some, Result, Ok, Err, refl, ap, sym, ◌∙◌, subst, append_assoc, append-nil}
+use Rattle.std.proofs.Common.{◌≡◌, ◌<◌, ◌≤◌, ◌==◌, ◌↔◌, ℕ, ◌+◌, List, [], ◌∷◌, ◌++◌, Bool, true, false, cond, length, take, Option, None, Some, Result, Ok, Err, refl, ap, sym, ◌∙◌, subst, append_assoc, append-nil, arith}
 use Rattle.std.specs.Prelude.{nat_lt}
+use Rattle.std.proofs.lemmas.Bool.{lt-ltb, ltb-true}
 use Rattle.cedr_base.specs.declared.change.Message.{Message}
 use Rattle.cedr_base.specs.declared.change.Message.TheVariants as message
 use Rattle.cedr_base.specs.Rows.{SameRows}
@@ -23,7 +24,7 @@ use Rattle.cedr_guard.specs.Sources.{with_event, with_reading, line_reading, Jud
 use Rattle.cedr_guard.proofs.MessageLemmas.{AreLegalOf, accepted_messages, table_is_history, changes_of-append, legal-append}
 
 said_long : (long : Bool) (read : Result (Option EventLine) LineFault) → SaysEvent read → SaysEvent (cond long (Err LineTooLong) read)
-said_long true read event = tt
+said_long true read event = omega arith
 said_long false read event = event
 
 -- the law of what lines say
@@ -33,6 +34,32 @@ Law = (shape : Shape) (line : List ℕ) → SaysEvent (reading shape line)
 -- by it a line that isn't too long says an event
 line_event : Law → (shape : Shape) (line : List ℕ) → SaysEvent (line_reading shape line)
 line_event law shape line = said_long (nat_lt LINE_LIMIT (length line)) (reading shape (without_return line)) (law shape (without_return line))
+
+-- ---- lines that are too long
+
+a_return_less : (is_return : Bool) (b : ℕ) → length (cond is_return [] (b ∷ [])) ≤ 1
+a_return_less true b = omega arith
+a_return_less false b = omega arith
+
+shorter : (line : List ℕ) → length (without_return line) ≤ length line
+shorter [] = omega arith
+shorter (b ∷ []) = a_return_less (b == 13) b
+shorter (b ∷ c ∷ bs) = omega (arith, shorter (c ∷ bs))
+
+-- the law of the lines that are too long by themselves
+abbrev LongLaw : Type 0
+LongLaw = (shape : Shape) (line : List ℕ) → (reading shape line ≡ Err LineTooLong) ↔ (LINE_LIMIT < length line)
+
+long_only : (long : Bool) (n m : ℕ) (read : Result (Option EventLine) LineFault) → nat_lt LINE_LIMIT n ≡ long → m ≤ n → (read ≡ Err LineTooLong → LINE_LIMIT < m) → cond long (Err LineTooLong) read ≡ Err LineTooLong → LINE_LIMIT < n
+long_only true n m read is less law e = ltb-true LINE_LIMIT n is
+long_only false n m read is less law e = omega (arith, law e, less)
+
+-- exactly a line that has more bytes than it may in the file is too long
+pub long_line : LongLaw → (shape : Shape) (line : List ℕ) → (line_reading shape line ≡ Err LineTooLong) ↔ (LINE_LIMIT < length line)
+long_line law shape line = (
+  long_only (nat_lt LINE_LIMIT (length line)) (length line) (length (without_return line)) (reading shape (without_return line)) refl (shorter line) (law shape (without_return line)).0,
+  λ long. ap (λ test. cond test (Err LineTooLong) (reading shape (without_return line))) (lt-ltb LINE_LIMIT (length line) long),
+)
 
 -- ---- good lines are accepted
 

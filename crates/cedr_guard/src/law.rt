@@ -1,15 +1,17 @@
-ghost use Rattle.std.specs.Prelude.{◌≡◌, ◌++◌, ◌∷◌, ℕ, List, []};
+ghost use Rattle.std.specs.Prelude.{◌≡◌, ◌<◌, ◌^◌, ◌↔◌, ◌++◌, ◌∷◌, ℕ, List, [], length, Err};
 ghost use Rattle.cedr_base.specs.Messages.{IsLegal, IsTableOf};
 ghost use Rattle.cedr_text.specs.declared.event_line.EventLine.{EventLine};
 ghost use Rattle.cedr_text.specs.declared.event_line.Shape.{Shape};
+ghost use Rattle.cedr_text.specs.declared.fault.LineFault.TheVariants.{LineTooLong};
 ghost use Rattle.cedr_guard.specs.declared.guard.Guard.{Guard};
+ghost use Rattle.cedr_guard.specs.declared.refusal.TheConstants.{FILE_LIMIT};
 ghost use Rattle.cedr_guard.specs.Judging.{AreAccepted};
 ghost use Rattle.cedr_guard.specs.History.{history_of};
 ghost use Rattle.cedr_guard.specs.Messages.{message_of, messages_behind};
 ghost use Rattle.cedr_guard.specs.Standing.{Guards};
-ghost use Rattle.cedr_guard.specs.Sources.{messages_of, history_of_bytes};
+ghost use Rattle.cedr_guard.specs.Sources.{line_reading, messages_of, history_of_bytes};
 
-use cedr_text::reading_law;
+use cedr_text::{line_limit, reading_law};
 
 /// The law of the messages. What a guard answered for the lines that it stands for is legal, and its table
 /// is their canonical history. So it is with the messages of a source, whatever its shape and its bytes:
@@ -23,4 +25,13 @@ pub fn message_laws()
     ensures source_table { (shape : Shape) (bytes : List ℕ) → IsTableOf (messages_of shape bytes) (history_of_bytes shape bytes) }
 {
     reading_law();
+}
+
+/// The law of the limits: a source may have 2^26 bytes, and exactly a line that has over 65,536 is too long.
+/// A carriage return before its line feed counts.
+pub fn source_limits()
+    ensures file { FILE_LIMIT ≡ 2 ^ 26 }
+    ensures line { (shape : Shape) (line : List ℕ) → (line_reading shape line ≡ Err LineTooLong) ↔ (65536 < length line) }
+{
+    line_limit();
 }

@@ -4,7 +4,7 @@
 //! `specs/Judging.antt` says which fault a line has behind others, `specs/Messages.antt` and
 //! `specs/History.antt` what accepted lines say together, and `specs/Sources.antt` the same of a source's
 //! bytes. `Guard` answers the messages; `Judge` looks at ids and times alone. `message_laws` says that the
-//! messages are legal and that their table is the canonical history.
+//! messages are legal and that their table is the canonical history, and `source_limits` what the limits are.
 #![tactic(auto)]
 
 mod fault;
@@ -16,7 +16,7 @@ mod refusal;
 pub use fault::GuardFault;
 pub use guard::Guard;
 pub use judge::{Interval, Judge};
-pub use law::message_laws;
+pub use law::{message_laws, source_limits};
 pub use refusal::{FILE_LIMIT, Refusal};
 
 #[cfg(test)]
