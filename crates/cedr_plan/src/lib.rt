@@ -5,6 +5,7 @@
 //! the ports of each operator are (`Operators`), each fault of a node and the types of its result (`Nodes`,
 //! `NodeFaults`), and the document (`Plans`). An accepted plan keeps the rules of `IsPlan` (`Rules`), which
 //! whatever takes a plan asks for. A copy of a node equals its source.
+//! `plan_limit` and `operator_words` are laws of the language.
 #![tactic(auto)]
 
 mod check;
@@ -15,6 +16,7 @@ mod form;
 mod inputs;
 mod json;
 mod kind;
+mod law;
 mod level;
 mod lists;
 mod node;
@@ -27,6 +29,7 @@ mod whole;
 
 pub use check::write_check;
 pub use fault::{PlanFault, PlanKind};
+pub use law::{operator_words, plan_limit};
 pub use plan::{NodeKind, Plan, PlanNode};
 pub use reader::{PLAN_LIMIT, read_plan};
 
