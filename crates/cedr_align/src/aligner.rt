@@ -1,4 +1,4 @@
-ghost use Rattle.std.specs.Prelude.{◌≡◌, ◌++◌, ◌∷◌, [], List, IfOk};
+ghost use Rattle.std.specs.Prelude.{◌≡◌, ◌++◌, ◌∷◌, [], List, IfOk, OnErr, length, take};
 ghost use Rattle.cedr_base.specs.declared.change.Message.{Message};
 ghost use Rattle.cedr_base.specs.declared.change.Message.TheVariants as message;
 ghost use Rattle.cedr_base.specs.Messages.{MayCome};
@@ -68,7 +68,9 @@ impl Aligner {
         change: Change,
         out: &mut Vec<Message>,
     ) -> Result<Fate, OutOfMemory>
-        ensures { IfOk result (λ fate. (ms : List Message) → Aligns self.old ms → MayCome ms (message.Change change) → IsTaken self.old self.new ms (message.Change change) out.old.items out.new.items fate) }
+        ensures taken { IfOk result (λ fate. (ms : List Message) → Aligns self.old ms → MayCome ms (message.Change change) → IsTaken self.old self.new ms (message.Change change) out.old.items out.new.items fate) }
+        ensures level { self.new.level ≡ self.old.level }
+        ensures kept { take (length out.old.items) out.new.items ≡ out.old.items }
     {
         let high = self.high;
         let before = front_of(self.ended, self.mark, &self.held);
@@ -96,18 +98,16 @@ impl Aligner {
         }
     }
 
-    /// Takes a message that may come behind those before it, and appends what it passes on: a retraction of a row
-    /// that passed, the rows that needn't wait any longer in canonical order, the front where it rose, and the end. A
-    /// break passes on itself alone. Where memory runs out the aligner is only to be dropped, and some of this may
-    /// have been appended. O(log n) in the rows that wait and those that passed, for the message and for each row
-    /// that passes.
-    pub fn take(
+    /// Takes a message. Where memory runs out some of what it passes on may stand there.
+    fn take_message(
         &mut self,
         alloc: Global,
         message: Message,
         out: &mut Vec<Message>,
     ) -> Result<Fate, OutOfMemory>
-        ensures { IfOk result (λ fate. (ms : List Message) → Aligns self.old ms → MayCome ms message → IsTaken self.old self.new ms message out.old.items out.new.items fate) }
+        ensures taken { IfOk result (λ fate. (ms : List Message) → Aligns self.old ms → MayCome ms message → IsTaken self.old self.new ms message out.old.items out.new.items fate) }
+        ensures level { self.new.level ≡ self.old.level }
+        ensures kept { take (length out.old.items) out.new.items ≡ out.old.items }
     {
         match message {
             Message::Change(change) => self.take_change(alloc, change, out),
@@ -150,5 +150,27 @@ impl Aligner {
                 Ok(Fate::Kept)
             }
         }
+    }
+
+    /// Takes a message that may come behind those before it, and appends what it passes on: a retraction of a row
+    /// that passed, the rows that needn't wait any longer in canonical order, the front where it rose, and the end. A
+    /// break passes on itself alone. Where memory runs out nothing is appended, and the aligner is only to be dropped.
+    /// O(log n) in the rows that wait and those that passed, for the message and for each row that passes.
+    pub fn take(
+        &mut self,
+        alloc: Global,
+        message: Message,
+        out: &mut Vec<Message>,
+    ) -> Result<Fate, OutOfMemory>
+        ensures taken { IfOk result (λ fate. (ms : List Message) → Aligns self.old ms → MayCome ms message → IsTaken self.old self.new ms message out.old.items out.new.items fate) }
+        ensures level { self.new.level ≡ self.old.level }
+        ensures err { OnErr result (out.new.items ≡ out.old.items) }
+    {
+        let before = out.len();
+        let result = self.take_message(alloc, message, out);
+        if result.is_err() {
+            out.truncate(before);
+        }
+        result
     }
 }

@@ -1,4 +1,4 @@
-ghost use Rattle.std.specs.Prelude.{◌≡◌, ◌++◌, ◌∷◌, [], OnOk, Option};
+ghost use Rattle.std.specs.Prelude.{◌≡◌, ◌++◌, ◌∷◌, [], OnOk, Option, length, take};
 ghost use Rattle.cedr_base.specs.Rows.{SameRows};
 ghost use Rattle.cedr_base.specs.declared.change.Message.TheVariants as message;
 ghost use Rattle.cedr_base.specs.Changes.{puts, takes, all_puts, all_takes};
@@ -57,6 +57,7 @@ fn cut_passed(
 ) -> Result<(), OutOfMemory>
     ensures passed { OnOk result (SameRows (passed.new ++ takes change.now) (passed.old ++ puts change.now)) }
     ensures out { OnOk result (out.new.items ≡ out.old.items ++ message.Change change.now ∷ []) }
+    ensures kept { take (length out.old.items) out.new.items ≡ out.old.items }
 {
     if passed.apply(change).is_err() {
         return Err(OutOfMemory);
@@ -77,6 +78,7 @@ fn keep(
     ensures held { OnOk result (SameRows (held.new ++ all_takes (other_of held.old change.now)) (held.old ++ all_puts (other_of held.old change.now))) }
     ensures passed { OnOk result (SameRows (passed.new ++ all_takes (own_of held.old change.now)) (passed.old ++ all_puts (own_of held.old change.now))) }
     ensures out { OnOk result (out.new.items ≡ out.old.items ++ wrapped (own_of held.old change.now)) }
+    ensures kept { take (length out.old.items) out.new.items ≡ out.old.items }
 {
     match change {
         Change::Add(_) => held.apply(alloc, change),
@@ -101,6 +103,7 @@ pub(crate) fn keep_unless(
     ensures held { OnOk result (SameRows (held.new ++ all_takes (when_kept cause (other_of held.old change.now))) (held.old ++ all_puts (when_kept cause (other_of held.old change.now)))) }
     ensures passed { OnOk result (SameRows (passed.new ++ all_takes (when_kept cause (own_of held.old change.now))) (passed.old ++ all_puts (when_kept cause (own_of held.old change.now)))) }
     ensures out { OnOk result (out.new.items ≡ out.old.items ++ wrapped (when_kept cause (own_of held.old change.now))) }
+    ensures kept { take (length out.old.items) out.new.items ≡ out.old.items }
 {
     match cause {
         None => keep(alloc, held, passed, change, out),

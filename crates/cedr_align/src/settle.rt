@@ -1,4 +1,4 @@
-ghost use Rattle.std.specs.Prelude.{◌≡◌, ◌++◌, OnOk, Option};
+ghost use Rattle.std.specs.Prelude.{◌≡◌, ◌++◌, OnOk, Option, length, take};
 ghost use Rattle.cedr_base.specs.Rows.{SameRows};
 ghost use Rattle.cedr_laws.specs.Lists.{mark_above};
 ghost use Rattle.cedr_laws.specs.Pass.{front_at, is_held, additions};
@@ -9,7 +9,7 @@ use cedr_base::{Change, FOREVER, Message, OutOfMemory, Row, Time};
 use cedr_table::Table;
 use std::alloc::Global;
 
-/// Puts rows into the passed table, and passes on their additions.
+/// Puts rows into the passed table, and passes on their additions. Where memory runs out some of them may stand there.
 fn add_rows(
     alloc: Global,
     rows: &[Row],
@@ -18,6 +18,7 @@ fn add_rows(
 ) -> Result<(), OutOfMemory>
     ensures passed { OnOk result (SameRows passed.new (passed.old ++ rows.now)) }
     ensures out { OnOk result (out.new.items ≡ out.old.items ++ additions rows.now) }
+    ensures kept { take (length out.old.items) out.new.items ≡ out.old.items }
 {
     for row in rows {
         let copied = row.copy(alloc)?;
@@ -30,7 +31,8 @@ fn add_rows(
 
 /// Passes a mark on where it is above an earlier one.
 fn push_mark(before: Time, front: Time, out: &mut Vec<Message>) -> Result<(), OutOfMemory>
-    ensures { OnOk result (out.new.items ≡ out.old.items ++ mark_above before front) }
+    ensures out { OnOk result (out.new.items ≡ out.old.items ++ mark_above before front) }
+    ensures kept { take (length out.old.items) out.new.items ≡ out.old.items }
 {
     if front > before {
         out.push(Message::Mark(front))?;
@@ -49,7 +51,8 @@ pub(crate) fn front_of(ended: bool, mark: Time, held: &Held) -> Time
     }
 }
 
-/// Lets the rows pass that needn't wait any longer, and then the front where it rose above an earlier one.
+/// Lets the rows pass that needn't wait any longer, and then the front where it rose above an earlier one. Where memory
+/// runs out some of this may stand there.
 pub(crate) fn settle(
     alloc: Global,
     block: Option<u64>,
@@ -61,7 +64,8 @@ pub(crate) fn settle(
     passed: &mut Table,
     out: &mut Vec<Message>,
 ) -> Result<(), OutOfMemory>
-    ensures { OnOk result (IsSettled (is_held block ended mark high) ended mark before held.old passed.old out.old.items held.new passed.new out.new.items) }
+    ensures settled { OnOk result (IsSettled (is_held block ended mark high) ended mark before held.old passed.old out.old.items held.new passed.new out.new.items) }
+    ensures kept { take (length out.old.items) out.new.items ≡ out.old.items }
 {
     let rows = held.release(alloc, block, ended, mark, high)?;
     add_rows(alloc, rows.as_slice(), passed, out)?;
