@@ -1,8 +1,8 @@
 -- An operator that is driven by messages goes on message by message.
-use Rattle.std.proofs.Common.{◌≡◌, ℕ, ◌<◌, ◌≤◌, ◌⊎◌, inl, inr, zero, suc, List, [], ◌∷◌, ◌++◌, Bool, true, false, cond, refl, ap, sym, ◌∙◌, subst, arith, length, max, set, append_assoc, take, get_or}
+use Rattle.std.proofs.Common.{◌≡◌, ℕ, ◌<◌, ◌≤◌, ◌⊎◌, inl, inr, zero, suc, List, [], ◌∷◌, ◌++◌, Bool, true, false, cond, refl, ap, sym, ◌∙◌, subst, arith, length, max, set, append_assoc, take, drop, get_or}
 use Rattle.std.specs.Prelude.{map, nat_lt, replicate}
 use Rattle.std.proofs.lemmas.Bool.{cases_lt, ltb-true, ltb-false}
-use Rattle.std.proofs.lemmas.List.{append-nil, map-append}
+use Rattle.std.proofs.lemmas.List.{append-nil, map-append, length-take, take-append-le, take-append-drop}
 use Rattle.cedr_base.specs.declared.time.TheConstants.{FOREVER}
 use Rattle.cedr_base.specs.declared.row.Row.{Row}
 use Rattle.cedr_base.specs.declared.change.Change.{Change}
@@ -226,6 +226,12 @@ module _ (meaning : Meaning) (stands stands' : Tables → List ℕ → Type 0) (
         mark = w.mark;
         real = λ r there. real_grow meaning lists port (m ∷ []) r (w.real r there);
       })
+
+-- what stands before a list's end stands before that of each longer one
+pub kept_along : {X : Type 0} (xs ys zs : List X) → take (length xs) ys ≡ xs → take (length ys) zs ≡ ys → take (length xs) zs ≡ xs
+kept_along xs ys zs h k =
+    let whole : ys ++ drop (length ys) zs ≡ zs = ap (λ ws. ws ++ drop (length ys) zs) (sym k) ∙ take-append-drop (length ys) zs in
+    ap (take (length xs)) (sym whole) ∙ (take-append-le (length xs) ys (drop (length ys) zs) (omega (arith, length-take (length xs) ys, ap (λ ws. length ws) h)) ∙ h)
 
 with_more-twice : (lists : Lists) (port : ℕ) (xs ys : List Message) → with_more (with_more lists port xs) port ys ≡ with_more lists port (xs ++ ys)
 with_more-twice [] port xs ys = refl

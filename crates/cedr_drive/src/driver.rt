@@ -1,4 +1,4 @@
-ghost use Rattle.std.specs.Prelude.{◌≡◌, ◌<◌, ◌++◌, ◌∷◌, [], ℕ, List, OnOk, IfOk, max, length, replicate};
+ghost use Rattle.std.specs.Prelude.{◌≡◌, ◌<◌, ◌++◌, ◌∷◌, [], ℕ, List, OnOk, OnErr, IfOk, max, length, replicate, take};
 ghost use Rattle.cedr_base.specs.declared.change.Message.{Message};
 ghost use Rattle.cedr_base.specs.Messages.{IsLegalBehind};
 ghost use Rattle.cedr_stream.specs.Repairs.{wrapped};
@@ -17,13 +17,14 @@ pub struct Driver<O> {
     sent: Time,
 }
 
-/// Appends changes as messages.
+/// Appends changes as messages. Where memory runs out some of them may stand there.
 fn push_changes(
     alloc: Global,
     changes: &[Change],
     out: &mut Vec<Message>,
 ) -> Result<(), OutOfMemory>
-    ensures { OnOk result (out.new.items ≡ out.old.items ++ wrapped changes.now) }
+    ensures out { OnOk result (out.new.items ≡ out.old.items ++ wrapped changes.now) }
+    ensures kept { take (length out.old.items) out.new.items ≡ out.old.items }
 {
     for change in changes {
         let copied = change.copy(alloc)?;
@@ -34,7 +35,8 @@ fn push_changes(
 
 /// Appends a mark where it is above the last one.
 fn push_mark(bound: Time, sent: &mut Time, out: &mut Vec<Message>) -> Result<(), OutOfMemory>
-    ensures { OnOk result ((out.new.items ≡ out.old.items ++ mark_above sent.old bound) × (sent.new ≡ max sent.old bound)) }
+    ensures sent { OnOk result ((out.new.items ≡ out.old.items ++ mark_above sent.old bound) × (sent.new ≡ max sent.old bound)) }
+    ensures kept { take (length out.old.items) out.new.items ≡ out.old.items }
 {
     if bound > *sent {
         out.push(Message::Mark(bound))?;
@@ -43,7 +45,7 @@ fn push_mark(bound: Time, sent: &mut Time, out: &mut Vec<Message>) -> Result<(),
     Ok(())
 }
 
-/// Hands one message to the operator.
+/// Hands one message to the operator. Where memory runs out some of what answers it may stand there.
 fn feed_one<O: Operator>(
     alloc: Global,
     op: &mut O,
@@ -54,7 +56,8 @@ fn feed_one<O: Operator>(
 ) -> Result<(), OutOfMemory>
     requires { (lists : Lists) × (given : List Message) × Works (O.meaning op.old) (O.stands op.old) marks.old.items lists given × MayTake lists port message.now }
     ensures fed { OnOk result ((lists : Lists) (given : List Message) → Works (O.meaning op.old) (O.stands op.old) marks.old.items lists given → MayTake lists port message.now → IsFed (O.meaning op.old) (O.stands op.new) marks.new.items lists port (message.now ∷ []) given out.old.items out.new.items) }
-    ensures meaning { OnOk result (O.meaning op.new ≡ O.meaning op.old) }
+    ensures meaning { O.meaning op.new ≡ O.meaning op.old }
+    ensures kept { take (length out.old.items) out.new.items ≡ out.old.items }
 {
     match message {
         Message::Change(change) => {
@@ -72,7 +75,7 @@ fn feed_one<O: Operator>(
     }
 }
 
-/// Hands messages to the operator, one after the other.
+/// Hands messages to the operator, one after the other. Where memory runs out some of what answers them may stand there.
 fn feed<O: Operator>(
     alloc: Global,
     op: &mut O,
@@ -83,7 +86,8 @@ fn feed<O: Operator>(
 ) -> Result<(), OutOfMemory>
     requires { (lists : Lists) × (given : List Message) × Works (O.meaning op.old) (O.stands op.old) marks.old.items lists given × (port < length lists) × IsLegalBehind (list_at lists port) taken.now }
     ensures fed { OnOk result ((lists : Lists) (given : List Message) → Works (O.meaning op.old) (O.stands op.old) marks.old.items lists given → port < length lists → IsLegalBehind (list_at lists port) taken.now → IsFed (O.meaning op.old) (O.stands op.new) marks.new.items lists port taken.now given out.old.items out.new.items) }
-    ensures meaning { OnOk result (O.meaning op.new ≡ O.meaning op.old) }
+    ensures meaning { O.meaning op.new ≡ O.meaning op.old }
+    ensures kept { take (length out.old.items) out.new.items ≡ out.old.items }
 {
     for message in taken {
         feed_one(alloc, op, marks, port, message, out)?;
@@ -104,8 +108,28 @@ impl<O: Operator> Driver<O> {
         Ok(Driver { op, marks, sent: 0 })
     }
 
+    /// Takes messages on a port. Where memory runs out some of what answers them may stand there.
+    fn answer(
+        &mut self,
+        alloc: Global,
+        port: usize,
+        taken: &[Message],
+        out: &mut Vec<Message>,
+    ) -> Result<(), OutOfMemory>
+        requires { (lists : Lists) × (given : List Message) × Drives (O.meaning self.old.op) (O.stands self.old.op) self.old.marks.items self.old.sent lists given × (port < length lists) × IsLegalBehind (list_at lists port) taken.now }
+        ensures answers { OnOk result ((lists : Lists) (given : List Message) → Drives (O.meaning self.old.op) (O.stands self.old.op) self.old.marks.items self.old.sent lists given → port < length lists → IsLegalBehind (list_at lists port) taken.now → Answers (O.meaning self.old.op) (O.stands self.new.op) (O.held self.new.op) self.new.marks.items self.old.sent self.new.sent lists port taken.now given out.old.items out.new.items) }
+        ensures meaning { O.meaning self.new.op ≡ O.meaning self.old.op }
+        ensures kept { take (length out.old.items) out.new.items ≡ out.old.items }
+    {
+        feed(alloc, &mut self.op, &mut self.marks, port, taken, out)?;
+        let bound = self.op.bound(self.marks.as_slice());
+        push_mark(bound, &mut self.sent, out)?;
+        self.op.trim(self.marks.as_slice());
+        Ok(())
+    }
+
     /// Takes messages on a port, and appends the repairs that they call for, and then a mark where the bound rose.
-    /// Where memory runs out the driver is only to be dropped, and some messages may have been appended.
+    /// Where memory runs out nothing is appended, and the driver is only to be dropped.
     pub fn take(
         &mut self,
         alloc: Global,
@@ -115,12 +139,14 @@ impl<O: Operator> Driver<O> {
     ) -> Result<(), OutOfMemory>
         requires { (lists : Lists) × (given : List Message) × Drives (O.meaning self.old.op) (O.stands self.old.op) self.old.marks.items self.old.sent lists given × (port < length lists) × IsLegalBehind (list_at lists port) taken.now }
         ensures answers { OnOk result ((lists : Lists) (given : List Message) → Drives (O.meaning self.old.op) (O.stands self.old.op) self.old.marks.items self.old.sent lists given → port < length lists → IsLegalBehind (list_at lists port) taken.now → Answers (O.meaning self.old.op) (O.stands self.new.op) (O.held self.new.op) self.new.marks.items self.old.sent self.new.sent lists port taken.now given out.old.items out.new.items) }
-        ensures meaning { OnOk result (O.meaning self.new.op ≡ O.meaning self.old.op) }
+        ensures meaning { O.meaning self.new.op ≡ O.meaning self.old.op }
+        ensures err { OnErr result (out.new.items ≡ out.old.items) }
     {
-        feed(alloc, &mut self.op, &mut self.marks, port, taken, out)?;
-        let bound = self.op.bound(self.marks.as_slice());
-        push_mark(bound, &mut self.sent, out)?;
-        self.op.trim(self.marks.as_slice());
-        Ok(())
+        let before = out.len();
+        let result = self.answer(alloc, port, taken, out);
+        if result.is_err() {
+            out.truncate(before);
+        }
+        result
     }
 }

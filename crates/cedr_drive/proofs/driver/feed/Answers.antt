@@ -1,15 +1,17 @@
 use Rattle.std.proofs.Common.{◌≡◌, ◌<◌, ◌+◌, ◌++◌, ◌∷◌, [], ◌∙◌, ap, sym, subst, refl, List, arith, rules, take, get_or, length}
+use Rattle.std.proofs.Math.Seq.{take-length}
 use Rattle.std.proofs.lemmas.List.{take_more, take_all}
 use Rattle.cedr_base.specs.declared.change.Message.{Message}
 use Rattle.cedr_laws.specs.Lists.{with_more}
 use Rattle.cedr_drive.specs.Driving.{IsFed}
-use Rattle.cedr_drive.proofs.DriveLemmas.{fed_none, fed_more, works_as, may_take_at}
+use Rattle.cedr_drive.proofs.DriveLemmas.{kept_along, fed_none, fed_more, works_as, may_take_at}
 use Rattle.cedr_drive.proofs.driver.feed.Goals as goal
 
 pub loop-message-init : goal.loop-message-init
 loop-message-init g c = record {
   fed = λ lists given w port_is legal. fed_none (g.O.Operator.meaning c.args.op.now) (g.O.Operator.stands c.args.op.now) c.args.marks.now.items lists c.args.port given c.args.out.now.items w;
   meaning = refl;
+  kept = take-length c.args.out.now.items;
 }
 
 pub feed_one-requires : goal.feed_one-requires
@@ -49,6 +51,7 @@ loop-message-preserved g c =
           l.invariant.meaning f
           (k.fed (with_more lists port (take i taken)) (given ++ f.gained) w' (may_take_at lists port taken i c.message-item.result port_is legal within at)));
       meaning = k.meaning ∙ l.invariant.meaning;
+      kept = kept_along c.args.out.now.items l.out.items c.feed_one.new.out.items l.invariant.kept c.feed_one.ensures.kept;
     }
 
 pub returns-clause-fed : goal.returns-clause-fed

@@ -37,7 +37,7 @@ returns-in_ok-push_changes-in-Change-clause-fed g c = λ lists given w may0.
     let changes_are : c.as_slice.result.now ≡ fixed.changes = c.as_slice.ensures.value ∙ (fixed.appended ∙ ap (λ (cs : List Change). cs ++ fixed.changes) c.new-changes.ensures.items) in
     subst (λ (m : Message). IsFed (op.meaning old) (op.stands new) marks lists port (m ∷ []) given c.args.out.now.items c.push_changes.new.out.items) (sym c.in-Change.is) (record {
       gained = wrapped fixed.changes;
-      appended = c.in_ok-push_changes-in-Change.ensures ∙ ap (λ (cs : List Change). c.args.out.now.items ++ wrapped cs) changes_are;
+      appended = c.in_ok-push_changes-in-Change.ensures.out ∙ ap (λ (cs : List Change). c.args.out.now.items ++ wrapped cs) changes_are;
       works = feed_change (op.meaning old) (op.stands old) (op.stands new) marks lists given port w change fixed.changes may stands_now fixed.repair
           ((laws.lawful old).bound_stays w.tables marks port change (applied change rows) w.op can moved);
       no_mark = mark-wrapped fixed.changes;

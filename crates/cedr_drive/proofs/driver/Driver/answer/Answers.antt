@@ -3,7 +3,7 @@ use Rattle.cedr_base.specs.declared.time.TheConstants.{FOREVER}
 use Rattle.cedr_base.specs.Rows.{SameRows}
 use Rattle.cedr_table.specs.Operators.{Tables, Meaning, AreTimes, SameTables, OnlyHolds}
 use Rattle.cedr_drive.proofs.DriveLemmas.{rise_itself, answer_fed, same_tables_itself, same_tables_back}
-use Rattle.cedr_drive.proofs.driver.Driver.take.Goals as goal
+use Rattle.cedr_drive.proofs.driver.Driver.answer.Goals as goal
 
 pub bound-bound-requires : goal.bound-bound-requires
 bound-bound-requires g c =
@@ -49,7 +49,7 @@ returns-clause-answers g c = λ lists given d port_is legal.
     let trimmed = c.trim.ensures.stands tables c.as_slice-2.result.now was (rise_itself c.as_slice-2.result.now) in
     let held = c.trim.ensures.held tables c.as_slice-2.result.now was (rise_itself c.as_slice-2.result.now) in
     answer_fed (op.meaning old) (op.stands mid) (op.stands c.trim.new.self) (op.held c.trim.new.self) marks lists c.args.port c.args.taken.now given c.args.out.now.items c.feed.new.out.items f
-    c.args.self.now.sent c.push_mark.new.sent c.bound-bound.result c.push_mark.new.out.items d.sent_is c.in_ok-push_mark.ensures.1 told alike echo_mark time
+    c.args.self.now.sent c.push_mark.new.sent c.bound-bound.result c.push_mark.new.out.items d.sent_is c.in_ok-push_mark.ensures.sent.1 told alike echo_mark time
     (subst (λ (ms : List ℕ). op.stands c.trim.new.self tables ms) c.as_slice-2.ensures.value trimmed)
     (subst (λ (h : Meaning). OnlyHolds h tables marks (op.held c.trim.new.self)) e.meaning (subst (λ (ms : List ℕ). OnlyHolds (op.meaning mid) tables ms (op.held c.trim.new.self)) c.as_slice-2.ensures.value held))
-    c.in_ok-push_mark.ensures.0
+    c.in_ok-push_mark.ensures.sent.0
