@@ -140,6 +140,7 @@ impl<O: Operator> Driver<O> {
         requires { (lists : Lists) × (given : List Message) × Drives (O.meaning self.old.op) (O.stands self.old.op) self.old.marks.items self.old.sent lists given × (port < length lists) × IsLegalBehind (list_at lists port) taken.now }
         ensures answers { OnOk result ((lists : Lists) (given : List Message) → Drives (O.meaning self.old.op) (O.stands self.old.op) self.old.marks.items self.old.sent lists given → port < length lists → IsLegalBehind (list_at lists port) taken.now → Answers (O.meaning self.old.op) (O.stands self.new.op) (O.held self.new.op) self.new.marks.items self.old.sent self.new.sent lists port taken.now given out.old.items out.new.items) }
         ensures meaning { O.meaning self.new.op ≡ O.meaning self.old.op }
+        ensures kept { take (length out.old.items) out.new.items ≡ out.old.items }
         ensures err { OnErr result (out.new.items ≡ out.old.items) }
     {
         let before = out.len();

@@ -11,7 +11,7 @@ use Rattle.cedr_laws.specs.Pass.{passed_of, front, pass, itself, gained, additio
 use Rattle.cedr_stream.specs.Repairs.{wrapped}
 use Rattle.cedr_laws.specs.Lists.{mark_above, Lists, list_at, with_more}
 use Rattle.cedr_laws.specs.Lawful.{passes_of, is_over}
-use Rattle.cedr_node.specs.Nodes.{is_broken, is_closing, AllStand, levels_of, waiting_of, ending}
+use Rattle.cedr_node.specs.Standing.{is_broken, is_closing, AllStand, levels_of, waiting_of, ending}
 use Rattle.cedr_laws.proofs.Grows.{pass-push}
 use Rattle.cedr_laws.proofs.Strong.{changes_answer}
 use Rattle.cedr_laws.proofs.Passes.{passes, adds, additions_wrapped, wrapped-append}

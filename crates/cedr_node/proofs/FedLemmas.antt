@@ -1,15 +1,13 @@
 -- What came on the ports of a node, beside the lists that it took.
-use Rattle.std.proofs.Common.{◌≡◌, ℕ, ◌<◌, zero, suc, List, [], ◌∷◌, ◌++◌, false, refl, ap, sym, subst, arith, length, set, get_or, replicate}
+use Rattle.std.proofs.Common.{◌≡◌, ℕ, ◌<◌, zero, suc, List, [], ◌∷◌, ◌++◌, refl, ap, sym, subst, arith, length, set, get_or, replicate}
 use Rattle.cedr_base.specs.declared.change.Message.{Message}
 use Rattle.cedr_base.specs.Messages.{MayCome}
 use Rattle.cedr_laws.specs.Lists.{Lists, list_at}
 use Rattle.cedr_drive.specs.Driving.{MayTake}
-use Rattle.op_planned.specs.Chosen.{chosen_meaning, ChosenStands}
-use Rattle.op_planned.specs.declared.planned.Planned.{Planned}
 use Rattle.msg_feed.specs.Came.{StandsFor}
 use Rattle.msg_feed.specs.declared.came.Came.{Came}
 use Rattle.cedr_node.specs.Fed.{AllCame, WasFed}
-use Rattle.cedr_node.specs.Nodes.{StandsBetween}
+use Rattle.cedr_node.specs.Nodes.{NodeStands}
 use Rattle.cedr_node.specs.declared.node.Node.{Node}
 
 pub came_length : (cs : List Came) (ls : Lists) → AllCame cs ls → length cs ≡ length ls
@@ -46,13 +44,5 @@ may_take cs ls port m at came within is may = record {
 }
 
 -- a node to which nothing came
-pub started : (node : Node Planned) (cs : List Came) (count ports : ℕ) → count ≡ ports → node.spent ≡ false
-    → StandsBetween (chosen_meaning node.driver.op) (ChosenStands node.driver.op) node.ports.items node.driver.marks.items node.driver.sent node.waiting node.broken (replicate count []) []
-    → AllCame cs (replicate ports []) → WasFed node cs
-started node cs count ports is usable between came = record {
-  lists = replicate count [];
-  given = [];
-  usable = usable;
-  between = between;
-  came_are = subst (λ (n : ℕ). AllCame cs (replicate n [])) (sym is) came;
-}
+pub started : (node : Node) (cs : List Came) (count ports : ℕ) → count ≡ ports → NodeStands node (replicate count []) [] → AllCame cs (replicate ports []) → WasFed node cs
+started node cs count ports is stands came = record { lists = replicate count []; given = []; stands = stands; came_are = subst (λ (n : ℕ). AllCame cs (replicate n [])) (sym is) came }

@@ -9,7 +9,7 @@ use Rattle.cedr_laws.specs.Lists.{Lists}
 use Rattle.cedr_laws.specs.Lawful.{passes_of, any_broken}
 use Rattle.cedr_laws.proofs.Grows.{pass-nil}
 use Rattle.cedr_node.specs.declared.port.Port.{Port}
-use Rattle.cedr_node.specs.Nodes.{PortStands, AllStand, levels_of, waiting_of, StandsBetween}
+use Rattle.cedr_node.specs.Standing.{PortStands, AllStand, levels_of, waiting_of, StandsBetween}
 use Rattle.cedr_drive.specs.Driving.{Drives}
 
 pub all-push : (ps : List Port) (ls : Lists) (p : Port) (l : List Message) → AllStand ps ls → PortStands p l → AllStand (ps ++ p ∷ []) (ls ++ l ∷ [])
@@ -54,7 +54,7 @@ first_stands meaning stands ports marks sent vs count levels_are all drives echo
       ports_stand = all;
       waiting_is = sym (waiting_none (length vs));
       broken_is = sym (broken_none (length vs));
-      lawful = record { steps = []; lists_are = ap (λ (ws : List Level). replicate (length ws) []) levels_are; given_is = refl; right = tt };
+      lawful = record { steps = []; on_ports = tt; lists_are = ap (λ (ws : List Level). replicate (length ws) []) levels_are; given_is = refl; right = tt };
       drives = λ _ _. subst (λ (ls : Lists). Drives meaning stands marks sent ls []) (sym passes_are) driven;
       echo = λ _ e.
           let w = driven.works in

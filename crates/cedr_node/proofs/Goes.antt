@@ -1,7 +1,7 @@
 -- An operator with an aligner on each port goes on when a message comes.
-use Rattle.std.proofs.Common.{◌≡◌, ℕ, ◌<◌, List, [], ◌∷◌, ◌++◌, Bool, true, false, cond, refl, ap, sym, ◌∙◌, subst, arith, set, get_or, append_assoc}
+use Rattle.std.proofs.Common.{◌≡◌, ℕ, ◌<◌, List, [], ◌∷◌, ◌++◌, Bool, true, false, cond, refl, ap, sym, ◌∙◌, subst, arith, length, set, get_or, append_assoc}
 use Rattle.std.specs.Prelude.{map, nat_eq}
-use Rattle.std.proofs.lemmas.List.{append-nil}
+use Rattle.std.proofs.lemmas.List.{append-nil, length-map}
 use Rattle.cedr_base.specs.declared.row.Row.{Row}
 use Rattle.cedr_base.specs.declared.change.Change.{Change}
 use Rattle.cedr_base.specs.declared.change.Message.{Message}
@@ -14,13 +14,14 @@ use Rattle.cedr_table.specs.Operators.{SameTables, Tables, Meaning}
 use Rattle.cedr_base.specs.declared.level.Level.{Level}
 use Rattle.cedr_laws.specs.Pass.{has_end}
 use Rattle.cedr_laws.specs.Lists.{Lists, list_at, IsReal, AreTables, with_more}
-use Rattle.cedr_laws.specs.Lawful.{tables_of, fronts_of, passes_of, has_broken, any_broken, all_end, all_over, IsRight, Step, AreRightBehind, lists_after, lists_behind, given_by, no_lists, IsLawful}
+use Rattle.cedr_laws.specs.Lawful.{tables_of, fronts_of, passes_of, has_broken, any_broken, all_end, all_over, IsRight, Step, AreRightBehind, lists_after, lists_behind, given_by, no_lists, AreOnPorts, IsLawful}
 use Rattle.cedr_laws.proofs.Grows.{end-pushed}
 use Rattle.cedr_laws.proofs.Holds.{open_is}
 use Rattle.cedr_drive.specs.Driving.{MayTake, Drives, Answers}
 use Rattle.cedr_node.specs.declared.port.Port.{Port}
-use Rattle.cedr_node.specs.Nodes.{AllStand, levels_of, waiting_of, StandsBetween, IsPortTaken, ending, breaking}
-use Rattle.cedr_node.proofs.PortLists.{all_set, levels_set, passes_more, tables_same, fronts_are, open_unbroken, broken-append, over_is, ends_over}
+use Rattle.cedr_node.specs.Standing.{AllStand, levels_of, waiting_of, StandsBetween, IsPortTaken, ending, breaking}
+use Rattle.cedr_laws.proofs.Ends.{open_unbroken, broken-append, ends_over}
+use Rattle.cedr_node.proofs.PortLists.{all_length, all_set, levels_set, passes_more, tables_same, fronts_are, over_is}
 
 -- one more step
 module _ (meaning : Meaning) (levels : List Level) where
@@ -41,12 +42,17 @@ module _ (meaning : Meaning) (levels : List Level) where
         (subst (λ (xs : List Message). IsRight meaning levels (lists_after (lists_behind (lists_after ls x) ss) s) (xs ++ s.piece) s.piece) (sym (append_assoc g x.piece (given_by ss))) k),
   )
 
-  pub lawful_push : (lists : Lists) (given : List Message) (port : ℕ) (m : Message) (piece : List Message) → IsLawful meaning levels lists given
+  on_ports-append : (n : ℕ) (ss : List Step) (s : Step) → AreOnPorts n ss → s.port < n → AreOnPorts n (ss ++ s ∷ [])
+  on_ports-append n [] s h within = (within, tt)
+  on_ports-append n (x ∷ ss) s h within = (h.0, on_ports-append n ss s h.1 within)
+
+  pub lawful_push : (lists : Lists) (given : List Message) (port : ℕ) (m : Message) (piece : List Message) → port < length levels → IsLawful meaning levels lists given
       → IsRight meaning levels (with_more lists port (m ∷ [])) (given ++ piece) piece → IsLawful meaning levels (with_more lists port (m ∷ [])) (given ++ piece)
-  lawful_push lists given port m piece h right =
+  lawful_push lists given port m piece within h right =
       let s : Step = record { port = port; message = m; piece = piece } in
       record {
         steps = h.steps ++ (record { port = port; message = m; piece = piece }) ∷ [];
+        on_ports = on_ports-append (length levels) h.steps s h.on_ports within;
         lists_are = lists-append (no_lists levels) h.steps s ∙ ap (λ (ls : Lists). with_more ls port (m ∷ [])) h.lists_are;
         given_is = given-append h.steps s ∙ ap (λ (xs : List Message). xs ++ piece) h.given_is;
         right = right-append (no_lists levels) [] h.steps s h.right
@@ -97,6 +103,9 @@ module _ (meaning : Meaning) (stands stands' : Tables → List ℕ → Type 0) (
       ap (λ (ms : List Message). with_more (passes_of (levels_of ports) lists) port ms) taken.passed_on
       ∙ (sym (passes_more port ports lists d m h.ports_stand may.port_is) ∙ ap (λ (vs : List Level). passes_of vs (with_more lists port (m ∷ []))) (sym levels_now))
 
+  within_now : port < length (levels_of (set ports port p'))
+  within_now = let e = may.port_is in omega (arith, ap (λ (vs : List Level). length vs) levels_now, length-map ports (λ (q : Port). q.aligner.level), all_length ports lists h.ports_stand)
+
   lawful_now : IsLawful meaning (levels_of (set ports port p')) lists given
   lawful_now = subst (λ (vs : List Level). IsLawful meaning vs lists given) (sym levels_now) h.lawful
 
@@ -145,7 +154,7 @@ module _ (meaning : Meaning) (stands stands' : Tables → List ℕ → Type 0) (
       ports_stand = ports_now;
       waiting_is = waiting_now;
       broken_is = broken_is;
-      lawful = lawful_push meaning (levels_of (set ports port p')) lists given port m (a.gained ++ ending waiting') lawful_now right_now;
+      lawful = lawful_push meaning (levels_of (set ports port p')) lists given port m (a.gained ++ ending waiting') within_now lawful_now right_now;
       drives = λ _ not_over.
           let zero : nat_eq waiting' 0 ≡ false = ap (λ n. nat_eq n 0) waiting_now ∙ (sym (over_is (with_more lists port (m ∷ []))) ∙ not_over) in
           subst (λ (g : List Message). Drives meaning stands' marks' sent' (passes_of (levels_of (set ports port p')) (with_more lists port (m ∷ []))) g) (sym (no_end (nat_eq waiting' 0) zero))
@@ -167,7 +176,7 @@ module _ (meaning : Meaning) (stands stands' : Tables → List ℕ → Type 0) (
         ports_stand = ports_now;
         waiting_is = waiting_now;
         broken_is = broken_is;
-        lawful = lawful_push meaning (levels_of (set ports port p')) lists given port m (breaking waiting') lawful_now
+        lawful = lawful_push meaning (levels_of (set ports port p')) lists given port m (breaking waiting') within_now lawful_now
             (record { whole = λ e. cc; last = λ _ k. cases.0 (over ∙ k); empty = λ _ k. cases.1 (over ∙ k) });
         drives = λ e. cc;
         echo = λ e. cc;

@@ -6,3 +6,4 @@ pub mod First
 pub mod Takes
 pub mod FedLemmas
 pub mod LevelLemmas
+pub mod NodeLemmas

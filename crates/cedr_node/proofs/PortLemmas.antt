@@ -8,7 +8,7 @@ use Rattle.cedr_laws.proofs.Grows.{forgot-push}
 use Rattle.cedr_align.specs.declared.fate.Fate.{Fate}
 use Rattle.cedr_align.specs.Aligner.{listed, IsTaken}
 use Rattle.cedr_node.specs.declared.port.Port.{Port}
-use Rattle.cedr_node.specs.Nodes.{PortStands, IsPortTaken}
+use Rattle.cedr_node.specs.Standing.{PortStands, IsPortTaken}
 
 pub port_taken : (old new : Port) (ms : List Message) (m : Message) (before after : List Message) (fate : Fate) → PortStands old ms → IsTaken old.aligner new.aligner ms m before after fate
     → new.forgotten.items ≡ old.forgotten.items ++ listed fate → IsPortTaken old new ms m before after

@@ -13,9 +13,10 @@ use Rattle.cedr_table.specs.Operators.{SameTables, Tables}
 use Rattle.cedr_base.specs.declared.level.Level.{Level}
 use Rattle.cedr_laws.specs.Pass.{has_end, passed_of, passed_table, pass}
 use Rattle.cedr_laws.specs.Lists.{Lists, list_at, AreTables, with_more}
-use Rattle.cedr_laws.specs.Lawful.{tables_of, fronts_of, passes_of, has_broken, is_over, any_broken, all_end, all_over}
-use Rattle.cedr_node.specs.Nodes.{is_broken, is_closing, PortStands, AllStand, levels_of, waiting_of}
+use Rattle.cedr_laws.specs.Lawful.{tables_of, fronts_of, passes_of, has_broken, is_over, any_broken, all_over}
+use Rattle.cedr_node.specs.Standing.{is_broken, is_closing, PortStands, AllStand, levels_of, waiting_of}
 use Rattle.cedr_laws.proofs.Grows.{pass-push, end-append}
+use Rattle.cedr_laws.proofs.Ends.{open_unbroken, broken-append, over_open}
 use Rattle.cedr_laws.proofs.Holds.{open_is}
 use Rattle.cedr_laws.proofs.Passes.{passes}
 use Rattle.cedr_node.specs.declared.port.Port.{Port}
@@ -89,20 +90,6 @@ fronts_are (p ∷ ps) (l ∷ ls) h =
     let rest = fronts_are ps ls h.1 in
     cc
 
-pub open_unbroken : (ms : List Message) → IsOpen ms → has_broken ms ≡ false
-open_unbroken [] h = refl
-open_unbroken (message.Change c ∷ ms) h = open_unbroken ms h
-open_unbroken (message.Mark t ∷ ms) h = open_unbroken ms h
-open_unbroken (message.End ∷ ms) h = absurd h
-open_unbroken (message.Broken ∷ ms) h = absurd h
-
-pub broken-append : (xs ys : List Message) → has_broken xs ≡ false → has_broken (xs ++ ys) ≡ has_broken ys
-broken-append [] ys h = refl
-broken-append (message.Change c ∷ xs) ys h = broken-append xs ys h
-broken-append (message.Mark t ∷ xs) ys h = broken-append xs ys h
-broken-append (message.End ∷ xs) ys h = broken-append xs ys h
-broken-append (message.Broken ∷ xs) ys h = cc
-
 broken_one : (m : Message) → has_broken (m ∷ []) ≡ is_broken m
 broken_one (message.Change c) = refl
 broken_one (message.Mark t) = refl
@@ -118,9 +105,6 @@ over_one message.Broken = refl
 pub over_pushed : (l : List Message) (m : Message) → IsOpen l → is_over (l ++ m ∷ []) ≡ is_closing m
 over_pushed l m h =
     ap (λ (b : Bool). b || has_broken (l ++ m ∷ [])) (end-append l (m ∷ []) (open_is l h)) ∙ (ap (λ (b : Bool). has_end (m ∷ []) || b) (broken-append l (m ∷ []) (open_unbroken l h)) ∙ over_one m)
-
-pub over_open : (l : List Message) → IsOpen l → is_over l ≡ false
-over_open l h = ap (λ (b : Bool). b || has_broken l) (open_is l h) ∙ open_unbroken l h
 
 or_turned : (a b : Bool) → (a || b) ≡ (b || a)
 or_turned true true = refl
@@ -156,24 +140,3 @@ over_is (l ∷ ls) = at (is_over l) (over_is ls) where
   at : (b : Bool) → all_over ls ≡ nat_eq (waiting_of ls) 0 → (b && all_over ls) ≡ nat_eq (cond b 0 1 + waiting_of ls) 0
   at true h = h ∙ ap (λ n. nat_eq n 0) (let e : waiting_of ls ≡ 0 + waiting_of ls = omega arith in e)
   at false h = sym (ne_eqb (1 + waiting_of ls) 0 (λ e. absurd (omega arith)))
-
-pub open_not_over : (k : ℕ) (ls : Lists) → k < length ls → IsOpen (list_at ls k) → all_over ls ≡ false
-open_not_over k [] within h = absurd (omega arith)
-open_not_over zero (l ∷ ls) within h = ap (λ (b : Bool). b && all_over ls) (over_open l h)
-open_not_over (suc k) (l ∷ ls) within h = at (is_over l) (open_not_over k ls (omega arith) h) where
-  at : (b : Bool) → all_over ls ≡ false → (b && all_over ls) ≡ false
-  at true e = e
-  at false e = refl
-
-or_none : (a b : Bool) → (a || b) ≡ false → (a ≡ false) × (b ≡ false)
-or_none true b h = cc
-or_none false b h = (refl, h)
-
-pub ends_over : (ls : Lists) → any_broken ls ≡ false → all_end ls ≡ all_over ls
-ends_over [] h = refl
-ends_over (l ∷ ls) h =
-    let parts = or_none (has_broken l) (any_broken ls) h in
-    ap (λ (b : Bool). has_end l && b) (ends_over ls parts.1) ∙ ap (λ (b : Bool). b && all_over ls) (sym (ap (λ (b : Bool). has_end l || b) parts.0 ∙ or_false (has_end l))) where
-      or_false : (b : Bool) → (b || false) ≡ b
-      or_false true = refl
-      or_false false = refl

@@ -9,12 +9,13 @@ use Rattle.cedr_laws.specs.Pass.{passed_of, pass}
 use Rattle.cedr_table.specs.Operators.{Tables, Meaning}
 use Rattle.cedr_laws.specs.Lists.{Lists, list_at, with_more}
 use Rattle.cedr_laws.specs.Lawful.{passes_of, any_broken}
-use Rattle.cedr_node.specs.Nodes.{is_broken, is_closing, levels_of, waiting_of, StandsBetween, IsPortTaken, IsTakenOn, ending, breaking}
+use Rattle.cedr_node.specs.Standing.{is_broken, is_closing, levels_of, waiting_of, StandsBetween, IsPortTaken, IsTakenOn, ending, breaking}
 use Rattle.cedr_laws.proofs.Grows.{pass-push}
 use Rattle.cedr_laws.proofs.Passes.{passes}
 use Rattle.cedr_node.specs.declared.port.Port.{Port}
 use Rattle.cedr_drive.specs.Driving.{MayTake, Drives, Answers}
-use Rattle.cedr_node.proofs.PortLists.{all_at, levels_set, passes_length, passes_at, broken_set, waiting_set, open_not_over}
+use Rattle.cedr_laws.proofs.Ends.{open_not_over}
+use Rattle.cedr_node.proofs.PortLists.{all_at, passes_length, passes_at, broken_set, waiting_set}
 use Rattle.cedr_node.proofs.Echo.{echo_single}
 use Rattle.cedr_node.proofs.Goes.{goes, breaks_off, passes_now}
 
@@ -28,10 +29,6 @@ closing_low false = omega arith
 
 pub count_fits : (b : Bool) (w : ℕ) (lists : Lists) (port : ℕ) (m : Message) → MayTake lists port m → w ≡ waiting_of lists → b ≡ is_closing m → cond b 1 0 < w + 1
 count_fits b w lists port m may w_is b_is = let e = ap (λ (c : Bool). cond {A = ℕ} c 1 0) b_is in omega (arith, waiting_set port lists m may.port_is may.comes.0)
-
-pub levels_taken : (ports ports' : List Port) (port : ℕ) (ms : List Message) (m : Message) (passed : List Message) → IsTakenOn ports ports' port ms m passed → levels_of ports' ≡ levels_of ports
-levels_taken ports ports' port ms m passed t =
-    ap (λ (ps : List Port). levels_of ps) t.stands_at ∙ levels_set port ports t.now t.was (t.taken.same_level ∙ ap (λ (p : Port). p.aligner.level) (sym t.stood_at))
 
 module _ (meaning : Meaning) (stands : Tables → List ℕ → Type 0) (ports ports' : List Port) (marks : List ℕ) (sent waiting waiting' : ℕ) (broken broken' closed broke : Bool) (lists : Lists) (given : List Message)
     (port : ℕ) (m : Message) (passed : List Message)

@@ -1,13 +1,11 @@
 -- A node that was fed with messages that may come.
+use Rattle.std.specs.Prelude.{List, [], ◌∷◌}
 use Rattle.cedr_base.specs.declared.change.Message.{Message}
 use Rattle.cedr_laws.specs.Lists.{Lists}
-use Rattle.std.specs.Prelude.{◌≡◌, List, [], ◌∷◌, false}
 use Rattle.msg_feed.specs.Came.{StandsFor}
 use Rattle.msg_feed.specs.declared.came.Came.{Came}
-use Rattle.op_planned.specs.Chosen.{chosen_meaning, ChosenStands}
-use Rattle.op_planned.specs.declared.planned.Planned.{Planned}
 use Rattle.cedr_node.specs.declared.node.Node.{Node}
-use Rattle.cedr_node.specs.Nodes.{StandsBetween}
+use Rattle.cedr_node.specs.Nodes.{NodeStands}
 
 -- what came on each port is known
 abbrev pub AllCame : List Came → Lists → Type 0
@@ -16,10 +14,9 @@ AllCame [] (l ∷ ls) = ⊥
 AllCame (c ∷ cs) [] = ⊥
 AllCame (c ∷ cs) (l ∷ ls) = StandsFor c l × AllCame cs ls
 
--- some lists came on the ports of a usable node, some list was given, and what came is known
-pub record WasFed (node : Node Planned) (came : List Came) : Type 0 where
+-- some lists came on the ports of a node, some list was given, and what came is known
+pub record WasFed (node : Node) (came : List Came) : Type 0 where
   pub lists : Lists
   pub given : List Message
-  pub usable : node.spent ≡ false
-  pub between : StandsBetween (chosen_meaning node.driver.op) (ChosenStands node.driver.op) node.ports.items node.driver.marks.items node.driver.sent node.waiting node.broken lists given
+  pub stands : NodeStands node lists given
   pub came_are : AllCame came lists

@@ -1,83 +1,43 @@
--- What an operator with an aligner on each port stands for.
-use Rattle.std.specs.Prelude.{ℕ, ◌≡◌, ◌+◌, List, [], ◌∷◌, ◌++◌, map, slice_set, slice_index_or, Bool, true, false, cond, nat_eq, if◌then◌else◌}
+-- What a node of a plan that takes messages stands for.
+use Rattle.std.specs.Prelude.{ℕ, ◌≡◌, List, length, replicate, Bool, false}
 use Rattle.cedr_base.specs.declared.change.Message.{Message}
-use Rattle.cedr_base.specs.declared.change.Message.TheVariants as message
 use Rattle.cedr_base.specs.declared.level.Level.{Level}
-use Rattle.cedr_table.specs.Operators.{Tables, Meaning}
-use Rattle.cedr_laws.specs.declared.forgotten.Forgotten.{Forgotten}
-use Rattle.cedr_laws.specs.Kept.{forgot}
-use Rattle.cedr_laws.specs.Pass.{passed_of}
+use Rattle.cedr_table.specs.Operators.{Meaning}
+use Rattle.cedr_plan.specs.declared.plan.PlanNode.{PlanNode}
 use Rattle.cedr_laws.specs.Lists.{Lists}
-use Rattle.cedr_laws.specs.Lawful.{passes_of, is_over, any_broken, all_over, IsLawful}
-use Rattle.cedr_align.specs.Aligner.{Aligns}
-use Rattle.cedr_drive.specs.Driving.{Drives}
-use Rattle.cedr_node.specs.declared.port.Port.{Port}
+use Rattle.op_planned.specs.Chosen.{chosen_meaning, ChosenStands}
+use Rattle.op_planned.specs.Meanings.{meaning_of}
+use Rattle.cedr_node.specs.declared.node.Node.{Node}
+use Rattle.cedr_node.specs.Standing.{levels_of, StandsBetween}
 
--- a port stands for a list that it took
-pub record PortStands (p : Port) (ms : List Message) : Type 0 where
-  pub aligns : Aligns p.aligner ms
-  pub forgotten_is : p.forgotten.items ≡ forgot p.aligner.level.memory ms
+-- the level of each port of a plan's node
+abbrev pub port_levels : PlanNode → List Level
+port_levels node = replicate (length node.inputs.items) node.level
 
-abbrev pub AllStand : List Port → Lists → Type 0
-AllStand [] [] = Unit {0}
-AllStand [] (l ∷ ls) = ⊥
-AllStand (p ∷ ps) [] = ⊥
-AllStand (p ∷ ps) (l ∷ ls) = PortStands p l × AllStand ps ls
+-- the plan's node that a node is
+abbrev pub made_of : Node → PlanNode
+made_of node = node.made_of
 
-abbrev pub levels_of : List Port → List Level
-levels_of ps = map (λ (p : Port). p.aligner.level) ps
+-- memory ran out in a call
+abbrev pub is_spent : Node → Bool
+is_spent node = node.spent
 
--- what breaks a list; what closes one
-abbrev pub is_broken : Message → Bool
-is_broken (message.Change c) = false
-is_broken (message.Mark t) = false
-is_broken message.End = false
-is_broken message.Broken = true
+-- what its operator means
+abbrev pub meaning_in : Node → Meaning
+meaning_in node = chosen_meaning node.works.driver.op
 
-abbrev pub is_closing : Message → Bool
-is_closing (message.Change c) = false
-is_closing (message.Mark t) = false
-is_closing message.End = true
-is_closing message.Broken = true
+-- the levels of its ports, and how many there are
+abbrev pub levels_in : Node → List Level
+levels_in node = levels_of node.works.ports.items
 
--- how many lists may go on
-abbrev pub waiting_of : Lists → ℕ
-waiting_of [] = 0
-waiting_of (l ∷ ls) = cond (is_over l) 0 1 + waiting_of ls
+abbrev pub port_count : Node → ℕ
+port_count node = length node.works.ports.items
 
--- the end, or a break, where no port waits
-abbrev pub ending : ℕ → List Message
-ending waiting = if nat_eq waiting 0 then message.End ∷ [] else []
-
-abbrev pub breaking : ℕ → List Message
-breaking waiting = if nat_eq waiting 0 then message.Broken ∷ [] else []
-
--- the operator and its ports stand for the lists that came on the ports and the list that was given: they are lawful
--- between them
-pub record StandsBetween (meaning : Meaning) (stands : Tables → List ℕ → Type 0) (ports : List Port) (marks : List ℕ) (sent waiting : ℕ) (broken : Bool) (lists : Lists) (given : List Message) : Type 0 where
-  pub ports_stand : AllStand ports lists
-  pub waiting_is : waiting ≡ waiting_of lists
-  pub broken_is : broken ≡ any_broken lists
-  pub lawful : IsLawful meaning (levels_of ports) lists given
-  pub drives : any_broken lists ≡ false → all_over lists ≡ false → Drives meaning stands marks sent (passes_of (levels_of ports) lists) given
-  pub echo : any_broken lists ≡ false → meaning.echoes ≡ true → passes_of (levels_of ports) lists ≡ given ∷ []
-
--- a port took a message
-pub record IsPortTaken (old new : Port) (ms : List Message) (m : Message) (before after : List Message) : Type 0 where
-  pub stands : PortStands new (ms ++ m ∷ [])
-  pub passed_on : after ≡ before ++ passed_of old.aligner.level ms m
-  pub same_level : new.aligner.level ≡ old.aligner.level
-
--- one of the ports took a message
-pub record IsTakenOn (old new : List Port) (port : ℕ) (ms : List Message) (m : Message) (passed : List Message) : Type 0 where
-  pub was : Port
-  pub now : Port
-  pub stood_at : slice_index_or old port was ≡ was
-  pub stands_at : new ≡ slice_set old port now
-  pub taken : IsPortTaken was now ms m [] passed
-
--- what the memory of the port at a place forgot of the list that it took
-pub record IsForgottenAt (ports : List Port) (port : ℕ) (ms : List Message) (listed : List Forgotten) : Type 0 where
-  pub at : Port
-  pub stands_at : slice_index_or ports port at ≡ at
-  pub all : listed ≡ forgot at.aligner.level.memory ms
+-- A node stands between the lists that came on its ports and the list that it gave. It is usable, its operator means
+-- what the plan's node does, each port has the level of the plan's node, and the operator and the ports stand between
+-- the lists: these are lawful, and the next message may come.
+pub record NodeStands (node : Node) (lists : Lists) (given : List Message) : Type 0 where
+  pub usable : is_spent node ≡ false
+  pub means : meaning_in node ≡ meaning_of (made_of node)
+  pub levels : levels_in node ≡ port_levels (made_of node)
+  pub between : StandsBetween (meaning_in node) (ChosenStands node.works.driver.op) node.works.ports.items node.works.driver.marks.items node.works.driver.sent node.works.waiting node.works.broken lists given

@@ -16,7 +16,7 @@ pub(crate) struct Port {
 }
 
 impl Port {
-    ghost use Rattle.cedr_node.specs.Nodes.{PortStands, IsPortTaken};
+    ghost use Rattle.cedr_node.specs.Standing.{PortStands, IsPortTaken};
 
     /// A port to which nothing came. Its block isn't over its memory. It takes no memory.
     pub(crate) fn new(alloc: Global, level: Level) -> Port
@@ -31,14 +31,15 @@ impl Port {
     }
 
     /// Takes a message that may come behind those before it, and appends what it passes on. Where memory runs out the
-    /// port is only to be dropped, and some of this may have been appended.
+    /// port is only to be dropped.
     pub(crate) fn take(
         &mut self,
         alloc: Global,
         message: Message,
         passed: &mut Vec<Message>,
     ) -> Result<(), OutOfMemory>
-        ensures { OnOk result ((ms : List Message) → PortStands self.old ms → MayCome ms message → IsPortTaken self.old self.new ms message passed.old.items passed.new.items) }
+        ensures taken { OnOk result ((ms : List Message) → PortStands self.old ms → MayCome ms message → IsPortTaken self.old self.new ms message passed.old.items passed.new.items) }
+        ensures level { self.new.aligner.level ≡ self.old.aligner.level }
     {
         match self.aligner.take(alloc, message, passed)? {
             Fate::Kept => {}

@@ -8,7 +8,6 @@ use cedr_base::{FOREVER, Level, Message, OutOfMemory, Text, Time};
 use cedr_laws::Cause;
 use cedr_plan::{NodeKind, PlanNode};
 use msg_feed::{Came, Told, message_of, tell, tell_change};
-use op_planned::Planned;
 use std::alloc::Global;
 use std::test::Fail;
 
@@ -28,7 +27,7 @@ const MIDDLE: Level = Level {
 /// A node, and what came on its ports.
 #[derive(Drop)]
 struct Fed {
-    node: Node<Planned>,
+    node: Node,
     came: Vec<Came>,
 }
 
@@ -68,7 +67,7 @@ fn start(alloc: Global, kind: NodeKind, ports: usize, level: Level) -> Result<Fe
         types: Vec::new(alloc),
     };
     let came = nothing_came(alloc, ports)?;
-    let node = Node::planned(alloc, &planned)?;
+    let node = Node::new(alloc, &planned)?;
     Ok(Fed { node, came })
 }
 

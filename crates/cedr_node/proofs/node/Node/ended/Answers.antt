@@ -1,7 +1,4 @@
-use Rattle.std.proofs.Common.{◌∙◌, sym, ap, ℕ}
-use Rattle.std.specs.Prelude.{nat_eq}
-use Rattle.cedr_node.proofs.PortLists.{over_is}
 use Rattle.cedr_node.proofs.node.Node.ended.Goals as goal
 
 pub returns : goal.returns
-returns g c = λ lists given h. ap (λ (n : ℕ). nat_eq n 0) h.waiting_is ∙ sym (over_is lists)
+returns c = λ lists given stands. c.ended.ensures lists stands.between.waiting_is

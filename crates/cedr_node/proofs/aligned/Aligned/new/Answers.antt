@@ -2,7 +2,7 @@ use Rattle.std.proofs.Common.{◌∙◌, [], sym, ap, subst, replicate}
 use Rattle.cedr_table.specs.Operators.{Meaning}
 use Rattle.cedr_drive.specs.Driving.{Drives}
 use Rattle.cedr_node.proofs.First.{first_stands}
-use Rattle.cedr_node.proofs.node.Node.new.Goals as goal
+use Rattle.cedr_node.proofs.aligned.Aligned.new.Goals as goal
 
 pub returns-clause-stands : goal.returns-clause-stands
 returns-clause-stands g c =

@@ -1,4 +1,4 @@
-use Rattle.std.proofs.Common.{◌++◌, ◌∷◌, ◌∙◌, ◌||◌, refl, [], sym, ap, subst, List, append_assoc}
+use Rattle.std.proofs.Common.{◌++◌, ◌∷◌, ◌∙◌, ◌||◌, refl, [], sym, ap, subst, List, append_assoc, arith}
 use Rattle.std.proofs.lemmas.Result.{on_ok_weaker}
 use Rattle.cedr_base.specs.declared.change.Message.{Message}
 use Rattle.cedr_base.specs.Messages.{IsLegalBehind}
@@ -6,9 +6,13 @@ use Rattle.cedr_table.specs.Operators.{Meaning}
 use Rattle.cedr_laws.specs.Lists.{list_at, with_more}
 use Rattle.cedr_laws.specs.Lawful.{passes_of}
 use Rattle.cedr_drive.specs.Driving.{Answers}
-use Rattle.cedr_node.specs.Nodes.{levels_of, ending, breaking, StandsBetween}
-use Rattle.cedr_node.proofs.Takes.{levels_taken, count_fits, takes_broken, driven, port_within, may_pass, takes_whole}
-use Rattle.cedr_node.proofs.node.Node.take_message.Goals as goal
+use Rattle.cedr_node.specs.Standing.{levels_of, ending, breaking, StandsBetween}
+use Rattle.cedr_node.proofs.PortLists.{all_length}
+use Rattle.cedr_node.proofs.Takes.{count_fits, takes_broken, driven, port_within, may_pass, takes_whole}
+use Rattle.cedr_node.proofs.aligned.Aligned.answer.Goals as goal
+
+pub take_on-requires : goal.take_on-requires
+take_on-requires g c = let e = c.requires.3.port_is in omega (arith, all_length c.args.self.now.ports.items c.requires.0 c.requires.2.ports_stand)
 
 pub count_down-self-requires : goal.count_down-self-requires
 count_down-self-requires g c = count_fits c.closes-closed.result c.args.self.now.waiting c.requires.0 c.args.port c.args.message c.requires.3 c.requires.2.waiting_is c.closes-closed.ensures
@@ -17,12 +21,12 @@ pub returns-then-self-clause-taken : goal.returns-then-self-clause-taken
 returns-then-self-clause-taken g c = on_ok_weaker c.push_broken.result (λ pushed lists given h may.
     let op = g.O.Operator in
     let me = c.args.self.now in
-    let t = c.in_ok-passed.ensures lists h.ports_stand may in (
+    let t = c.in_ok-passed.ensures.taken lists h.ports_stand may in (
       breaking c.count_down-self.result,
       pushed,
       takes_broken (op.meaning me.driver.op) (op.stands me.driver.op) me.ports.items c.take_on.new.ports.items me.driver.marks.items me.driver.sent me.waiting c.count_down-self.result me.broken (me.broken || c.breaks-broke.result) c.closes-closed.result c.breaks-broke.result lists given
           c.args.port c.args.message c.in_ok-passed.passed.items h may t c.closes-closed.ensures c.breaks-broke.ensures c.count_down-self.ensures refl c.if-self.true,
-    )) c.push_broken.ensures
+    )) c.push_broken.ensures.ok
 
 pub take-requires : goal.take-requires
 take-requires g c =
@@ -32,7 +36,7 @@ take-requires g c =
     let given = c.requires.1 in
     let h = c.requires.2 in
     let may = c.requires.3 in
-    let t = c.in_ok-passed.ensures lists h.ports_stand may in (
+    let t = c.in_ok-passed.ensures.taken lists h.ports_stand may in (
       passes_of (levels_of me.ports.items) lists,
       given,
       driven (op.meaning me.driver.op) (op.stands me.driver.op) me.ports.items c.take_on.new.ports.items me.driver.marks.items me.driver.sent me.waiting c.count_down-self.result me.broken (me.broken || c.breaks-broke.result) c.closes-closed.result c.breaks-broke.result lists given
@@ -49,7 +53,7 @@ returns-clause-taken g c = on_ok_weaker c.push_end.result (λ pushed lists given
     let op = g.O.Operator in
     let me = c.args.self.now in
     let new = c.take.new.self in
-    let t = c.in_ok-passed.ensures lists h.ports_stand may in
+    let t = c.in_ok-passed.ensures.taken lists h.ports_stand may in
     let passes = passes_of (levels_of me.ports.items) lists in
     let w = driven (op.meaning me.driver.op) (op.stands me.driver.op) me.ports.items c.take_on.new.ports.items me.driver.marks.items me.driver.sent me.waiting c.count_down-self.result me.broken (me.broken || c.breaks-broke.result) c.closes-closed.result c.breaks-broke.result lists given
     c.args.port c.args.message c.in_ok-passed.passed.items h may t c.closes-closed.ensures c.breaks-broke.ensures c.count_down-self.ensures refl c.if-self.false in
@@ -63,14 +67,8 @@ returns-clause-taken g c = on_ok_weaker c.push_end.result (λ pushed lists given
     subst (λ (ms : List Message). Answers (op.meaning me.driver.op) (op.stands new.op) (op.held new.op) new.marks.items me.driver.sent new.sent (passes_of (levels_of me.ports.items) lists) c.args.port ms given c.args.out.now.items c.take.new.out.items) c.as_slice.ensures.value a0 in (
       a.gained ++ ending c.count_down-self.result,
       pushed ∙ (ap (λ (ms : List Message). ms ++ ending c.count_down-self.result) a.appended ∙ append_assoc c.args.out.now.items a.gained (ending c.count_down-self.result)),
-      subst (λ (k : Meaning). StandsBetween k (op.stands new.op) c.take_on.new.ports.items new.marks.items new.sent c.count_down-self.result (me.broken || c.breaks-broke.result) (with_more lists c.args.port (c.args.message ∷ [])) (given ++ (a.gained ++ ending c.count_down-self.result))) (sym e.meaning)
+      subst (λ (k : Meaning). StandsBetween k (op.stands new.op) c.take_on.new.ports.items new.marks.items new.sent c.count_down-self.result (me.broken || c.breaks-broke.result) (with_more lists c.args.port (c.args.message ∷ [])) (given ++ (a.gained ++ ending c.count_down-self.result))) (sym c.take.ensures.meaning)
           (takes_whole (op.meaning me.driver.op) (op.stands me.driver.op) me.ports.items c.take_on.new.ports.items me.driver.marks.items me.driver.sent me.waiting c.count_down-self.result me.broken (me.broken || c.breaks-broke.result) c.closes-closed.result c.breaks-broke.result lists given
           c.args.port c.args.message c.in_ok-passed.passed.items h may t c.closes-closed.ensures c.breaks-broke.ensures c.count_down-self.ensures refl c.if-self.false
           (op.stands new.op) (op.held new.op) new.marks.items new.sent c.args.out.now.items c.take.new.out.items a),
-    )) c.push_end.ensures
-
-pub returns-then-self-clause-levels : goal.returns-then-self-clause-levels
-returns-then-self-clause-levels g c = on_ok_weaker c.push_broken.result (λ pushed. levels_taken c.args.self.now.ports.items c.take_on.new.ports.items c.args.port (list_at c.requires.0 c.args.port) c.args.message c.in_ok-passed.passed.items (c.in_ok-passed.ensures c.requires.0 c.requires.2.ports_stand c.requires.3)) c.push_broken.ensures
-
-pub returns-clause-levels : goal.returns-clause-levels
-returns-clause-levels g c = on_ok_weaker c.push_end.result (λ pushed. levels_taken c.args.self.now.ports.items c.take_on.new.ports.items c.args.port (list_at c.requires.0 c.args.port) c.args.message c.in_ok-passed.passed.items (c.in_ok-passed.ensures c.requires.0 c.requires.2.ports_stand c.requires.3)) c.push_end.ensures
+    )) c.push_end.ensures.ok

@@ -4,9 +4,9 @@ use Rattle.cedr_base.specs.declared.change.Message.{Message}
 use Rattle.cedr_base.specs.declared.level.Level.{Level}
 use Rattle.cedr_laws.specs.Lists.{Lists}
 use Rattle.cedr_node.specs.declared.port.Port.{Port}
-use Rattle.cedr_node.specs.Nodes.{AllStand, levels_of}
+use Rattle.cedr_node.specs.Standing.{AllStand, levels_of}
 use Rattle.cedr_node.proofs.First.{all-push, replicate-push}
-use Rattle.cedr_node.proofs.node.make_ports.Goals as goal
+use Rattle.cedr_node.proofs.aligned.make_ports.Goals as goal
 
 pub loop-level-preserved : goal.loop-level-preserved
 loop-level-preserved c =

@@ -1,6 +1,6 @@
 use Rattle.std.proofs.Common.{◌≡◌, take, replicate, []}
-use Rattle.cedr_node.specs.Nodes.{AllStand, levels_of}
-use Rattle.cedr_node.proofs.node.make_ports.Given as goal
+use Rattle.cedr_node.specs.Standing.{AllStand, levels_of}
+use Rattle.cedr_node.proofs.aligned.make_ports.Given as goal
 
 abbrev pub invariant-loop-level : goal.invariant-loop-level
 invariant-loop-level l = record {
