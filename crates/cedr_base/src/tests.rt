@@ -137,23 +137,42 @@ fn a_change_is_seen_from_its_begin_or_its_new_end(rt: HostRuntime) -> Result<(),
     Ok(())
 }
 
+fn is_same_change(one: &Change, other: &Change) -> bool {
+    match (one, other) {
+        (Change::Add(row), Change::Add(other_row)) => *row == *other_row,
+        (Change::Cut(row, end), Change::Cut(other_row, other_end)) => {
+            *row == *other_row && *end == *other_end
+        }
+        _ => false,
+    }
+}
+
+fn is_same(one: &Message, other: &Message) -> bool {
+    match (one, other) {
+        (Message::Change(change), Message::Change(other)) => is_same_change(change, other),
+        (Message::Mark(time), Message::Mark(other)) => *time == *other,
+        (Message::End, Message::End) => true,
+        (Message::Broken, Message::Broken) => true,
+        _ => false,
+    }
+}
+
 #[test]
 fn a_copied_message_is_the_same_one(rt: HostRuntime) -> Result<(), Fail> {
     let alloc = rt.alloc();
     let row = Row::new(3, 9, payload(alloc, &[b"a", b"b"])?)?;
-    let kept = row.copy(alloc)?;
-    let added = Message::Change(Change::Add(row));
-    match added.copy(alloc)? {
-        Message::Change(Change::Add(copied)) => assert!(rt; copied == kept),
-        _ => assert!(rt; false, "an insertion"),
+    let mut messages = Vec::new(alloc);
+    messages.push(Message::Change(Change::cut(row.copy(alloc)?, 7)?))?;
+    messages.push(Message::Change(Change::cut(row.copy(alloc)?, 8)?))?;
+    messages.push(Message::Change(Change::Add(row)))?;
+    messages.push(Message::Mark(7))?;
+    messages.push(Message::End)?;
+    messages.push(Message::Broken)?;
+    for (i, message) in messages.iter().enumerate() {
+        let copied = message.copy(alloc)?;
+        for (j, other) in messages.iter().enumerate() {
+            assert_eq!(rt; is_same(&copied, other), i == j, "{i} and {j}");
+        }
     }
-    let cut = Message::Change(Change::cut(kept.copy(alloc)?, 7)?);
-    match cut.copy(alloc)? {
-        Message::Change(Change::Cut(copied, end)) => assert!(rt; copied == kept && end == 7),
-        _ => assert!(rt; false, "a retraction"),
-    }
-    assert!(rt; matches!(Message::Mark(7).copy(alloc)?, Message::Mark(7)));
-    assert!(rt; matches!(Message::End.copy(alloc)?, Message::End));
-    assert!(rt; matches!(Message::Broken.copy(alloc)?, Message::Broken));
     Ok(())
 }

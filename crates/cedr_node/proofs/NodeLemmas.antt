@@ -11,11 +11,11 @@ use Rattle.cedr_laws.specs.declared.forgotten.Forgotten.{Forgotten}
 use Rattle.cedr_laws.specs.Kept.{forgot}
 use Rattle.cedr_laws.specs.Lists.{Lists, list_at}
 use Rattle.cedr_laws.specs.Lawful.{IsLawful}
-use Rattle.op_planned.specs.Meanings.{meaning_of}
+use Rattle.op_planned.specs.Meanings.{meaning_of, port_levels}
 use Rattle.cedr_node.specs.declared.node.Node.{Node}
 use Rattle.cedr_node.specs.declared.port.Port.{Port}
 use Rattle.cedr_node.specs.Standing.{AllStand, levels_of, IsForgottenAt}
-use Rattle.cedr_node.specs.Nodes.{port_levels, made_of, meaning_in, port_count, NodeStands}
+use Rattle.cedr_node.specs.Nodes.{made_of, meaning_in, port_count, NodeStands}
 use Rattle.cedr_node.proofs.PortLists.{all_length}
 
 -- lists on which ports stand are legal

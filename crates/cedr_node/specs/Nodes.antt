@@ -1,18 +1,14 @@
 -- What a node of a plan that takes messages stands for.
-use Rattle.std.specs.Prelude.{ℕ, ◌≡◌, List, length, replicate, Bool, false}
+use Rattle.std.specs.Prelude.{ℕ, ◌≡◌, List, length, Bool, false}
 use Rattle.cedr_base.specs.declared.change.Message.{Message}
 use Rattle.cedr_base.specs.declared.level.Level.{Level}
 use Rattle.cedr_table.specs.Operators.{Meaning}
 use Rattle.cedr_plan.specs.declared.plan.PlanNode.{PlanNode}
 use Rattle.cedr_laws.specs.Lists.{Lists}
 use Rattle.op_planned.specs.Chosen.{chosen_meaning, ChosenStands}
-use Rattle.op_planned.specs.Meanings.{meaning_of}
+use Rattle.op_planned.specs.Meanings.{meaning_of, port_levels}
 use Rattle.cedr_node.specs.declared.node.Node.{Node}
 use Rattle.cedr_node.specs.Standing.{levels_of, StandsBetween}
-
--- the level of each port of a plan's node
-abbrev pub port_levels : PlanNode → List Level
-port_levels node = replicate (length node.inputs.items) node.level
 
 -- the plan's node that a node is
 abbrev pub made_of : Node → PlanNode

@@ -8,8 +8,8 @@ ghost use Rattle.cedr_plan.specs.Drawn.{Node as DrawnNode, node_of};
 ghost use Rattle.cedr_plan.specs.Rules.{IsNode};
 ghost use Rattle.cedr_plan.specs.declared.plan.PlanNode.{PlanNode};
 ghost use Rattle.cedr_node.specs.declared.node.Node.{Node};
-ghost use Rattle.cedr_node.specs.Nodes.{port_levels, made_of, is_spent, port_count, NodeStands};
-ghost use Rattle.op_planned.specs.Meanings.{meaning_of};
+ghost use Rattle.cedr_node.specs.Nodes.{made_of, is_spent, port_count, NodeStands};
+ghost use Rattle.op_planned.specs.Meanings.{meaning_of, port_levels};
 ghost use Rattle.op_planned.specs.Ready.{is_source, IsReady};
 
 /// The law of the nodes of plans: a node that an accepted plan has behind others, and that is no source, meets what

@@ -11,7 +11,7 @@ mod node;
 mod query;
 
 pub use law::plan_places;
-pub use query::{evaluate, reach};
+pub use query::{evaluate, find_output, reach};
 
 #[cfg(test)]
 mod history_tests;

@@ -10,13 +10,8 @@ use crate::node::ask_node;
 use cedr_base::{OutOfMemory, Time};
 use cedr_plan::{NodeKind, Plan, PlanNode};
 use cedr_table::{Table, no_marks};
+use op_planned::is_source;
 use std::alloc::Global;
-
-fn is_source(kind: &NodeKind) -> bool
-    ensures { result ≡ is_source kind.now }
-{
-    matches!(kind, NodeKind::Source { .. })
-}
 
 fn is_output(kind: &NodeKind) -> bool
     ensures { result ≡ is_output kind.now }
@@ -147,8 +142,8 @@ fn find_marks(
     Ok(marks)
 }
 
-/// Where the output stands among the nodes.
-fn find_output(nodes: &[PlanNode]) -> usize
+/// Where the output stands among the nodes of a plan, which have one. It takes no memory. O(n).
+pub fn find_output(nodes: &[PlanNode]) -> usize
     ensures place { result ≡ output_place nodes.now }
     ensures within { 0 < length nodes.now → result < length nodes.now }
 {

@@ -4,12 +4,12 @@ ghost use Rattle.cedr_base.specs.declared.time.TheConstants.{FOREVER};
 ghost use Rattle.cedr_plan.specs.Rules.{IsPlan};
 ghost use Rattle.cedr_table.specs.Operators.{HaveRows};
 ghost use Rattle.cedr_query.specs.Queries.{source_count};
-ghost use Rattle.op_planned.specs.Ready.{is_source};
 
 use crate::{evaluate, reach};
 use cedr_base::{FOREVER, Field, OutOfMemory, Payload, Row, Text, Time};
 use cedr_plan::{NodeKind, Plan, PlanNode, read_plan};
 use cedr_table::Table;
+use op_planned::is_source;
 use std::alloc::Global;
 use std::test::Fail;
 
@@ -18,12 +18,6 @@ pub(crate) fn plan(alloc: Global, text: &str) -> Result<Plan, Fail>
     ensures { IfOk result IsPlan }
 {
     Ok(read_plan(alloc, text.as_bytes())?)
-}
-
-fn is_source(kind: &NodeKind) -> bool
-    ensures { result ≡ is_source kind.now }
-{
-    matches!(kind, NodeKind::Source { .. })
 }
 
 /// How many of the nodes are sources.

@@ -4,6 +4,8 @@ use Rattle.std.specs.Fmt.{signed_decimal}
 use Rattle.std.specs.List.{list_any, flat_map}
 use Rattle.cedr_base.specs.declared.time.TheConstants.{FOREVER}
 use Rattle.cedr_base.specs.declared.row.Row.{Row}
+use Rattle.cedr_base.specs.declared.change.Change.{Change}
+use Rattle.cedr_base.specs.declared.change.Change.TheVariants.{Add, Cut}
 use Rattle.cedr_base.specs.declared.field.Field.{Field}
 use Rattle.cedr_base.specs.declared.field.Field.TheVariants.{Number, Bytes}
 pub use Rattle.cedr_text.specs.Parts.{comma, line_feed}
@@ -48,3 +50,12 @@ row_text row = time_text row.begin ++ comma ∷ (time_text row.end ++ (payload_t
 -- rows one after the other
 abbrev pub rows_text : List Row → List ℕ
 rows_text rows = flat_map row_text rows
+
+-- a change and its row: `+,` or `-,NEWEND,` before the row as it was
+abbrev pub change_text : Change → List ℕ
+change_text (Add row) = codes "+," ++ row_text row
+change_text (Cut row end) = codes "-," ++ (time_text end ++ comma ∷ row_text row)
+
+-- a change that a port left out: `NODE,PORT,CAUSE,HIGH,` and the change
+abbrev pub forgotten_text : List ℕ → ℕ → List ℕ → ℕ → Change → List ℕ
+forgotten_text name port cause high change = name ++ comma ∷ (decimal port ++ comma ∷ (cause ++ comma ∷ (time_text high ++ comma ∷ change_text change)))

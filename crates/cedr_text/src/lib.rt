@@ -3,12 +3,13 @@
 //! `specs/` has the grammar of a line, apart from the code that reads one: its fields by the quoting rule, the
 //! forms of numbers and times, the three kinds of line, and which fault is the least. `Lines` cuts bytes that
 //! come in pieces into lines, `read_line` answers a line's reading, and `read_text_line` does so with the
-//! payload left in the line. `write_row` and `write_time` append exactly the texts that `specs/Texts.antt`
+//! payload left in the line. `write_row`, `write_change`, `write_forgotten` and `write_time` append exactly the texts that `specs/Texts.antt`
 //! defines; `sort_text_rows` and `write_text_rows` do that for rows whose payload still stands in the bytes of
 //! a file. `quoting_rule`, `reading_law` and `line_limit` are laws of the grammar.
 #![tactic(auto)]
 
 mod bare;
+mod change;
 mod event_line;
 mod event_text;
 mod fault;
@@ -21,6 +22,7 @@ mod read;
 mod text_row;
 mod write;
 
+pub use change::{write_change, write_forgotten};
 pub use event_line::{EventLine, Shape};
 pub use event_text::EventText;
 pub use fault::{LineFault, ReadLineFault};
@@ -32,6 +34,8 @@ pub use read::{line_limit, read_line, read_text_line, reading_law};
 pub use text_row::{TextRow, sort_text_rows, write_text_rows};
 pub use write::{write_number, write_row, write_rows, write_time};
 
+#[cfg(test)]
+mod change_tests;
 #[cfg(test)]
 mod quoting_tests;
 #[cfg(test)]

@@ -1,5 +1,6 @@
 -- What a plan's node means.
-use Rattle.std.specs.Prelude.{ℕ, length}
+use Rattle.std.specs.Prelude.{ℕ, List, length, replicate}
+use Rattle.cedr_base.specs.declared.level.Level.{Level}
 use Rattle.cedr_plan.specs.Drawn.{Kind, source, select, project, union, join, window, shift, hop, starts, ends, group, sequence, unless, output, kind_of}
 use Rattle.cedr_plan.specs.declared.plan.NodeKind.{NodeKind}
 use Rattle.cedr_plan.specs.declared.plan.PlanNode.{PlanNode}
@@ -36,3 +37,7 @@ node_meaning kind ports = kind_meaning (kind_of kind) ports
 
 abbrev pub meaning_of : PlanNode → Meaning
 meaning_of node = node_meaning node.kind (length node.inputs.items)
+
+-- the level of each port of a plan's node
+abbrev pub port_levels : PlanNode → List Level
+port_levels node = replicate (length node.inputs.items) node.level
