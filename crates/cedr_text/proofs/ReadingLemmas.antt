@@ -21,7 +21,7 @@ use Rattle.cedr_text.specs.Faults.{number_of}
 use Rattle.cedr_text.specs.Lines.{has_line_feed}
 use Rattle.cedr_text.specs.Numbers.{is_numeral, whole_number, id_value, begin_value, time_value}
 use Rattle.cedr_text.specs.Quoting.{line_fields, byte_order_mark}
-use Rattle.cedr_text.specs.Reading.{has_return, is_broken, Reads, field_value, with_field, typed_payload, payload_of, event, inserted, insertion, retracted, retraction, promised, guarantee, event_of, event_from, as_some, short_reading, reading, IsEvent, SaysEvent}
+use Rattle.cedr_text.specs.Reading.{has_return, is_broken, Reads, field_value, with_field, typed_payload, payload_of, event, inserted, insertion, retracted, retraction, promised, guarantee, event_of, event_from, as_some, reading, IsEvent, SaysEvent}
 
 -- a number is at most the last one
 whole_at : (test : Bool) (last value : ℕ) → (test ≡ true → value ≤ last) → IfSome (cond test (Some value) None) (λ n. n ≤ last)
@@ -166,11 +166,14 @@ from_event : (shape : Shape) (fields : Option (List (List ℕ))) → IsEventIfRe
 from_event shape None = bad_form
 from_event shape (Some fields) = fields_event shape fields
 
+-- what a line says that isn't too long and has some byte
+abbrev short_reading : Shape → List ℕ → Result (Option EventLine) LineFault
+short_reading shape line = cond (is_broken line) (Err BadForm) (as_some (event_from shape (line_fields line)))
+
 short_event : (shape : Shape) (line : List ℕ) → SaysShort (short_reading shape line)
-short_event shape [] = (tt, tt)
-short_event shape (b ∷ bs) =
-    let read = event_from shape (line_fields (b ∷ bs)) in
-    unless_broken (is_broken (b ∷ bs)) (as_some read) (said read (from_event shape (line_fields (b ∷ bs))))
+short_event shape line =
+    let read = event_from shape (line_fields line) in
+    unless_broken (is_broken line) (as_some read) (said read (from_event shape (line_fields line)))
 
 unless_long : (long : Bool) (read : Result (Option EventLine) LineFault) → SaysEvent read → SaysEvent (cond long (Err LineTooLong) read)
 unless_long true read says = omega arith
@@ -178,7 +181,8 @@ unless_long false read says = says
 
 -- a line that was read is an event
 pub reading_event : (shape : Shape) (line : List ℕ) → SaysEvent (reading shape line)
-reading_event shape line = unless_long (nat_lt LINE_LIMIT (length line)) (short_reading shape line) (short_event shape line).0
+reading_event shape [] = tt
+reading_event shape (b ∷ bs) = unless_long (nat_lt LINE_LIMIT (length (b ∷ bs))) (short_reading shape (b ∷ bs)) (short_event shape (b ∷ bs)).0
 
 long_only : (long : Bool) (n : ℕ) (read : Result (Option EventLine) LineFault) → nat_lt LINE_LIMIT n ≡ long → HasShortFault read → cond long (Err LineTooLong) read ≡ Err LineTooLong → LINE_LIMIT < n
 long_only true n read is short e = ltb-true LINE_LIMIT n is
@@ -186,9 +190,10 @@ long_only false n read is short e = let low : IsShortFault LineTooLong = subst H
 
 -- a line is too long exactly where it has more bytes than it may
 pub long_line : (shape : Shape) (line : List ℕ) → (reading shape line ≡ Err LineTooLong) ↔ (LINE_LIMIT < length line)
-long_line shape line = (
-  long_only (nat_lt LINE_LIMIT (length line)) (length line) (short_reading shape line) refl (short_event shape line).1,
-  λ long. ap (λ test. cond test (Err LineTooLong) (short_reading shape line)) (lt-ltb LINE_LIMIT (length line) long),
+long_line shape [] = (λ e. cc, λ long. absurd (omega arith))
+long_line shape (b ∷ bs) = (
+  long_only (nat_lt LINE_LIMIT (length (b ∷ bs))) (length (b ∷ bs)) (short_reading shape (b ∷ bs)) refl (short_event shape (b ∷ bs)).1,
+  λ long. ap (λ test. cond test (Err LineTooLong) (short_reading shape (b ∷ bs))) (lt-ltb LINE_LIMIT (length (b ∷ bs)) long),
 )
 
 -- ---- how the code reads
@@ -202,17 +207,12 @@ no_break false false c h = (refl, refl, h)
 pub unbroken : (line : List ℕ) → is_broken line ≡ false → (has_return line ≡ false) × (has_line_feed line ≡ false) × (starts_with nat_eq line byte_order_mark ≡ false)
 unbroken line whole = no_break (has_return line) (has_line_feed line) (starts_with nat_eq line byte_order_mark) whole
 
-short_whole : (shape : Shape) (line : List ℕ) → 0 < length line → is_broken line ≡ false → short_reading shape line ≡ as_some (event_from shape (line_fields line))
-short_whole shape [] some whole = absurd (omega arith)
-short_whole shape (b ∷ bs) some whole = ap (λ test. cond test (Err BadForm) (as_some (event_from shape (line_fields (b ∷ bs))))) whole
-
--- a line that isn't too long says what it says by itself
-pub reading_short : (shape : Shape) (line : List ℕ) → length line ≤ LINE_LIMIT → reading shape line ≡ short_reading shape line
-reading_short shape line short = ap (λ test. cond test (Err LineTooLong) (short_reading shape line)) (le-ltb LINE_LIMIT (length line) short)
-
 -- the fields of a line that is neither too long nor broken say what it says
 pub reading_whole : (shape : Shape) (line : List ℕ) → length line ≤ LINE_LIMIT → 0 < length line → is_broken line ≡ false → reading shape line ≡ as_some (event_from shape (line_fields line))
-reading_whole shape line short some whole = reading_short shape line short ∙ short_whole shape line some whole
+reading_whole shape [] short some whole = absurd (omega arith)
+reading_whole shape (b ∷ bs) short some whole =
+    ap (λ test. cond test (Err LineTooLong) (short_reading shape (b ∷ bs))) (le-ltb LINE_LIMIT (length (b ∷ bs)) short)
+    ∙ ap (λ test. cond test (Err BadForm) (as_some (event_from shape (line_fields (b ∷ bs))))) whole
 
 -- nothing else is wrong with a line that has a fault
 pub reads_fault : (fault : ReadLineFault) (read : Result EventLine LineFault) → Reads {X = EventLine} (Err fault) read → Reads {X = Option EventLine} (Err fault) (as_some read)

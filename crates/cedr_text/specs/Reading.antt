@@ -114,15 +114,14 @@ abbrev pub event_from : Shape → Option (List (List ℕ)) → Result EventLine 
 event_from shape None = Err BadForm
 event_from shape (Some fields) = event_of shape fields
 
--- what a line says that isn't too long
-abbrev pub short_reading : Shape → List ℕ → Result (Option EventLine) LineFault
-short_reading shape [] = Ok None
-short_reading shape (b ∷ bs) = if is_broken (b ∷ bs) then Err BadForm else as_some (event_from shape (line_fields (b ∷ bs)))
-
 -- what a line says, or its least fault; an empty line says nothing. In a file the line feed and one carriage
 -- return before it are no part of the line here
 abbrev pub reading : Shape → List ℕ → Result (Option EventLine) LineFault
-reading shape line = if nat_lt LINE_LIMIT (length line) then Err LineTooLong else short_reading shape line
+reading shape [] = Ok None
+reading shape (b ∷ bs) =
+    if nat_lt LINE_LIMIT (length (b ∷ bs)) then Err LineTooLong
+    else if is_broken (b ∷ bs) then Err BadForm
+    else as_some (event_from shape (line_fields (b ∷ bs)))
 
 -- what the code answers is the reading, unless memory ran out
 abbrev pub Reads : {X : Type 0} → Result X ReadLineFault → Result X LineFault → Type 0
