@@ -14,6 +14,8 @@ mod side;
 pub use join::Join;
 
 #[cfg(test)]
+mod fed_tests;
+#[cfg(test)]
 mod tests;
 #[cfg(test)]
 mod worked;

@@ -5,7 +5,7 @@ use op_feed::leads;
 use std::alloc::Global;
 use std::test::Fail;
 
-fn no_tests(alloc: Global) -> Result<Tests, Fail> {
+pub(crate) fn no_tests(alloc: Global) -> Result<Tests, Fail> {
     Ok(Tests::new(Vec::new(alloc), &[], &[])?)
 }
 
