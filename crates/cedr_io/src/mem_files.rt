@@ -35,11 +35,15 @@ impl MemFiles {
     ghost use Rattle.cedr_io.specs.Counts.{Rose};
     ghost use Rattle.cedr_io.specs.Memory.{same_name, find_number, piece_of_files, refused_finds, refused_reads, piece_of_source, refused_of_source, read_number};
 
-    /// No file. Reads give up to 4,096 bytes.
+    /// No file. Reads give up to 4,096 bytes, and no call will be refused.
     pub fn new(alloc: Global) -> MemFiles
         ensures empty { (n : List ℕ) → ⟦<MemFiles as Files>⟧.content result n ≡ None }
         ensures faults { ⟦<MemFiles as Files>⟧.faults result ≡ 0 }
         ensures asked { ⟦<MemFiles as Files>⟧.asked result ≡ [] }
+        ensures piece { piece_of_files result ≡ 4096 }
+        ensures finds { refused_finds result ≡ [] }
+        ensures reads { (n : List ℕ) → refused_reads result n ≡ [] }
+        ensures numbered { find_number result ≡ 1 }
     {
         MemFiles {
             alloc,
@@ -61,6 +65,9 @@ impl MemFiles {
             ⟦<MemFiles as Files>⟧.content self.new n ≡ ⟦<MemFiles as Files>⟧.content self.old n) }
         ensures faults { ⟦<MemFiles as Files>⟧.faults self.new ≡ ⟦<MemFiles as Files>⟧.faults self.old }
         ensures asked { ⟦<MemFiles as Files>⟧.asked self.new ≡ ⟦<MemFiles as Files>⟧.asked self.old }
+        ensures same_piece { piece_of_files self.new ≡ piece_of_files self.old }
+        ensures same_finds { refused_finds self.new ≡ refused_finds self.old }
+        ensures same_reads { (n : List ℕ) → refused_reads self.new n ≡ refused_reads self.old n }
         ensures numbered { find_number self.new ≡ find_number self.old }
     {
         let name = Text::from_slice(self.alloc, name.as_bytes())?;
@@ -77,6 +84,8 @@ impl MemFiles {
             ⟦<MemFiles as Files>⟧.content self.new m ≡ ⟦<MemFiles as Files>⟧.content self.old m }
         ensures faults { ⟦<MemFiles as Files>⟧.faults self.new ≡ ⟦<MemFiles as Files>⟧.faults self.old }
         ensures asked { ⟦<MemFiles as Files>⟧.asked self.new ≡ ⟦<MemFiles as Files>⟧.asked self.old }
+        ensures same_finds { refused_finds self.new ≡ refused_finds self.old }
+        ensures same_reads { (n : List ℕ) → refused_reads self.new n ≡ refused_reads self.old n }
         ensures numbered { find_number self.new ≡ find_number self.old }
     {
         self.piece = n;
@@ -85,10 +94,13 @@ impl MemFiles {
     /// The find of this number, from 1 on, will be refused.
     pub fn fail_find(&mut self, call: u64) -> Result<(), OutOfMemory>
         ensures refused { OnOk result (refused_finds self.new ≡ refused_finds self.old ++ call ∷ []) }
+        ensures err { OnErr result (refused_finds self.new ≡ refused_finds self.old) }
         ensures contents { (m : List ℕ) →
             ⟦<MemFiles as Files>⟧.content self.new m ≡ ⟦<MemFiles as Files>⟧.content self.old m }
         ensures faults { ⟦<MemFiles as Files>⟧.faults self.new ≡ ⟦<MemFiles as Files>⟧.faults self.old }
         ensures asked { ⟦<MemFiles as Files>⟧.asked self.new ≡ ⟦<MemFiles as Files>⟧.asked self.old }
+        ensures same_piece { piece_of_files self.new ≡ piece_of_files self.old }
+        ensures same_reads { (n : List ℕ) → refused_reads self.new n ≡ refused_reads self.old n }
         ensures numbered { find_number self.new ≡ find_number self.old }
     {
         self.refused_finds.push(call)?;
@@ -98,11 +110,15 @@ impl MemFiles {
     /// The read of this number, from 1 on, of each source that is found under this name later, will be
     /// refused.
     pub fn fail_read(&mut self, name: &str, call: u64) -> Result<(), OutOfMemory>
-        ensures refused { OnOk result (refused_reads self.new name.now ≡ refused_reads self.old name.now ++ call ∷ []) }
+        ensures refused { OnOk result ((n : List ℕ) → refused_reads self.new n
+            ≡ (if same_name name.now n then refused_reads self.old n ++ call ∷ [] else refused_reads self.old n)) }
+        ensures err { OnErr result ((n : List ℕ) → refused_reads self.new n ≡ refused_reads self.old n) }
         ensures contents { (m : List ℕ) →
             ⟦<MemFiles as Files>⟧.content self.new m ≡ ⟦<MemFiles as Files>⟧.content self.old m }
         ensures faults { ⟦<MemFiles as Files>⟧.faults self.new ≡ ⟦<MemFiles as Files>⟧.faults self.old }
         ensures asked { ⟦<MemFiles as Files>⟧.asked self.new ≡ ⟦<MemFiles as Files>⟧.asked self.old }
+        ensures same_piece { piece_of_files self.new ≡ piece_of_files self.old }
+        ensures same_finds { refused_finds self.new ≡ refused_finds self.old }
         ensures numbered { find_number self.new ≡ find_number self.old }
     {
         let name = Text::from_slice(self.alloc, name.as_bytes())?;
@@ -164,7 +180,7 @@ impl MemFiles {
 
 impl Files for MemFiles {
     ghost use Rattle.std.specs.Prelude.{min};
-    ghost use Rattle.cedr_io.specs.Counts.{Counts, last_count};
+    ghost use Rattle.cedr_io.specs.Counts.{Counts, count_sum, last_count};
     ghost use Rattle.cedr_io.specs.Asked.{Asks};
     ghost use Rattle.cedr_io.specs.declared.fault.OutsideFault.TheVariants as outside;
     ghost use Rattle.cedr_io.specs.Memory.{find_number, piece_of_files, refused_finds, refused_reads, piece_of_source, refused_of_source, read_number};
@@ -189,6 +205,9 @@ impl Files for MemFiles {
         ensures numbered { find_number self.new ≡ min (find_number self.old + 1) last_count }
         ensures reads { IfOk result (λ source. (refused_of_source source ≡ refused_reads self.old name.now) × (read_number source ≡ 1)) }
         ensures piece { IfOk result (λ source. piece_of_source source ≡ piece_of_files self.old) }
+        ensures same_piece { piece_of_files self.new ≡ piece_of_files self.old }
+        ensures same_finds { refused_finds self.new ≡ refused_finds self.old }
+        ensures same_reads { (n : List ℕ) → refused_reads self.new n ≡ refused_reads self.old n }
     {
         self.finds = self.finds.saturating_add(1);
         let name = Text::from_slice(self.alloc, name)?;
@@ -208,7 +227,15 @@ impl Files for MemFiles {
         }
     }
 
-    fn give_back(&mut self, source: ListSource) {
+    fn give_back(&mut self, source: ListSource)
+        ensures counted { self.new.faults ≡ count_sum self.old.faults (⟦<ListSource as Source>⟧.faults source) }
+        ensures asked { self.new.asked.items ≡ self.old.asked.items }
+        ensures contents { (n : List ℕ) → get text_cmp self.new.contents n ≡ get text_cmp self.old.contents n }
+        ensures same_piece { piece_of_files self.new ≡ piece_of_files self.old }
+        ensures same_finds { refused_finds self.new ≡ refused_finds self.old }
+        ensures same_reads { (n : List ℕ) → refused_reads self.new n ≡ refused_reads self.old n }
+        ensures numbered { find_number self.new ≡ find_number self.old }
+    {
         self.faults = self.faults.saturating_add(source.faults);
     }
 }
@@ -245,6 +272,8 @@ impl Source for ListSource {
         // A read is refused exactly where its number was named.
         ensures refused { IsErr result ↔ Contains (refused_of_source self.old) (read_number self.old) }
         ensures numbered { read_number self.new ≡ min (read_number self.old + 1) last_count }
+        ensures same_piece { piece_of_source self.new ≡ piece_of_source self.old }
+        ensures same_refused { refused_of_source self.new ≡ refused_of_source self.old }
     {
         self.reads = self.reads.saturating_add(1);
         if self.refused.contains(&self.reads) {

@@ -18,13 +18,16 @@ pub struct MemSink {
 }
 
 impl MemSink {
-    ghost use Rattle.std.specs.Prelude.{◌∷◌, ◌++◌, OnOk};
+    ghost use Rattle.std.specs.Prelude.{◌∷◌, ◌++◌, OnOk, OnErr};
     ghost use Rattle.cedr_io.specs.Memory.{piece_of_sink, refused_writes, write_number};
 
-    /// Nothing is written. Each write takes its whole piece.
+    /// Nothing is written. Each write takes its whole piece, and none will be refused.
     pub fn new(alloc: Global) -> MemSink
         ensures empty { ⟦<MemSink as Sink>⟧.written result ≡ Some [] }
         ensures faults { ⟦<MemSink as Sink>⟧.faults result ≡ 0 }
+        ensures piece { piece_of_sink result ≡ usize.MAX }
+        ensures refused { refused_writes result ≡ [] }
+        ensures numbered { write_number result ≡ 1 }
     {
         MemSink {
             written: Vec::new(alloc),
@@ -48,6 +51,7 @@ impl MemSink {
         ensures piece { piece_of_sink self.new ≡ n }
         ensures written { ⟦<MemSink as Sink>⟧.written self.new ≡ ⟦<MemSink as Sink>⟧.written self.old }
         ensures faults { ⟦<MemSink as Sink>⟧.faults self.new ≡ ⟦<MemSink as Sink>⟧.faults self.old }
+        ensures same_refused { refused_writes self.new ≡ refused_writes self.old }
         ensures numbered { write_number self.new ≡ write_number self.old }
     {
         self.piece = n;
@@ -56,8 +60,10 @@ impl MemSink {
     /// The write of this number, from 1 on, will be refused.
     pub fn fail_write(&mut self, call: u64) -> Result<(), OutOfMemory>
         ensures refused { OnOk result (refused_writes self.new ≡ refused_writes self.old ++ call ∷ []) }
+        ensures err { OnErr result (refused_writes self.new ≡ refused_writes self.old) }
         ensures written { ⟦<MemSink as Sink>⟧.written self.new ≡ ⟦<MemSink as Sink>⟧.written self.old }
         ensures faults { ⟦<MemSink as Sink>⟧.faults self.new ≡ ⟦<MemSink as Sink>⟧.faults self.old }
+        ensures same_piece { piece_of_sink self.new ≡ piece_of_sink self.old }
         ensures numbered { write_number self.new ≡ write_number self.old }
     {
         self.refused.push(call)?;
@@ -86,6 +92,8 @@ impl Sink for MemSink {
         // A write is refused exactly where its number was named.
         ensures refused { (result ≡ Err outside.Failed) ↔ Contains (refused_writes self.old) (write_number self.old) }
         ensures numbered { write_number self.new ≡ min (write_number self.old + 1) last_count }
+        ensures same_piece { piece_of_sink self.new ≡ piece_of_sink self.old }
+        ensures same_refused { refused_writes self.new ≡ refused_writes self.old }
     {
         self.writes = self.writes.saturating_add(1);
         if self.refused.contains(&self.writes) {
