@@ -1,17 +1,19 @@
 -- The contract of the top call: what its status means, when it may come, and what it leaves.
-use Rattle.std.specs.Prelude.{ℕ, ◌≡◌, ◌<◌, ◌⊎◌, List, [], ◌∷◌, ◌++◌, codes, Option, None, Some, option_map, IfSome}
-use Rattle.std.specs.Io.KnownBytes.{Appends, Keeps}
-use Rattle.cedr_io.specs.Counts.{Rose}
+use Rattle.std.specs.Prelude.{ℕ, ◌≡◌, ◌<◌, ◌⊎◌, List, [], ◌∷◌, Option, None, Some, option_map, IfSome}
+use Rattle.std.specs.Io.KnownBytes.{Keeps}
 use Rattle.cedr_io.specs.Asked.{AppendsFront}
-use Rattle.cedr_text.specs.Texts.{line_feed}
 use Rattle.cedr_run.specs.declared.answer.Answer.{Answer}
 use Rattle.cedr_run.specs.declared.answer.Answer.TheVariants.{Lines, Faulty, BadPlan}
+use Rattle.cedr_run.specs.declared.outcome.Outcome.{Outcome}
+use Rattle.cedr_run.specs.declared.outcome.Outcome.TheVariants as outcome
 use Rattle.cedr_run.specs.declared.status.Status.{Status}
 use Rattle.cedr_run.specs.declared.status.Status.TheVariants as status
 use Rattle.cedr_run.specs.Answers.{answer_of, answer_text}
 use Rattle.cedr_run.specs.Commands.{Command}
 use Rattle.cedr_run.specs.Files.{AsksFirst}
+use Rattle.cedr_run.specs.Outcomes.{usage_text, read_text, write_text, memory_text, told_text, CommandEnds}
 use Rattle.cedr_run.specs.Refusals.{refusal_text, plan_fault_text}
+use Rattle.cedr_run.specs.Seen.{FilesSeen, SinkSeen, NoneRose, Writes, Tells, BreaksOff}
 
 -- ---- the words
 
@@ -20,38 +22,12 @@ abbrev pub named_files : Option Command → List (List ℕ)
 named_files None = []
 named_files (Some command) = command.1 ∷ []
 
--- ---- what contracts see of the objects, before the call and after it
-
-pub record FilesSeen : Type 0 where
-  pub content : List ℕ → Option (List ℕ)
-  pub faults : ℕ
-  pub asked : List (List ℕ)
-
-pub record SinkSeen : Type 0 where
-  pub written : Option (List ℕ)
-  pub faults : ℕ
-
-abbrev pub seen_files : {F : Type 0} → (F → List ℕ → Option (List ℕ)) → (F → ℕ) → (F → List (List ℕ)) → F → FilesSeen
-seen_files content faults asked files = record { content = content files; faults = faults files; asked = asked files }
-
-abbrev pub seen_sink : {K : Type 0} → (K → Option (List ℕ)) → (K → ℕ) → K → SinkSeen
-seen_sink written faults sink = record { written = written sink; faults = faults sink }
-
 -- the answer for a file, where its content is told
 abbrev pub known_answer : FilesSeen → Option Command → Option Answer
 known_answer files None = None
 known_answer files (Some command) = option_map (answer_of command.0) (files.content command.1)
 
 -- ---- texts on standard error
-
-abbrev pub usage_text : List ℕ
-usage_text = codes "usage: cedr history FILE | check PLAN | serial PLAN | run PLAN | stream PLAN | audit PLAN | live PLAN SCRIPT | make N" ++ line_feed ∷ []
-
-abbrev pub read_text : List ℕ
-read_text = codes "read fault" ++ line_feed ∷ []
-
-abbrev pub write_text : List ℕ
-write_text = codes "write fault" ++ line_feed ∷ []
 
 -- why an event file gave no rows
 abbrev pub refused_text : Option Command → Option Answer → Option (List ℕ)
@@ -73,16 +49,7 @@ status_text status.Read command answer = Some read_text
 status_text status.Write command answer = Some write_text
 status_text status.OutOfMemory command answer = None
 
--- a sink took the text, or only a front of it and its count rose
-abbrev pub Tells : SinkSeen → SinkSeen → List ℕ → Type 0
-Tells old new text = Appends old.written new.written text ⊎ (Rose old.faults new.faults × AppendsFront old.written new.written text)
-
 -- ---- the contract
-
--- nothing outside refused
-pub record NoneRose (files files' : FilesSeen) (out out' : SinkSeen) : Type 0 where
-  pub files_count : files'.faults ≡ files.faults
-  pub out_count : out'.faults ≡ out.faults
 
 -- the answer's status, unless memory ran out
 abbrev pub Completes : Answer → Status → Type 0
@@ -120,11 +87,21 @@ IsPartial status.Read = ⊥
 IsPartial status.Write = Unit {0}
 IsPartial status.OutOfMemory = Unit {0}
 
--- out gained this answer's text
-abbrev pub Writes : Option (List ℕ) → Option (List ℕ) → Answer → Type 0
-Writes old new (Lines text) = Appends old new text
-Writes old new (Faulty refusal) = ⊥
-Writes old new (BadPlan kind node) = ⊥
+-- what the words led to
+abbrev pub CameTo : Option Command → FilesSeen → FilesSeen → SinkSeen → SinkSeen → Outcome → Type 0
+CameTo None files files' out out' o = (o ≡ outcome.Usage) ⊎ (o ≡ outcome.OutOfMemory)
+CameTo (Some command) files files' out out' o = CommandEnds (known_answer files (Some command)) files files' out out' o
+
+-- what err is told of that
+abbrev pub outcome_text : Option Command → Outcome → List ℕ
+outcome_text None o = told_text o []
+outcome_text (Some command) o = told_text o command.1
+
+-- err lacked memory itself, behind a front of what it was to be told
+pub record ErrBreaksOff (command : Option Command) (files files' : FilesSeen) (out out' err err' : SinkSeen) : Type 0 where
+  pub went : Outcome
+  pub came : CameTo command files files' out out' went
+  pub begun : BreaksOff err err' (outcome_text command went)
 
 -- a call whose words name this command, or match none
 pub record Ends (command : Option Command) (files files' : FilesSeen) (out out' err err' : SinkSeen) (s : Status) : Type 0 where
@@ -151,6 +128,8 @@ pub record Ends (command : Option Command) (files files' : FilesSeen) (out out' 
   pub no_answer : command ≡ None → Keeps out.written out'.written
   -- what err gained: the status's text, or a front of it and its count rose
   pub told : IfSome (status_text s command (known_answer files command)) (Tells err err')
+  -- where memory ran out err gained a front of the words for that, or lacked memory itself
+  pub lacking : s ≡ status.OutOfMemory → AppendsFront err.written err'.written memory_text ⊎ ErrBreaksOff command files files' out out' err err'
   -- of the files that the words name each was asked for once at most, and all hold what they held
   pub asked : AsksFirst files.asked files'.asked (named_files command)
   pub contents : (name : List ℕ) → files'.content name ≡ files.content name

@@ -3,6 +3,7 @@ pub mod Events
 pub mod Commands
 pub mod Answers
 pub mod Files
+pub mod Seen
+pub mod Outcomes
 pub mod Ending
 pub mod Codes
-pub mod Outcomes

@@ -2,7 +2,7 @@ ghost use Rattle.std.specs.Prelude.{◌≡◌, ◌<◌, ◌∷◌, [], ℕ, List
 ghost use Rattle.cedr_io.specs.Counts.{last_count};
 ghost use Rattle.cedr_run.specs.Answers.{answer_of};
 ghost use Rattle.cedr_run.specs.Files.{AsksFirst};
-ghost use Rattle.cedr_run.specs.Ending.{seen_files, seen_sink};
+ghost use Rattle.cedr_run.specs.Seen.{seen_files, seen_sink};
 ghost use Rattle.cedr_run.specs.Outcomes.{CommandEnds};
 
 use crate::answer::{Answer, answer_file};

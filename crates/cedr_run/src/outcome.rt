@@ -1,7 +1,7 @@
 ghost use Rattle.std.specs.Prelude.{◌≡◌, ◌≢◌, ◌⊎◌, IfOk};
 ghost use Rattle.cedr_run.specs.declared.status.Status.TheVariants as status;
-ghost use Rattle.cedr_run.specs.Ending.{Tells, seen_sink};
-ghost use Rattle.cedr_run.specs.Outcomes.{status_of, told_text};
+ghost use Rattle.cedr_run.specs.Seen.{Tells, seen_sink};
+ghost use Rattle.cedr_run.specs.Outcomes.{status_of, told_text, TellsLack};
 
 use crate::refusal::{write_plan_fault, write_refusal};
 use crate::status::Status;
@@ -65,6 +65,8 @@ impl Outcome {
         ensures status { (result ≡ status_of self) ⊎ (result ≡ status.OutOfMemory) }
         ensures told { result ≢ status.OutOfMemory
             → Tells (seen_sink E.written E.faults err.old) (seen_sink E.written E.faults err.new) (told_text self file.now) }
+        ensures lacking { result ≡ status.OutOfMemory
+            → TellsLack (seen_sink E.written E.faults err.old) (seen_sink E.written E.faults err.new) (told_text self file.now) }
     {
         let Ok(text) = self.text(alloc, file) else {
             let _ = write_all(err, b"out of memory\n");

@@ -2,7 +2,8 @@ ghost use Rattle.std.specs.Prelude.{◌≡◌, ◌<◌, map};
 ghost use Rattle.std.specs.String.{string_bytes};
 ghost use Rattle.cedr_io.specs.Counts.{last_count};
 ghost use Rattle.cedr_run.specs.Commands.{command_of, IsAlone};
-ghost use Rattle.cedr_run.specs.Ending.{seen_files, seen_sink, Ends};
+ghost use Rattle.cedr_run.specs.Seen.{seen_files, seen_sink};
+ghost use Rattle.cedr_run.specs.Ending.{Ends};
 
 use crate::carry_out::carry_out;
 use crate::command::{command, is_alone};

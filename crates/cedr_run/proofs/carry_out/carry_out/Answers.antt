@@ -3,7 +3,7 @@ use Rattle.std.specs.Io.KnownBytes.{Appends}
 use Rattle.cedr_io.specs.Asked.{AppendsFront}
 use Rattle.cedr_run.specs.declared.answer.Answer.TheVariants.{Lines, Faulty, BadPlan}
 use Rattle.cedr_run.specs.Answers.{answer_of, answer_text}
-use Rattle.cedr_run.specs.Ending.{Writes}
+use Rattle.cedr_run.specs.Seen.{Writes}
 use Rattle.cedr_run.proofs.EndingLemmas.{kept_itself, wrote_nothing, found_answer}
 use Rattle.cedr_run.proofs.carry_out.carry_out.Goals as goal
 
