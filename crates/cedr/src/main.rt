@@ -29,7 +29,7 @@ const VERSION: &str = "cedr 0.1.0\n";
 fn main(rt: HostRuntime) -> ExitCode {
     let status = match words(&rt) {
         Ok(words) => answer(&rt, &words),
-        Err(error) if error.kind() == ErrorKind::OutOfMemory => Status::OutOfMemory,
+        Err(error) if error.kind() == ErrorKind::OutOfMemory => lacking(&rt),
         // A word that is no text matches no command, as no word does.
         Err(_) => answer(&rt, &[]),
     };
@@ -46,8 +46,8 @@ fn answer(rt: &HostRuntime, words: &[String]) -> Status {
     let mut out = StdSink::out(rt);
     if let [word] = words {
         match word.as_str() {
-            "--help" => return print(&mut out, HELP),
-            "--version" => return print(&mut out, VERSION),
+            "--help" => return print(rt, &mut out, HELP),
+            "--version" => return print(rt, &mut out, VERSION),
             _ => {}
         }
     }
@@ -64,10 +64,20 @@ fn answer(rt: &HostRuntime, words: &[String]) -> Status {
     )
 }
 
-fn print(out: &mut StdSink, text: &str) -> Status {
+/// Prints the text, or tells standard error why not all of it was printed.
+fn print(rt: &HostRuntime, out: &mut StdSink, text: &str) -> Status {
     match write_all(out, text.as_bytes()) {
         Ok(()) => Status::Done,
-        Err(OutsideFault::Failed) => Status::Write,
-        Err(OutsideFault::OutOfMemory) => Status::OutOfMemory,
+        Err(OutsideFault::Failed) => {
+            let _ = write_all(&mut StdSink::err(rt), b"write fault\n");
+            Status::Write
+        }
+        Err(OutsideFault::OutOfMemory) => lacking(rt),
     }
+}
+
+/// Tells standard error that memory ran out.
+fn lacking(rt: &HostRuntime) -> Status {
+    let _ = write_all(&mut StdSink::err(rt), b"out of memory\n");
+    Status::OutOfMemory
 }
