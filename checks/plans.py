@@ -25,6 +25,8 @@ RANDOM = 1_500
 GOOD = plan_cases.plan(*plan_cases.GOOD)
 GOOD_LINES = b"s,source,text,int\nout,output,text,int\n"
 
+FILES = {"p.json": GOOD, "p.json ": b"{}", " p.json": b"x", "\u00e9 ,\".json": b"{}"}
+
 COMMAND_LINES = [(words, 1, b"", USAGE) for words in (
     [b"check"], [b"check", b"p.json", b"p.json"], [b"check", b"p.json", b""], [b"p.json"], [b"Check", b"p.json"],
     [b"checks", b"p.json"], [b"p.json", b"check"], [b"check", b"\xff"], [b"--check", b"p.json"],
@@ -36,6 +38,10 @@ COMMAND_LINES = [(words, 1, b"", USAGE) for words in (
     ([b"check", b"p.json/p.json"], 4, b"", b"read fault\n"),
     ([b"check", b"--help"], 4, b"", b"read fault\n"),
     ([b"check", b"./p.json"], 0, GOOD_LINES, b""),
+    # A file has the name that it is asked for by, blanks at its ends and all.
+    ([b"check", b"p.json "], 2, b"", b"plan fault 3 node 0\n"),
+    ([b"check", b" p.json"], 2, b"", b"plan fault 2 node 0\n"),
+    ([b"check", b"p.json  "], 4, b"", b"read fault\n"),
     ([b"check", "\u00e9 ,\".json".encode()], 2, b"", b"plan fault 3 node 0\n"),
 ]
 
@@ -46,8 +52,8 @@ def answer(check: Check, data: bytes) -> tuple[int, bytes, bytes]:
 
 
 def check_command_lines(check: Check) -> int:
-    check.write("p.json", GOOD)
-    check.write("\u00e9 ,\".json", b"{}")
+    for name, data in FILES.items():
+        check.write(name, data)
     for words, *expected in COMMAND_LINES:
         check.compare(f"the words {words}", b"", tuple(expected), check.run(words))
     with open("/dev/full", "wb") as full:

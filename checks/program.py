@@ -1,4 +1,6 @@
 """The built program: what it answers, and what of it differs from what must come."""
+import resource
+import signal
 import subprocess
 import sys
 import tempfile
@@ -42,10 +44,12 @@ class Check:
         self.differences = 0
         self.kept = None
 
-    def run(self, words: list, out=subprocess.PIPE) -> tuple[int, bytes, bytes]:
+    def run(self, words: list, out=subprocess.PIPE, set_up=None) -> tuple[int, bytes, bytes]:
+        """What it answers for these words. `set_up` is called in its process before it starts."""
         command = [self.program, *words]
         try:
-            done = subprocess.run(command, cwd=self.folder, stdout=out, stderr=subprocess.PIPE, timeout=SECONDS)
+            done = subprocess.run(command, cwd=self.folder, stdout=out, stderr=subprocess.PIPE, timeout=SECONDS,
+                                  preexec_fn=set_up)
         except subprocess.TimeoutExpired:
             return -1, b"", f"no answer within {SECONDS} s".encode()
         return done.returncode, done.stdout or b"", done.stderr
@@ -67,6 +71,12 @@ class Check:
         for title, answer in (("expected", expected), ("came", came)):
             place.with_suffix(f".{title}").write_bytes(answer[1])
             print(f"  {title}: status {answer[0]}, err {shown(answer[2])}, out {shown(answer[1])}")
+
+
+def limit_files(size: int) -> None:
+    """From now on a write over this size of a file takes what fits, and is refused where nothing does."""
+    signal.signal(signal.SIGXFSZ, signal.SIG_IGN)
+    resource.setrlimit(resource.RLIMIT_FSIZE, (size, size))
 
 
 def shown(text: bytes) -> str:
