@@ -1,0 +1,8 @@
+//! Runs of plans over lists of messages, and what they make: the query, with what was forgotten left out.
+//!
+//! There are definitions and laws here, and no network. A law is a function whose contract is the law.
+#![tactic(auto)]
+
+mod laws;
+
+pub use laws::{closed_runs, going_runs, partial_runs};
