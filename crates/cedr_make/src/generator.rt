@@ -1,0 +1,145 @@
+ghost use Rattle.std.specs.Prelude.{ℕ, ◌≡◌, ◌<◌, ◌≤◌, ◌++◌, IfOk, OnOk};
+ghost use Rattle.cedr_make.specs.Generator.{chance, begin_of, length_of, key_of, value_of, payload_text, insertion_text, retraction_text, guarantee_text, event_text, made_text};
+
+use cedr_base::OutOfMemory;
+use cedr_text::write_number;
+use std::alloc::Global;
+
+/// The numbers of one event.
+#[derive(Clone, Copy)]
+struct EventNumbers {
+    begin: u64,
+    length: u64,
+    key: u64,
+    value: u64,
+}
+
+/// A number below 4,096 that looks like chance.
+fn chance(k: u64) -> u64
+    requires { k < 1000000 }
+    ensures { result ≡ chance k }
+{
+    (k * 40503 + 12345) % 65536 / 16
+}
+
+/// The numbers of the event of this number of a source.
+fn numbers_of(source: u64, i: u64) -> EventNumbers
+    requires source { source ≤ 1 }
+    requires number { i < 100000 }
+    ensures begin { result.begin ≡ begin_of source i }
+    ensures length { result.length ≡ length_of source i }
+    ensures key { result.key ≡ key_of source i }
+    ensures value { result.value ≡ value_of source i }
+{
+    let seed = 8 * i + 4 * source;
+    EventNumbers {
+        begin: 10 * i + chance(seed) % 50,
+        length: 1 + chance(seed + 1) % 100,
+        key: chance(seed + 2) % 2,
+        value: chance(seed + 3) % 1000,
+    }
+}
+
+/// A key and a value, each behind a comma.
+fn push_payload(
+    source: u64,
+    i: u64,
+    numbers: EventNumbers,
+    out: &mut Vec<u8>,
+) -> Result<(), OutOfMemory>
+    requires key { numbers.key ≡ key_of source i }
+    requires value { numbers.value ≡ value_of source i }
+    ensures { OnOk result (out.new.items ≡ out.old.items ++ payload_text source i) }
+{
+    out.extend_from_slice(b",k")?;
+    write_number(numbers.key, out)?;
+    out.push(b',')?;
+    write_number(numbers.value, out)
+}
+
+fn push_insertion(
+    source: u64,
+    i: u64,
+    numbers: EventNumbers,
+    out: &mut Vec<u8>,
+) -> Result<(), OutOfMemory>
+    requires number { i < 100000 }
+    requires begin { numbers.begin ≡ begin_of source i }
+    requires length { numbers.length ≡ length_of source i }
+    requires key { numbers.key ≡ key_of source i }
+    requires value { numbers.value ≡ value_of source i }
+    ensures { OnOk result (out.new.items ≡ out.old.items ++ insertion_text source i) }
+{
+    out.extend_from_slice(b"+,")?;
+    write_number(i, out)?;
+    out.push(b',')?;
+    write_number(numbers.begin, out)?;
+    out.push(b',')?;
+    write_number(numbers.begin + numbers.length, out)?;
+    push_payload(source, i, numbers, out)?;
+    out.push(b'\n')?;
+    Ok(())
+}
+
+/// Each fifth event is cut to half of its length.
+fn push_retraction(
+    source: u64,
+    i: u64,
+    numbers: EventNumbers,
+    out: &mut Vec<u8>,
+) -> Result<(), OutOfMemory>
+    requires number { i < 100000 }
+    requires begin { numbers.begin ≡ begin_of source i }
+    requires length { numbers.length ≡ length_of source i }
+    ensures { OnOk result (out.new.items ≡ out.old.items ++ retraction_text source i) }
+{
+    if i % 5 != 4 {
+        return Ok(());
+    }
+    out.extend_from_slice(b"-,")?;
+    write_number(i, out)?;
+    out.push(b',')?;
+    write_number(numbers.begin + numbers.length / 2, out)?;
+    out.push(b'\n')?;
+    Ok(())
+}
+
+/// Behind each sixteenth event stands a guarantee.
+fn push_guarantee(i: u64, out: &mut Vec<u8>) -> Result<(), OutOfMemory>
+    requires { i < 100000 }
+    ensures { OnOk result (out.new.items ≡ out.old.items ++ guarantee_text i) }
+{
+    if i % 16 != 15 {
+        return Ok(());
+    }
+    out.extend_from_slice(b"=,")?;
+    write_number(10 * (i + 1), out)?;
+    out.push(b'\n')?;
+    Ok(())
+}
+
+/// The lines of one event.
+fn push_event(source: u64, i: u64, out: &mut Vec<u8>) -> Result<(), OutOfMemory>
+    requires source { source ≤ 1 }
+    requires number { i < 100000 }
+    ensures { OnOk result (out.new.items ≡ out.old.items ++ event_text source i) }
+{
+    let numbers = numbers_of(source, i);
+    push_insertion(source, i, numbers, out)?;
+    push_retraction(source, i, numbers, out)?;
+    push_guarantee(i, out)
+}
+
+/// The event file of one of the two sources, 0 or 1, of a workload of `n` events a source. O(n).
+pub fn made_bytes(alloc: Global, n: u64, source: usize) -> Result<Vec<u8>, OutOfMemory>
+    requires least { 1 ≤ n }
+    requires most { n ≤ 100000 }
+    requires source { source ≤ 1 }
+    ensures { IfOk result (λ bytes. bytes.items ≡ made_text source n) }
+{
+    let mut bytes = Vec::new(alloc);
+    for i in 0..n {
+        push_event(source as u64, i, &mut bytes)?;
+    }
+    Ok(bytes)
+}
