@@ -1,1 +1,5 @@
 pub mod BuiltInLemmas
+pub mod FieldTexts
+pub mod LineReadings
+pub mod AcceptedLines
+pub mod MadeLemmas

@@ -1,4 +1,4 @@
-ghost use Rattle.std.specs.Prelude.{ℕ, ◌≡◌, ◌<◌, ◌≤◌, ◌++◌, IfOk, OnOk};
+ghost use Rattle.std.specs.Prelude.{◌≡◌, ◌<◌, ◌≤◌, ◌++◌, IfOk, OnOk};
 ghost use Rattle.cedr_make.specs.Generator.{chance, begin_of, length_of, key_of, value_of, payload_text, insertion_text, retraction_text, guarantee_text, event_text, made_text};
 
 use cedr_base::OutOfMemory;
@@ -130,7 +130,9 @@ fn push_event(source: u64, i: u64, out: &mut Vec<u8>) -> Result<(), OutOfMemory>
     push_guarantee(i, out)
 }
 
-/// The event file of one of the two sources, 0 or 1, of a workload of `n` events a source. O(n).
+/// The event file of a source of `n` events: of the plan's source `a` for 0, and of `b` for 1. Each event is an insertion;
+/// each fifth one is then cut to half of its length, and behind each sixteenth one stands a guarantee. O(n), with some 30
+/// bytes for each event.
 pub fn made_bytes(alloc: Global, n: u64, source: usize) -> Result<Vec<u8>, OutOfMemory>
     requires least { 1 ≤ n }
     requires most { n ≤ 100000 }

@@ -5,7 +5,7 @@ use cedr_base::{OutOfMemory, Row};
 use cedr_text::write_number;
 use std::alloc::Global;
 
-/// For how long the rows are valid together.
+/// For how long the rows are valid together, in application time.
 fn total_length(rows: &[Row]) -> u128
     ensures { result ≡ total_length rows.now }
 {
@@ -28,8 +28,8 @@ fn summary_text(alloc: Global, rows: &[Row]) -> Result<Vec<u8>, OutOfMemory>
     Ok(text)
 }
 
-/// Appends how many rows there are, and for how long they are valid together. Where memory runs out `out` is as before.
-/// O(n).
+/// Appends `rows R length L` and a line feed: how many rows there are, and for how long they are valid together, in
+/// application time. A row without an end counts up to `FOREVER`. Where memory runs out `out` is as before. O(n).
 pub fn write_summary(rows: &[Row], out: &mut Vec<u8>) -> Result<(), OutOfMemory>
     ensures ok { OnOk result (out.new.items ≡ out.old.items ++ summary_text rows.now) }
     ensures err { OnErr result (out.new.items ≡ out.old.items) }
