@@ -1,0 +1,93 @@
+-- What came of the sources of a network that is fed.
+use Rattle.std.proofs.Common.{◌≡◌, ◌≢◌, ◌⊎◌, ℕ, zero, suc, ◌<◌, inl, inr, List, [], ◌∷◌, ◌++◌, length, set, get_or, replicate, refl, ap, sym, ◌∙◌, subst, arith, get_or-set_same, get_or-set_other}
+use Rattle.std.specs.Prelude.{true}
+use Rattle.std.proofs.lemmas.List.{length-set}
+use Rattle.cedr_base.specs.declared.change.Message.{Message}
+use Rattle.cedr_laws.specs.Lists.{Lists, list_at, with_more}
+use Rattle.cedr_plan.specs.declared.plan.PlanNode.{PlanNode}
+use Rattle.msg_feed.specs.Came.{StandsFor}
+use Rattle.msg_feed.specs.declared.came.Came.{Came}
+use Rattle.op_planned.specs.Ready.{is_source}
+use Rattle.cedr_net.specs.declared.net.SerialNet.{SerialNet}
+use Rattle.cedr_net.specs.Fed.{WasFed}
+use Rattle.cedr_net.specs.Flows.{IsSourceAt}
+use Rattle.cedr_net.specs.Networks.{NetStands, HasPort}
+use Rattle.cedr_net.proofs.FlowLemmas.{split, same_or_not}
+use Rattle.cedr_net.proofs.ListLemmas.{at_more, at_more_other}
+use Rattle.cedr_net.proofs.PortLemmas.{port_width, has_port}
+use Rattle.cedr_runs.specs.Runs.{lists_at}
+use Rattle.std.proofs.Math.Seq.{get_or-append_seam}
+
+-- the node at a place is a source
+pub source_here : (nodes : List PlanNode) (place : ℕ) (n : PlanNode) → place < length nodes → get_or nodes place n ≡ n → is_source n.kind ≡ true → IsSourceAt nodes place
+source_here nodes place n within here is = λ before after m whole len. subst (λ (k : PlanNode). is_source k.kind ≡ true) (sym here ∙ at_place before after m whole len) is where
+  there : (before after : List PlanNode) (m : PlanNode) → get_or (before ++ m ∷ after) (length before) n ≡ m
+  there [] after m = refl
+  there (b ∷ before) after m = there before after m
+
+  at_place : (before after : List PlanNode) (m : PlanNode) → nodes ≡ before ++ m ∷ after → length before ≡ place → get_or nodes place n ≡ m
+  at_place before after m whole len = ap (λ (ns : List PlanNode). get_or ns place n) whole ∙ (ap (λ (k : ℕ). get_or (before ++ m ∷ after) k n) (sym len) ∙ there before after m)
+
+-- a message came of a source that may come there
+module _ (nodes : List PlanNode) (net net' : SerialNet) (came : List Came) (h : WasFed nodes net came) (place : ℕ) (m : Message) (within : place < length nodes) (source : IsSourceAt nodes place) (old new : Came) (old_is : get_or came place old ≡ old) where
+  pub stood : StandsFor old (list_at h.given place)
+  stood = subst (λ (c : Came). StandsFor c (list_at h.given place)) old_is (h.came_are place old within source)
+
+  came_now : StandsFor new (list_at h.given place ++ m ∷ []) → (k : ℕ) (d : Came) → k < length nodes → IsSourceAt nodes k → (k ≡ place) ⊎ (k ≢ place) → StandsFor (get_or (set came place new) k d) (list_at (with_more h.given place (m ∷ [])) k)
+  came_now stands k d inside is (inl e) =
+      subst (λ (j : ℕ). StandsFor (get_or (set came place new) j d) (list_at (with_more h.given place (m ∷ [])) j)) (sym e)
+      (subst (λ (c : Came). StandsFor c (list_at (with_more h.given place (m ∷ [])) place)) (sym (get_or-set_same came place new d (omega (arith, h.count, within))))
+      (subst (StandsFor new) (sym (at_more h.given place (m ∷ []) (omega (arith, h.stands.stands.flows.given_count, within)))) stands))
+  came_now stands k d inside is (inr ne) =
+      subst (λ (c : Came). StandsFor c (list_at (with_more h.given place (m ∷ [])) k)) (sym (get_or-set_other came place k new d ne))
+      (subst (StandsFor (get_or came k d)) (sym (at_more_other h.given place k (m ∷ []) ne)) (h.came_are k d inside is))
+
+  pub fed_more : NetStands nodes net' h.ports (with_more h.given place (m ∷ [])) → StandsFor new (list_at h.given place ++ m ∷ []) → WasFed nodes net' (set came place new)
+  fed_more stands now = record {
+    ports = h.ports;
+    given = with_more h.given place (m ∷ []);
+    stands = stands;
+    count = length-set came place new ∙ h.count;
+    came_are = λ k d inside is. came_now now k d inside is (same_or_not k place);
+  }
+
+-- the network went on without its sources
+pub fed_still : (nodes : List PlanNode) (net net' : SerialNet) (came : List Came) → (h : WasFed nodes net came) → (ports : List Lists) (given : Lists) → NetStands nodes net' ports given → ((k : ℕ) → IsSourceAt nodes k → list_at given k ≡ list_at h.given k) → WasFed nodes net' came
+fed_still nodes net net' came h ports given stands same = record {
+  ports = ports;
+  given = given;
+  stands = stands;
+  count = h.count;
+  came_are = λ k d inside is. subst (StandsFor (get_or came k d)) (sym (same k is)) (h.came_are k d inside is);
+}
+
+none_came : (came : List Came) (count : ℕ) → ((k : ℕ) (d : Came) → k < length came → StandsFor (get_or came k d) []) → (k : ℕ) (d : Came) → k < length came → StandsFor (get_or came k d) (list_at (replicate count []) k)
+none_came came count all k d inside = subst (StandsFor (get_or came k d)) (sym (none_there count k)) (all k d inside) where
+  none_there : (n j : ℕ) → list_at (replicate n []) j ≡ []
+  none_there zero j = refl
+  none_there (suc n) zero = refl
+  none_there (suc n) (suc j) = none_there n j
+
+-- nothing came yet
+pub fed_none : (nodes : List PlanNode) (net : SerialNet) (came : List Came) (ports : List Lists) → NetStands nodes net ports (replicate (length nodes) []) → length came ≡ length nodes → ((k : ℕ) (d : Came) → k < length came → StandsFor (get_or came k d) []) → WasFed nodes net came
+fed_none nodes net came ports stands count all = record {
+  ports = ports;
+  given = replicate (length nodes) [];
+  stands = stands;
+  count = count;
+  came_are = λ k d inside is. none_came came (length nodes) all k d (omega (arith, count, inside));
+}
+
+pub came_push : (came : List Came) (c : Came) → ((k : ℕ) (d : Came) → k < length came → StandsFor (get_or came k d) []) → StandsFor c [] → (k : ℕ) (d : Came) → k < length (came ++ c ∷ []) → StandsFor (get_or (came ++ c ∷ []) k d) []
+came_push [] c all one zero d inside = one
+came_push [] c all one (suc k) d inside = absurd (omega arith)
+came_push (x ∷ came) c all one zero d inside = all 0 d (omega arith)
+came_push (x ∷ came) c all one (suc k) d inside = came_push came c (λ j e within. all (suc j) e (omega arith)) one k d (omega arith)
+
+-- the node at a place has the ports that the plan says
+pub port_here : (nodes : List PlanNode) (net : SerialNet) (ports : List Lists) (given : Lists) → NetStands nodes net ports given → (place port : ℕ) (n : PlanNode) → place < length nodes → get_or nodes place n ≡ n → port < length n.inputs.items → HasPort net place port
+port_here nodes net ports given h place port n within here in_port =
+    let s = split nodes place within in
+    let same : s.node ≡ n = sym (get_or-append_seam s.before s.node s.after n) ∙ (ap (λ (ns : List PlanNode). get_or ns (length s.before) n) (sym s.whole) ∙ (ap (λ (k : ℕ). get_or nodes k n) s.place ∙ here)) in
+    let wide = port_width nodes net.flow ports given h.stands s.before s.after s.node s.whole in
+    has_port nodes net.flow ports given h.stands place port within (omega (arith, wide, ap (λ (m : PlanNode). length m.inputs.items) same, ap (λ (k : ℕ). length (lists_at ports k)) s.place, in_port))

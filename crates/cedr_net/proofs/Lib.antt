@@ -1,0 +1,11 @@
+pub mod ListLemmas
+pub mod EdgeLemmas
+pub mod FlowLemmas
+pub mod SettleLemmas
+pub mod RunLemmas
+pub mod NewLemmas
+pub mod AnswerLemmas
+pub mod NetLemmas
+pub mod PortLemmas
+pub mod ScheduleLemmas
+pub mod FedLemmas

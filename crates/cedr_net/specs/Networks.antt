@@ -1,0 +1,123 @@
+-- A network, and the lists that went over it.
+use Rattle.std.specs.Prelude.{ℕ, ◌≡◌, ◌<◌, List, [], ◌∷◌, ◌++◌, length, slice_index_or, slice_set, Bool, true, false}
+use Rattle.cedr_base.specs.declared.row.Row.{Row}
+use Rattle.cedr_base.specs.declared.change.Change.{Change}
+use Rattle.cedr_base.specs.declared.change.Message.{Message}
+use Rattle.cedr_base.specs.Messages.{changes_of, mark_of, IsTableOf}
+use Rattle.cedr_laws.specs.Lists.{Lists, list_at, with_more}
+use Rattle.cedr_plan.specs.declared.plan.PlanNode.{PlanNode}
+use Rattle.cedr_query.specs.Queries.{output_place}
+use Rattle.cedr_runs.specs.Runs.{lists_at}
+use Rattle.cedr_net.specs.declared.flow.Flow.{Flow}
+use Rattle.cedr_net.specs.declared.net.SerialNet.{SerialNet}
+use Rattle.cedr_net.specs.Edges.{readers_from, NothingWaits}
+use Rattle.cedr_net.specs.Flows.{reads_of, Flows, IsSourceAt, PortAt, with_taken}
+
+-- the changes of a list, and its table
+pub record IsAnswerOf (changes : List Change) (rows : List Row) (given : List Message) : Type 0 where
+  pub changes_are : changes ≡ changes_of given
+  pub table : IsTableOf given rows
+
+-- a network stands for the lists that were taken on the ports of each node of a plan and the list that each node gave:
+-- its edges are those of the plan, and its answer and its reach are those of the output
+pub record FlowStands (nodes : List PlanNode) (flow : Flow) (ports : List Lists) (given : Lists) : Type 0 where
+  pub flows : Flows nodes (reads_of nodes) flow.waiting.items flow.works.items ports given
+  pub readers_count : length flow.readers.items ≡ length nodes
+  pub readers : (k : ℕ) → k < length nodes → slice_index_or flow.readers.items k [] ≡ readers_from k 0 (reads_of nodes)
+  pub output : flow.output ≡ output_place nodes
+  pub output_within : output_place nodes < length nodes
+  pub unread : readers_from (output_place nodes) 0 (reads_of nodes) ≡ []
+  pub one_port : length (lists_at ports (output_place nodes)) ≡ 1
+  pub answer : IsAnswerOf flow.answer.changes.items flow.answer.table (list_at given (output_place nodes))
+  pub reach : flow.reach ≡ mark_of (list_at (lists_at ports (output_place nodes)) 0)
+
+-- memory ran out in a call
+abbrev pub is_spent : SerialNet → Bool
+is_spent net = net.spent
+
+-- and it is usable
+pub record NetStands (nodes : List PlanNode) (net : SerialNet) (ports : List Lists) (given : Lists) : Type 0 where
+  pub usable : is_spent net ≡ false
+  pub stands : FlowStands nodes net.flow ports given
+
+-- what waits on the ports of the node at a place
+abbrev pub waiting_at : SerialNet → ℕ → Lists
+waiting_at net place = lists_at net.flow.waiting.items place
+
+-- lists that go on
+pub record AllGrow (old new : Lists) : Type 0 where
+  pub grows : (k : ℕ) → (more : List Message) × (list_at new k ≡ list_at old k ++ more)
+
+-- a node took the first message of the first port on which one waited, and gave a piece for it
+pub record IsTurn (nodes : List PlanNode) (old new : Flow) (ports : List Lists) (given : Lists) (place : ℕ) (piece : List Message) : Type 0 where
+  pub port : ℕ
+  pub message : Message
+  pub more : List Message
+  pub first : (k : ℕ) → k < port → list_at (lists_at old.waiting.items place) k ≡ []
+  pub front : list_at (lists_at old.waiting.items place) port ≡ message ∷ more
+  pub own : lists_at new.waiting.items place ≡ slice_set (lists_at old.waiting.items place) port more
+  pub earlier : (k : ℕ) → k < place → lists_at new.waiting.items k ≡ lists_at old.waiting.items k
+  pub stands : FlowStands nodes new (with_taken ports place port message) (with_more given place piece)
+
+-- The network went on by turns of the node at a place: no source gave anything, the lists went on, and what waits at
+-- earlier places is as before.
+pub record IsOnTheWay (nodes : List PlanNode) (old new : Flow) (given : Lists) (place : ℕ) : Type 0 where
+  pub ports : List Lists
+  pub given' : Lists
+  pub stands : FlowStands nodes new ports given'
+  pub sources : (k : ℕ) → IsSourceAt nodes k → list_at given' k ≡ list_at given k
+  pub grow : AllGrow given given'
+  pub earlier : (k : ℕ) → k < place → lists_at new.waiting.items k ≡ lists_at old.waiting.items k
+
+-- and nothing waits there
+pub record IsDrained (nodes : List PlanNode) (old new : Flow) (given : Lists) (place : ℕ) : Type 0 where
+  pub way : IsOnTheWay nodes old new given place
+  pub empty : NothingWaits (lists_at new.waiting.items place)
+
+-- the network went on by turns until nothing waited at the first places
+pub record IsSettledUpTo (nodes : List PlanNode) (new : Flow) (given : Lists) (count : ℕ) : Type 0 where
+  pub ports : List Lists
+  pub given' : Lists
+  pub stands : FlowStands nodes new ports given'
+  pub sources : (k : ℕ) → IsSourceAt nodes k → list_at given' k ≡ list_at given k
+  pub grow : AllGrow given given'
+  pub empty : (k : ℕ) → k < count → NothingWaits (lists_at new.waiting.items k)
+
+-- A node took the first message of the first port on which one waited, and gave a piece for it; or nothing waited there,
+-- and all is as before.
+pub record IsNetTurn (nodes : List PlanNode) (old new : SerialNet) (ports : List Lists) (given : Lists) (node : ℕ) (moved : Bool) : Type 0 where
+  pub turned : moved ≡ true → (piece : List Message) × IsTurn nodes old.flow new.flow ports given node piece
+  pub idle : moved ≡ false → NothingWaits (waiting_at old node) × NetStands nodes new ports given
+  pub usable : is_spent new ≡ false
+
+-- the network went on until nothing waited, and no source gave anything
+pub record IsSettled (nodes : List PlanNode) (new : SerialNet) (given : Lists) : Type 0 where
+  pub ports : List Lists
+  pub given' : Lists
+  pub stands : NetStands nodes new ports given'
+  pub sources : (k : ℕ) → IsSourceAt nodes k → list_at given' k ≡ list_at given k
+  pub grow : AllGrow given given'
+  pub empty : (k : ℕ) → k < length nodes → NothingWaits (waiting_at new k)
+
+-- the node at a place has such a port
+abbrev pub HasPort : SerialNet → ℕ → ℕ → Type 0
+HasPort net place port = PortAt net.flow.works.items place port
+
+-- where the lists stand behind a turn of the node at a place
+pub record TurnsTo (nodes : List PlanNode) (old new : SerialNet) (ports : List Lists) (given : Lists) (place : ℕ) (ports' : List Lists) (given' : Lists) : Type 0 where
+  pub moved : Bool
+  pub turn : IsNetTurn nodes old new ports given place moved
+  pub taken : moved ≡ true → (piece : List Message) × (t : IsTurn nodes old.flow new.flow ports given place piece) × (ports' ≡ with_taken ports place t.port t.message) × (given' ≡ with_more given place piece)
+  pub idle : moved ≡ false → (ports' ≡ ports) × (given' ≡ given)
+
+-- the nodes at these places were turned, one after the other; no source gave anything
+abbrev pub TurnsAlong : List PlanNode → SerialNet → SerialNet → List Lists → Lists → List ℕ → List Lists → Lists → Type 0
+TurnsAlong nodes old new ports given [] ports' given' = (new ≡ old) × (ports' ≡ ports) × (given' ≡ given)
+TurnsAlong nodes old new ports given (place ∷ places) ports' given' = (next : SerialNet) × (ports₁ : List Lists) × (given₁ : Lists) × TurnsTo nodes old next ports given place ports₁ given₁ × TurnsAlong nodes next new ports₁ given₁ places ports' given'
+
+pub record IsScheduled (nodes : List PlanNode) (old new : SerialNet) (ports : List Lists) (given : Lists) (places : List ℕ) : Type 0 where
+  pub ports' : List Lists
+  pub given' : Lists
+  pub turns : TurnsAlong nodes old new ports given places ports' given'
+  pub stands : NetStands nodes new ports' given'
+  pub sources : (k : ℕ) → IsSourceAt nodes k → list_at given' k ≡ list_at given k

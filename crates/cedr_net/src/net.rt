@@ -1,0 +1,172 @@
+ghost use Rattle.std.specs.Prelude.{ℕ, ◌≡◌, ◌<◌, ◌↔◌, ◌++◌, ◌∷◌, [], List, All, true, false, OnOk, IfOk, IsErrOf, length, map, replicate};
+ghost use Rattle.cedr_base.specs.Messages.{MayCome, changes_of, mark_of, IsTableOf};
+ghost use Rattle.cedr_laws.specs.Kept.{forgot};
+ghost use Rattle.cedr_laws.specs.Lawful.{all_over};
+ghost use Rattle.cedr_laws.specs.Lists.{Lists, list_at, with_more};
+ghost use Rattle.cedr_plan.specs.declared.plan.PlanNode.{PlanNode};
+ghost use Rattle.cedr_plan.specs.Rules.{IsPlan};
+ghost use Rattle.cedr_query.specs.Queries.{output_place};
+ghost use Rattle.cedr_runs.specs.Runs.{lists_at};
+ghost use Rattle.cedr_net.specs.declared.net.NetFault.TheVariants.{OutOfMemory as NoMemory, Spent};
+ghost use Rattle.cedr_net.specs.Flows.{IsSourceAt, no_ports};
+ghost use Rattle.cedr_net.specs.Networks.{is_spent, NetStands, HasPort, IsNetTurn, IsSettled, IsScheduled};
+
+use crate::flow::Flow;
+use crate::work::{ended_at, forgotten_at};
+use cedr_base::{Change, Message, OutOfMemory, Time};
+use cedr_laws::Forgotten;
+use cedr_plan::Plan;
+use cedr_table::Table;
+use std::alloc::Global;
+use thiserror::Error;
+
+/// Why a network gives no answer.
+#[derive(Clone, Copy, Debug, PartialEq, Eq, Error)]
+pub enum NetFault {
+    /// Memory ran out. Each later call is refused as spent.
+    #[error("out of memory")]
+    OutOfMemory,
+    /// Memory ran out in an earlier call, so what the network stands for isn't known any more.
+    #[error("the network is spent: memory ran out in an earlier call")]
+    Spent,
+}
+
+/// A plan's network on one thread. Nodes are numbered by their places in the plan, from 0.
+///
+/// It stands for the lists of messages that went over its edges, which it doesn't keep. Each clause speaks of all such
+/// lists.
+#[derive(Drop)]
+pub struct SerialNet {
+    pub(crate) flow: Flow,
+    /// Whether memory ran out in a call.
+    pub(crate) spent: bool,
+}
+
+impl SerialNet {
+    /// The network of a plan, to which nothing came. O(n * n) in the plan's nodes.
+    pub fn new(alloc: Global, plan: &Plan) -> Result<SerialNet, OutOfMemory>
+        requires { IsPlan plan.now }
+        ensures { IfOk result (λ net. NetStands plan.now.nodes.items net (map no_ports plan.now.nodes.items) (replicate (length plan.now.nodes.items) [])) }
+    {
+        let flow = Flow::new(alloc, plan)?;
+        Ok(SerialNet { flow, spent: false })
+    }
+
+    /// A message of a source, which may come behind those before it, waits on each port that reads it. It is copied for
+    /// each such port but the last one.
+    pub fn feed(&mut self, alloc: Global, node: usize, message: Message) -> Result<(), NetFault>
+        requires { is_spent self.old ≡ false → (nodes : List PlanNode) × (ports : List Lists) × (given : Lists) × NetStands nodes self.old ports given × (node < length nodes) × IsSourceAt nodes node × MayCome (list_at given node) message }
+        ensures fed { OnOk result ((nodes : List PlanNode) (ports : List Lists) (given : Lists) → NetStands nodes self.old ports given → node < length nodes → IsSourceAt nodes node → MayCome (list_at given node) message → NetStands nodes self.new ports (with_more given node (message ∷ []))) }
+        ensures spent { IsErrOf result Spent ↔ (is_spent self.old ≡ true) }
+        ensures spends { IsErrOf result NoMemory → is_spent self.new ≡ true }
+        ensures stays_spent { is_spent self.old ≡ true → is_spent self.new ≡ true }
+    {
+        if self.spent {
+            return Err(NetFault::Spent);
+        }
+        match self.flow.feed(alloc, node, message) {
+            Ok(()) => Ok(()),
+            Err(OutOfMemory) => {
+                self.spent = true;
+                Err(NetFault::OutOfMemory)
+            }
+        }
+    }
+
+    /// The node takes the first message of its first port on which one waits, and what it gives waits on the ports that
+    /// read it, or is the output's. Whether a message waited: a source has no port, so it never takes one.
+    pub fn turn(&mut self, alloc: Global, node: usize) -> Result<bool, NetFault>
+        requires { is_spent self.old ≡ false → (nodes : List PlanNode) × (ports : List Lists) × (given : Lists) × NetStands nodes self.old ports given × (node < length nodes) }
+        ensures turned { IfOk result (λ moved. (nodes : List PlanNode) (ports : List Lists) (given : Lists) → NetStands nodes self.old ports given → node < length nodes → IsNetTurn nodes self.old self.new ports given node moved) }
+        ensures spent { IsErrOf result Spent ↔ (is_spent self.old ≡ true) }
+        ensures spends { IsErrOf result NoMemory → is_spent self.new ≡ true }
+        ensures stays_spent { is_spent self.old ≡ true → is_spent self.new ≡ true }
+    {
+        if self.spent {
+            return Err(NetFault::Spent);
+        }
+        match self.flow.turn(alloc, node) {
+            Ok(moved) => Ok(moved),
+            Err(OutOfMemory) => {
+                self.spent = true;
+                Err(NetFault::OutOfMemory)
+            }
+        }
+    }
+
+    /// Nodes are turned until no message waits. They go in the order of the plan, so that each takes all that waits on its
+    /// ports once and for good.
+    pub fn settle(&mut self, alloc: Global) -> Result<(), NetFault>
+        requires { is_spent self.old ≡ false → (nodes : List PlanNode) × (ports : List Lists) × (given : Lists) × NetStands nodes self.old ports given }
+        ensures settled { OnOk result ((nodes : List PlanNode) (ports : List Lists) (given : Lists) → NetStands nodes self.old ports given → IsSettled nodes self.new given) }
+        ensures spent { IsErrOf result Spent ↔ (is_spent self.old ≡ true) }
+        ensures spends { IsErrOf result NoMemory → is_spent self.new ≡ true }
+        ensures stays_spent { is_spent self.old ≡ true → is_spent self.new ≡ true }
+    {
+        if self.spent {
+            return Err(NetFault::Spent);
+        }
+        match self.flow.settle(alloc) {
+            Ok(()) => Ok(()),
+            Err(OutOfMemory) => {
+                self.spent = true;
+                Err(NetFault::OutOfMemory)
+            }
+        }
+    }
+
+    /// The nodes are turned in this order, each as [`SerialNet::turn`] does.
+    pub fn run_schedule(&mut self, alloc: Global, schedule: &[usize]) -> Result<(), NetFault>
+        requires { is_spent self.old ≡ false → (nodes : List PlanNode) × (ports : List Lists) × (given : Lists) × NetStands nodes self.old ports given × All (λ (place : ℕ). place < length nodes) schedule.now }
+        ensures turned { OnOk result (is_spent self.old ≡ false → (nodes : List PlanNode) (ports : List Lists) (given : Lists) → NetStands nodes self.old ports given → All (λ (place : ℕ). place < length nodes) schedule.now → IsScheduled nodes self.old self.new ports given schedule.now) }
+        ensures spent { IsErrOf result Spent ↔ (is_spent self.old ≡ true) }
+        ensures spends { IsErrOf result NoMemory → is_spent self.new ≡ true }
+        ensures stays_spent { is_spent self.old ≡ true → is_spent self.new ≡ true }
+    {
+        if self.spent {
+            return Err(NetFault::Spent);
+        }
+        for node in schedule {
+            if let Err(fault) = self.turn(alloc, *node) {
+                return Err(fault);
+            }
+        }
+        Ok(())
+    }
+
+    /// The table of what the output gave. It takes no memory.
+    pub fn answer(&self) -> &Table
+        ensures { (nodes : List PlanNode) (ports : List Lists) (given : Lists) → NetStands nodes self.now ports given → IsTableOf (list_at given (output_place nodes)) result.now }
+    {
+        &self.flow.answer.table
+    }
+
+    /// The changes that the output gave, in order. It takes no memory.
+    pub fn changes(&self) -> &[Change]
+        ensures { (nodes : List PlanNode) (ports : List Lists) (given : Lists) → NetStands nodes self.now ports given → result.now ≡ changes_of (list_at given (output_place nodes)) }
+    {
+        self.flow.answer.changes.as_slice()
+    }
+
+    /// The last mark that came on the output's port, 0 at first. It takes no memory.
+    pub fn reach(&self) -> Time
+        ensures { (nodes : List PlanNode) (ports : List Lists) (given : Lists) → NetStands nodes self.now ports given → result ≡ mark_of (list_at (lists_at ports (output_place nodes)) 0) }
+    {
+        self.flow.reach
+    }
+
+    /// What was forgotten on a port of a node, in the order in which it came. It takes no memory.
+    pub fn forgotten(&self, node: usize, port: usize) -> &[Forgotten]
+        requires { HasPort self.now node port }
+        ensures { (nodes : List PlanNode) (ports : List Lists) (given : Lists) → NetStands nodes self.now ports given → (before after : List PlanNode) (n : PlanNode) → nodes ≡ before ++ n ∷ after → length before ≡ node → result.now ≡ forgot n.level.memory (list_at (lists_at ports node) port) }
+    {
+        forgotten_at(self.flow.works.as_slice(), node, port)
+    }
+
+    /// Whether the output's port has ended or broken: nothing comes of the output any more. It takes no memory.
+    pub fn ended(&self) -> bool
+        ensures { (nodes : List PlanNode) (ports : List Lists) (given : Lists) → NetStands nodes self.now ports given → result ≡ all_over (lists_at ports (output_place nodes)) }
+    {
+        ended_at(self.flow.works.as_slice(), self.flow.output)
+    }
+}
