@@ -1,0 +1,49 @@
+use Rattle.std.proofs.Common.{refl, subst}
+use Rattle.cedr_text.specs.Lines.{Steps}
+use Rattle.cedr_text.specs.Reading.{reading}
+use Rattle.cedr_guard.specs.Sources.{with_reading}
+use Rattle.cedr_source.specs.Steps.{Judges}
+use Rattle.cedr_source.proofs.ReadsLemmas.{line_told, line_falls, one_less, long_told, large_told, waiting_told, closed_told}
+use Rattle.cedr_source.proofs.lines.SourceLines.take_line.Goals as goal
+
+pub returns-in-Line-clause-told : goal.returns-in-Line-clause-told
+returns-in-Line-clause-told c =
+    line_told c.args.self.now _ c.next_line.new.line.items c.judge_line-judged.result c.step_of.result
+    (record {
+      gives = subst (λ step. Steps step c.args.self.now.lines c.next_line.new.self c.args.self.now.line.items c.next_line.new.line.items) c.in-Line.is c.in_ok-next_line.ensures.ok;
+      finished = c.next_line.ensures.goes_on;
+      shape = refl;
+      number = c.saturating_add-self.ensures;
+      room = refl;
+      over = refl;
+    })
+    (λ before guards.
+    subst (λ line. Judges c.judge_line-judged.result c.judge_line-judged.new.guard before (with_reading before (reading c.args.self.now.shape line))) c.deref.ensures.value
+    (c.judge_line-judged.ensures before guards))
+    c.step_of.ensures
+
+pub returns-in-Line-clause-falls : goal.returns-in-Line-clause-falls
+returns-in-Line-clause-falls c =
+    one_less c.args.self.now.number _ _ c.judge_line-judged.result c.step_of.result c.step_of.ensures
+    (line_falls c.args.self.now.lines c.next_line.new.self c.next_line.new.line.items
+    (subst (λ step. Steps step c.args.self.now.lines c.next_line.new.self c.args.self.now.line.items c.next_line.new.line.items) c.in-Line.is c.in_ok-next_line.ensures.ok))
+
+pub returns-in-TooLong-clause-told : goal.returns-in-TooLong-clause-told
+returns-in-TooLong-clause-told c =
+    let steps = subst (λ step. Steps step c.args.self.now.lines c.next_line.new.self c.args.self.now.line.items c.next_line.new.line.items) c.in-TooLong.is c.in_ok-next_line.ensures.ok in
+    long_told c.args.self.now _ c.refused.result c.refused.ensures (record { lines = steps.1; guard = refl; shape = refl; number = refl; room = refl; over = refl }) steps.0
+
+pub returns-in-NotYet-clause-told : goal.returns-in-NotYet-clause-told
+returns-in-NotYet-clause-told c =
+    let steps = subst (λ step. Steps step c.args.self.now.lines c.next_line.new.self c.args.self.now.line.items c.next_line.new.line.items) c.in-NotYet.is c.in_ok-next_line.ensures.ok in
+    large_told c.args.self.now _ c.refused-in-NotYet.result c.refused-in-NotYet.ensures (record { lines = steps.1; guard = refl; shape = refl; number = refl; room = refl; over = refl }) steps.0 c.if-self.true
+
+pub returns-in-NotYet-2-clause-told : goal.returns-in-NotYet-2-clause-told
+returns-in-NotYet-2-clause-told c =
+    let steps = subst (λ step. Steps step c.args.self.now.lines c.next_line.new.self c.args.self.now.line.items c.next_line.new.line.items) c.in-NotYet-2.is c.in_ok-next_line.ensures.ok in
+    waiting_told c.args.self.now _ (record { lines = steps.1; guard = refl; shape = refl; number = refl; room = refl; over = refl }) steps.0 c.if-self.false
+
+pub returns-in-Finished-clause-told : goal.returns-in-Finished-clause-told
+returns-in-Finished-clause-told c =
+    let steps = subst (λ step. Steps step c.args.self.now.lines c.next_line.new.self c.args.self.now.line.items c.next_line.new.line.items) c.in-Finished.is c.in_ok-next_line.ensures.ok in
+    closed_told c.args.self.now _ (record { lines = steps.1; guard = refl; shape = refl; number = refl; room = refl; over = refl }) steps.0

@@ -1,0 +1,19 @@
+//! One source: its bytes come in pieces, its lines are judged one after the other, and each accepted line
+//! becomes a message.
+//!
+//! `SourceLines` answers the messages of bytes that are fed to it. `specs/Reads.antt` says what it has read and
+//! given so far, and `specs/Steps.antt` what each of its answers tells of all bytes that may still come.
+//! `read_laws` says that what was given is the front of what all bytes give.
+#![tactic(auto)]
+
+mod fault;
+mod law;
+mod lines;
+mod read;
+mod step;
+
+pub use fault::SourceFault;
+pub use law::read_laws;
+pub use lines::SourceLines;
+pub use read::read_messages;
+pub use step::SourceStep;

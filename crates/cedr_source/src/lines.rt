@@ -1,0 +1,159 @@
+ghost use Rattle.std.specs.Prelude.{◌≡◌, ◌≤◌, ◌++◌, [], List, ℕ, true, false, length, IfOk, OnOk, OnErr};
+ghost use Rattle.cedr_base.specs.declared.change.Message.{Message};
+ghost use Rattle.cedr_text.specs.declared.event_line.EventLine.{EventLine};
+ghost use Rattle.cedr_text.specs.declared.event_line.Shape.{Shape};
+ghost use Rattle.cedr_text.specs.Reading.{reading};
+ghost use Rattle.cedr_guard.specs.declared.refusal.TheConstants.{FILE_LIMIT};
+ghost use Rattle.cedr_guard.specs.Sources.{with_reading};
+ghost use Rattle.cedr_guard.specs.Standing.{Guards};
+ghost use Rattle.cedr_source.specs.Reads.{Reads, lines_left};
+ghost use Rattle.cedr_source.specs.Steps.{Tells, TellsLine, TakesLine, TakesOne, Judges, Answers, refused};
+
+use crate::step::SourceStep;
+use cedr_base::{Message, OutOfMemory};
+use cedr_guard::{FILE_LIMIT, Guard, GuardFault, Refusal};
+use cedr_text::{LineFault, LineStep, Lines, Shape, read_line};
+use std::alloc::Global;
+
+/// Reads the lines of one source, whose bytes come in pieces of any size, and answers the messages of the
+/// accepted ones. Contracts speak of the bytes that were fed and the messages that were given.
+///
+/// It never holds a whole source: it keeps what isn't cut into lines yet, at most twice that and the last
+/// piece, and of each insertion what a `Guard` keeps. Of a source over `FILE_LIMIT` bytes it takes the first
+/// `FILE_LIMIT` ones, which decide.
+#[derive(Drop)]
+pub struct SourceLines {
+    lines: Lines,
+    guard: Guard,
+    shape: Shape,
+    /// The line that was taken last.
+    line: Vec<u8>,
+    /// The number of the next line, from 1 on.
+    number: u64,
+    /// How many bytes may come until the limit is reached.
+    room: usize,
+    /// Whether more came.
+    over_limit: bool,
+}
+
+impl SourceLines {
+    /// Nothing was fed or given. It takes no memory.
+    pub fn new(alloc: Global, shape: Shape) -> SourceLines
+        ensures reads { Reads result shape [] [] }
+        ensures goes_on { result.lines.finished ≡ false }
+    {
+        SourceLines {
+            lines: Lines::new(alloc),
+            guard: Guard::new(alloc),
+            shape,
+            line: Vec::new(alloc),
+            number: 1,
+            room: FILE_LIMIT,
+            over_limit: false,
+        }
+    }
+
+    /// Takes the next bytes of the source. O(n) in them. An error leaves all as it was.
+    pub fn feed(&mut self, piece: &[u8]) -> Result<(), OutOfMemory>
+        requires { self.old.lines.finished ≡ false }
+        ensures reads { OnOk result ((shape : Shape) (bytes : List ℕ) (given : List Message) → Reads self.old shape bytes given → Reads self.new shape (bytes ++ piece.now) given) }
+        ensures err { OnErr result (self.new ≡ self.old) }
+        ensures goes_on { self.new.lines.finished ≡ false }
+    {
+        let count = piece.len().min(self.room);
+        self.lines.feed(&piece[..count])?;
+        self.room -= count;
+        if count < piece.len() {
+            self.over_limit = true;
+        }
+        Ok(())
+    }
+
+    /// Says that no more bytes come. It takes no memory.
+    pub fn finish(&mut self)
+        ensures reads { (shape : Shape) (bytes : List ℕ) (given : List Message) → Reads self.old shape bytes given → Reads self.new shape bytes given }
+        ensures finished { (shape : Shape) (bytes : List ℕ) (given : List Message) → Reads self.old shape bytes given → length bytes ≤ FILE_LIMIT → self.new.lines.finished ≡ true }
+    {
+        if !self.over_limit {
+            self.lines.finish();
+        }
+    }
+
+    /// The next message, or why there is none yet, or none any more. It skips lines that have no message: the
+    /// empty ones, and guarantees that aren't above an earlier one. O(n) in the bytes of the lines that it
+    /// takes, and O(log n) in the insertions before them for each.
+    ///
+    /// After `Refused`, and after want of memory, the lines are only to be dropped.
+    pub fn next(&mut self) -> Result<SourceStep, OutOfMemory>
+        ensures told { IfOk result (λ told. (shape : Shape) (bytes : List ℕ) (given : List Message) → Reads self.old shape bytes given → Tells told self.new shape bytes given) }
+        ensures falls { IfOk result (λ told. TakesLine told (lines_left self.old) (lines_left self.new)) }
+        ensures finished { self.new.lines.finished ≡ self.old.lines.finished }
+    {
+        loop {
+            if let Some(step) = self.take_line()? {
+                return Ok(step);
+            }
+        }
+    }
+
+    /// Takes the next line, and answers nothing where that has no message.
+    fn take_line(&mut self) -> Result<Option<SourceStep>, OutOfMemory>
+        ensures told { IfOk result (λ told. (shape : Shape) (bytes : List ℕ) (given : List Message) → Reads self.old shape bytes given → TellsLine told self.new shape bytes given) }
+        ensures falls { IfOk result (λ told. TakesOne told (lines_left self.old) (lines_left self.new)) }
+        ensures finished { self.new.lines.finished ≡ self.old.lines.finished }
+    {
+        match self.lines.next_line(&mut self.line)? {
+            LineStep::Line => {
+                let alloc = *self.line.allocator();
+                let judged = judge_line(alloc, &mut self.guard, &self.shape, &self.line);
+                let number = self.number;
+                self.number = number.saturating_add(1);
+                step_of(number, judged)
+            }
+            LineStep::TooLong => Ok(Some(refused(self.number, LineFault::LineTooLong))),
+            LineStep::NotYet if self.over_limit => {
+                Ok(Some(refused(self.number, LineFault::TooLarge)))
+            }
+            LineStep::NotYet => Ok(Some(SourceStep::NotYet)),
+            LineStep::Finished => Ok(Some(SourceStep::Closed)),
+        }
+    }
+}
+
+/// Judges a line, without its line feed and the carriage return before that, behind the accepted ones, and
+/// answers its message if it has one.
+fn judge_line(
+    alloc: Global,
+    guard: &mut Guard,
+    shape: &Shape,
+    line: &[u8],
+) -> Result<Option<Message>, GuardFault>
+    ensures { (before : List EventLine) → Guards guard.old before → Judges result guard.new before (with_reading before (reading shape.now line.now)) }
+{
+    match read_line(alloc, line, shape) {
+        Ok(Some(event)) => guard.accept(&event),
+        Ok(None) => Ok(None),
+        Err(fault) => Err(GuardFault::from(fault)),
+    }
+}
+
+/// The answer for the line of this number.
+fn step_of(
+    number: u64,
+    judged: Result<Option<Message>, GuardFault>,
+) -> Result<Option<SourceStep>, OutOfMemory>
+    ensures { Answers number judged result }
+{
+    match judged {
+        Ok(Some(message)) => Ok(Some(SourceStep::Message(message))),
+        Ok(None) => Ok(None),
+        Err(GuardFault::Line(fault)) => Ok(Some(refused(number, fault))),
+        Err(GuardFault::OutOfMemory) => Err(OutOfMemory),
+    }
+}
+
+fn refused(line: u64, fault: LineFault) -> SourceStep
+    ensures { result ≡ refused line fault }
+{
+    SourceStep::Refused(Refusal { line, fault })
+}
