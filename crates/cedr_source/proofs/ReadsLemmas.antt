@@ -1,5 +1,5 @@
 -- What each answer tells of a source.
-use Rattle.std.proofs.Common.{◌≡◌, ◌≢◌, ℕ, zero, suc, ◌+◌, ◌-◌, ◌^◌, ◌<◌, ◌≤◌, List, [], ◌∷◌, ◌++◌, Bool, true, false, cond, length, take, min, Option, None, Some, Result, Ok, Err, refl, ap, sym, ◌∙◌, subst, append_assoc, append-nil, arith}
+use Rattle.std.proofs.Common.{◌≡◌, ◌≢◌, ℕ, ◌+◌, ◌-◌, ◌^◌, ◌<◌, ◌≤◌, List, [], ◌∷◌, ◌++◌, Bool, true, false, cond, length, take, min, Option, None, Some, Result, Ok, Err, refl, ap, sym, ◌∙◌, subst, append_assoc, append-nil, arith}
 use Rattle.std.specs.Prelude.{nat_lt, IfOk, OnOk}
 use Rattle.std.proofs.lemmas.Bool.{ltb-true, ltb-false, le-ltb, false≢true}
 use Rattle.std.proofs.lemmas.Bool.Decides.{nat_tests}
@@ -22,7 +22,7 @@ use Rattle.cedr_guard.specs.declared.fault.GuardFault.TheVariants as guard_fault
 use Rattle.cedr_guard.specs.declared.refusal.Refusal.{Refusal}
 use Rattle.cedr_guard.specs.declared.refusal.TheConstants.{FILE_LIMIT}
 use Rattle.cedr_guard.specs.Messages.{message_of, messages_behind}
-use Rattle.cedr_guard.specs.Sources.{with_event, with_reading, line_reading, Judged, go_on, judged_behind, judged_lines, judged, whole_lines, ending, messages_of}
+use Rattle.cedr_guard.specs.Sources.{with_event, with_reading, line_reading, Judged, go_on, judged_behind, judged_lines, judged, whole_lines, unfinished_line, ending}
 use Rattle.cedr_guard.specs.declared.guard.Guard.{Guard}
 use Rattle.cedr_guard.specs.Judging.{fault_behind}
 use Rattle.cedr_guard.specs.Standing as guard
@@ -31,9 +31,9 @@ use Rattle.cedr_guard.proofs.MessageLemmas.{accepted_messages, messages-more}
 use Rattle.cedr_source.specs.declared.lines.SourceLines.{SourceLines}
 use Rattle.cedr_source.specs.declared.step.SourceStep.{SourceStep}
 use Rattle.cedr_source.specs.declared.step.SourceStep.TheVariants as step
-use Rattle.cedr_source.specs.Reads.{MayStillCome, AreTaken, Reads, lines_left}
-use Rattle.cedr_source.specs.Steps.{IsFrontOf, GivesFront, Waits, IsWhole, IsRefused, Tells, TellsLine, TakesOne, refused, Answers, Judges}
-use Rattle.cedr_source.proofs.TakenLemmas.{take-more, parts_are, taken_parts, goes_on, no_feed_part, AreGood, lines_behind, whole-taken, some_part, Stands, front_behind, holds_behind, line_refused, part_refused, long_reading, long_part, large_part, good_grows, messages-append, few_lines}
+use Rattle.cedr_source.specs.Reads.{MayStillCome, AreTaken, Reads}
+use Rattle.cedr_source.specs.Steps.{IsFrontOf, GivesFront, Waits, IsClosed, IsRefused, Tells, TellsLine, TakesOne, refused, Answers, JudgesLine}
+use Rattle.cedr_source.proofs.TakenLemmas.{take-more, parts_are, taken_parts, goes_on, no_feed_part, AreGood, lines_behind, whole-taken, unfinished-taken, some_part, Stands, front_behind, holds_behind, line_refused, part_refused, long_reading, long_part, large_part, good_grows, messages-append, few_lines}
 
 stands : (source : SourceLines) (shape : Shape) (bytes : List ℕ) (given : List Message) (reads : Reads source shape bytes given) → Stands source.lines shape bytes reads.taken reads.good
 stands source shape bytes given reads = record { taken_are = reads.taken_are; accepted = reads.accepted; ended = reads.ended }
@@ -95,7 +95,7 @@ next_number : (number now count : ℕ) → now ≡ min (number + 1) (2 ^ 64 - 1)
 next_number number now count is was few = omega arith
 
 accepted_line : (old new : SourceLines) (line : List ℕ) (message : Option Message) (shape : Shape) (bytes : List ℕ) (given : List Message) → Takes old new line
-    → ((before : List EventLine) → Guards old.guard before → Judges (Ok message) new.guard before (with_reading before (reading old.shape line)))
+    → ((before : List EventLine) → Guards old.guard before → JudgesLine (Ok message) new.guard before (with_reading before (reading old.shape line)))
     → Reads old shape bytes given → Reads new shape bytes (given ++ as_list message)
 accepted_line old new line message shape bytes given takes judges reads =
     let judged = judges reads.good reads.guards in
@@ -140,7 +140,7 @@ first_part_refused shape count good line [] fault some reads = absurd (some refl
 first_part_refused shape count good line (next ∷ parts) fault some reads = part_refused shape count good line next parts fault reads
 
 refused_line : (old new : SourceLines) (line : List ℕ) (fault : LineFault) (shape : Shape) (bytes : List ℕ) (given : List Message) → Takes old new line
-    → ((before : List EventLine) → Guards old.guard before → Judges (Err (guard_fault.Line fault)) new.guard before (with_reading before (reading old.shape line)))
+    → ((before : List EventLine) → Guards old.guard before → JudgesLine (Err (guard_fault.Line fault)) new.guard before (with_reading before (reading old.shape line)))
     → Reads old shape bytes given → IsRefused new shape bytes given (record { line = old.number; fault = fault })
 refused_line old new line fault shape bytes given takes judges reads =
     let count = length reads.taken in
@@ -198,9 +198,9 @@ refused_large source shape bytes given unended none short over reads =
     ∙ large_part shape count reads.good source.lines.kept short))))
 
 -- all lines that ended were taken
-waits : (source : SourceLines) (shape : Shape) (bytes : List ℕ) (given : List Message) → source.lines.finished ≡ false → has_line_feed source.lines.kept ≡ false
+waits : (source : SourceLines) (shape : Shape) (bytes : List ℕ) (given : List Message) → source.lines.finished ≡ false → has_line_feed source.lines.kept ≡ false → length source.lines.kept ≤ LINE_LIMIT
     → source.over_limit ≡ false → Reads source shape bytes given → Waits source shape bytes given
-waits source shape bytes given unended none within reads =
+waits source shape bytes given unended none few within reads =
     let short = ltb-false FILE_LIMIT (length bytes) (sym reads.over ∙ within) in
     let front : take FILE_LIMIT bytes ++ [] ≡ bytes = append-nil (take FILE_LIMIT bytes) ∙ take_all FILE_LIMIT bytes short in
     let parts : parts_of line_feed bytes ≡ reads.taken ++ source.lines.kept ∷ [] =
@@ -211,13 +211,14 @@ waits source shape bytes given unended none within reads =
     record {
       goes_on = unended;
       within = short;
+      short = subst (λ line. length line ≤ LINE_LIMIT) (sym (ap unfinished_line parts ∙ unfinished-taken reads.taken (source.lines.kept ∷ []) some)) few;
       faultless = ap (λ (file : Judged). file.fault) judged;
       all = reads.messages ∙ ap (λ (file : Judged). messages_behind [] file.good) (sym judged);
     }
 
 -- no byte is left at the end
-is_whole : (source : SourceLines) (shape : Shape) (bytes : List ℕ) (given : List Message) → source.lines.finished ≡ true → source.lines.kept ≡ [] → Reads source shape bytes given → IsWhole source shape bytes given
-is_whole source shape bytes given ended nothing reads =
+is_closed : (source : SourceLines) (shape : Shape) (bytes : List ℕ) (given : List Message) → source.lines.finished ≡ true → source.lines.kept ≡ [] → Reads source shape bytes given → IsClosed source shape bytes given
+is_closed source shape bytes given ended nothing reads =
     let count = length reads.taken in
     let file : judged shape (bytes ++ []) ≡ record { good = reads.good; fault = None } =
     holds_behind (λ file. file ≡ record { good = reads.good; fault = None }) source.lines shape bytes [] reads.taken reads.good (stands source shape bytes given reads) (λ end. refl)
@@ -236,7 +237,7 @@ line_message : (old new : SourceLines) (line : List ℕ) (m : Message) (shape : 
 line_message old new line m shape bytes given reads = (reads, (gives_front new shape bytes (given ++ m ∷ []) reads).legal)
 
 pub line_told : (old new : SourceLines) (line : List ℕ) (judged : Result (Option Message) GuardFault) (answer : Result (Option SourceStep) OutOfMemory) → Takes old new line
-    → ((before : List EventLine) → Guards old.guard before → Judges judged new.guard before (with_reading before (reading old.shape line))) → Answers old.number judged answer
+    → ((before : List EventLine) → Guards old.guard before → JudgesLine judged new.guard before (with_reading before (reading old.shape line))) → Answers old.number judged answer
     → IfOk answer (λ told. (shape : Shape) (bytes : List ℕ) (given : List Message) → Reads old shape bytes given → TellsLine told new shape bytes given)
 line_told old new line (Ok None) answer takes judges is =
     subst (λ a. IfOk a (λ told. (shape : Shape) (bytes : List ℕ) (given : List Message) → Reads old shape bytes given → TellsLine told new shape bytes given)) (sym is)
@@ -331,7 +332,7 @@ pub event_judged : (result : Result (Option Message) GuardFault) (old new : Guar
     → ((before : List EventLine) → Guards old before → guard.Judges result (fault_behind before event))
     → IfOk result (λ message. (before : List EventLine) → Guards old before → as_list message ≡ message_of before event)
     → OnOk result ((before : List EventLine) → Guards old before → Guards new (before ++ event ∷ []))
-    → (before : List EventLine) → Guards old before → Judges result new before (with_event before event (fault_behind before event))
+    → (before : List EventLine) → Guards old before → JudgesLine result new before (with_event before event (fault_behind before event))
 event_judged (Ok message) old new event judged says stands before guards =
     (before ++ event ∷ [], ap (with_event before event) (judged before guards), stands before guards, messages-more before event ∙ ap (λ ms. messages_behind [] before ++ ms) (sym (says before guards)))
 event_judged (Err (guard_fault.Line fault)) old new event judged says stands before guards = ap (with_event before event) (judged before guards)
@@ -382,11 +383,11 @@ pub waiting_told : (old new : SourceLines) → Stays old new → GivesNone lines
 waiting_told old new stays none over shape bytes given reads =
     let still = subst (GivesNone lines.NotYet) (sym stays.lines) none in
     let reads_on = still_reads old new shape bytes given stays reads in
-    (reads_on, waits new shape bytes given still.0 still.1 (stays.over ∙ over) reads_on)
+    (reads_on, waits new shape bytes given still.0 still.1 still.2 (stays.over ∙ over) reads_on)
 
 pub closed_told : (old new : SourceLines) → Stays old new → GivesNone lines.Finished old.lines
     → (shape : Shape) (bytes : List ℕ) (given : List Message) → Reads old shape bytes given → Tells step.Closed new shape bytes given
 closed_told old new stays none shape bytes given reads =
     let still = subst (GivesNone lines.Finished) (sym stays.lines) none in
     let reads_on = still_reads old new shape bytes given stays reads in
-    (reads_on, is_whole new shape bytes given still.0 still.1 reads_on)
+    (reads_on, is_closed new shape bytes given still.0 still.1 reads_on)

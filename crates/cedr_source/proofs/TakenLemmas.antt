@@ -1,9 +1,9 @@
 -- The lines that were taken of a source, and how all of its lines are judged behind them.
-use Rattle.std.proofs.Common.{◌≡◌, ◌≢◌, ℕ, zero, suc, ◌+◌, ◌-◌, ◌<◌, ◌≤◌, ◌==◌, List, [], ◌∷◌, ◌++◌, Bool, true, false, cond, length, take, drop, Option, None, Some, Result, Ok, Err, refl, ap, sym, ◌∙◌, subst, append_assoc, append-nil, arith}
+use Rattle.std.proofs.Common.{◌≡◌, ◌≢◌, ℕ, zero, suc, ◌+◌, ◌-◌, ◌<◌, ◌≤◌, ◌==◌, List, [], ◌∷◌, ◌++◌, Bool, true, false, cond, length, take, Option, None, Some, Result, Ok, Err, refl, ap, sym, ◌∙◌, subst, append_assoc, append-nil, arith}
 use Rattle.std.specs.Prelude.{nat_lt}
-use Rattle.std.specs.List.{slice_split, onto_first, list_any}
+use Rattle.std.specs.List.{onto_first}
 use Rattle.std.proofs.lemmas.Bool.{ltb-true, ltb-false, lt-ltb, le-ltb, false≢true, or_parts}
-use Rattle.std.proofs.lemmas.List.{length-append, take-append-le, take_all}
+use Rattle.std.proofs.lemmas.List.{length-append, take_all}
 use Rattle.std.proofs.lemmas.List.Splits.{length-slice_split}
 use Rattle.std.proofs.lemmas.List.Sums.{count_by-le-length}
 use Rattle.cedr_text.specs.Parts.{line_feed, parts_of}
@@ -119,7 +119,7 @@ whole-taken (line ∷ []) [] some = absurd (some refl)
 whole-taken (line ∷ []) (part ∷ parts) some = refl
 whole-taken (line ∷ next ∷ taken) parts some = ap (λ rest. line ∷ rest) (whole-taken (next ∷ taken) parts some)
 
-unfinished-taken : (taken parts : List (List ℕ)) → parts ≢ [] → unfinished_line (taken ++ parts) ≡ unfinished_line parts
+pub unfinished-taken : (taken parts : List (List ℕ)) → parts ≢ [] → unfinished_line (taken ++ parts) ≡ unfinished_line parts
 unfinished-taken [] parts some = refl
 unfinished-taken (line ∷ []) [] some = absurd (some refl)
 unfinished-taken (line ∷ []) (part ∷ parts) some = refl

@@ -1,21 +1,20 @@
 -- A whole source: its blocks, and its end.
-use Rattle.std.proofs.Common.{◌≡◌, ◌≢◌, ℕ, ◌+◌, ◌-◌, ◌<◌, ◌≤◌, List, [], ◌∷◌, ◌++◌, Bool, true, false, length, take, Option, None, Some, Result, Ok, Err, Vec, refl, ap, sym, ◌∙◌, subst, append-nil, inl, inr, ◌⊎◌, arith}
+use Rattle.std.proofs.Common.{◌≡◌, ℕ, ◌<◌, ◌≤◌, List, [], ◌++◌, true, false, length, Option, None, Some, Result, Ok, Err, Vec, refl, ap, sym, ◌∙◌, subst, append-nil, inl, inr, ◌⊎◌, arith}
 use Rattle.std.specs.Prelude.{IfSome, unwrap_or}
 use Rattle.std.specs.Global.{Global}
-use Rattle.std.specs.Io.KnownBytes.{Consumes, IsAtEnd}
+use Rattle.std.specs.Io.KnownBytes.{IsAtEnd}
 use Rattle.std.proofs.lemmas.Bool.{false≢true}
 use Rattle.std.proofs.lemmas.List.{length-append}
 use Rattle.cedr_base.specs.declared.change.Message.{Message}
-use Rattle.cedr_base.specs.declared.change.Message.TheVariants as message
 use Rattle.cedr_text.specs.declared.event_line.Shape.{Shape}
 use Rattle.cedr_guard.specs.declared.refusal.TheConstants.{FILE_LIMIT}
-use Rattle.cedr_guard.specs.Sources.{judged, messages_of}
+use Rattle.cedr_guard.specs.Sources.{judged}
 use Rattle.cedr_source.specs.declared.fault.SourceFault.{SourceFault}
 use Rattle.cedr_source.specs.declared.fault.SourceFault.TheVariants as source_fault
 use Rattle.cedr_source.specs.declared.lines.SourceLines.{SourceLines}
 use Rattle.cedr_source.specs.declared.read.Reading.{Reading}
 use Rattle.cedr_source.specs.Reads.{Reads}
-use Rattle.cedr_source.specs.Steps.{Waits, IsWhole, IsRefused}
+use Rattle.cedr_source.specs.Steps.{Waits, IsClosed}
 use Rattle.cedr_source.specs.Whole.{CountsSource, AnswersAll, IsReadWhole, Answered, TookAll, HasRead, ReadBlocks, Closes}
 
 -- ---- a block was taken
@@ -23,7 +22,7 @@ use Rattle.cedr_source.specs.Whole.{CountsSource, AnswersAll, IsReadWhole, Answe
 -- a source that didn't end has no more bytes than it may have
 pub not_closed : (reading : Reading) (shape : Shape) (bytes : List ℕ) → reading.lines.lines.finished ≡ false → TookAll (Ok tt) reading shape bytes → length bytes ≤ FILE_LIMIT
 not_closed reading shape bytes unended took = either_within took.1 where
-  either_within : Waits reading.lines shape bytes reading.messages.items ⊎ IsWhole reading.lines shape bytes reading.messages.items → length bytes ≤ FILE_LIMIT
+  either_within : Waits reading.lines shape bytes reading.messages.items ⊎ IsClosed reading.lines shape bytes reading.messages.items → length bytes ≤ FILE_LIMIT
   either_within (inl waits) = waits.within
   either_within (inr whole) = absurd (false≢true (sym unended ∙ whole.ended))
 
@@ -47,9 +46,9 @@ none_failed T source_fault.OutOfMemory reading shape bytes old new took same = s
 -- ---- the end
 
 -- where no more bytes come, more of them aren't needed
-pub all_taken : (reading : Reading) (shape : Shape) (bytes : List ℕ) → reading.lines.lines.finished ≡ true → TookAll (Ok tt) reading shape bytes → IsWhole reading.lines shape bytes reading.messages.items
+pub all_taken : (reading : Reading) (shape : Shape) (bytes : List ℕ) → reading.lines.lines.finished ≡ true → TookAll (Ok tt) reading shape bytes → IsClosed reading.lines shape bytes reading.messages.items
 all_taken reading shape bytes ended took = either_whole took.1 where
-  either_whole : Waits reading.lines shape bytes reading.messages.items ⊎ IsWhole reading.lines shape bytes reading.messages.items → IsWhole reading.lines shape bytes reading.messages.items
+  either_whole : Waits reading.lines shape bytes reading.messages.items ⊎ IsClosed reading.lines shape bytes reading.messages.items → IsClosed reading.lines shape bytes reading.messages.items
   either_whole (inl waits) = absurd (false≢true (sym waits.goes_on ∙ ended))
   either_whole (inr whole) = whole
 

@@ -1,5 +1,5 @@
 -- What was read of a source so far, and what was given for it.
-use Rattle.std.specs.Prelude.{ℕ, ◌≡◌, ◌≤◌, ◌+◌, ◌-◌, true, List, [], ◌++◌, length, take, nat_lt, None}
+use Rattle.std.specs.Prelude.{ℕ, ◌≡◌, ◌≤◌, ◌+◌, ◌-◌, Bool, true, List, [], ◌++◌, length, take, nat_lt, None}
 use Rattle.cedr_base.specs.declared.change.Message.{Message}
 use Rattle.cedr_text.specs.declared.event_line.EventLine.{EventLine}
 use Rattle.cedr_text.specs.declared.event_line.Shape.{Shape}
@@ -18,6 +18,10 @@ MayStillCome fed more = fed.finished ≡ true → more ≡ []
 abbrev pub AreTaken : Fed → List ℕ → List (List ℕ) → Type 0
 AreTaken fed bytes taken = (more : List ℕ) → MayStillCome fed more → raw_lines (bytes ++ more) ≡ taken ++ raw_lines (fed.kept ++ more)
 
+-- it is known that no more bytes come
+abbrev pub is_ended : SourceLines → Bool
+is_ended source = source.lines.finished
+
 -- these bytes of a source were fed, and these messages given
 pub record Reads (source : SourceLines) (shape : Shape) (bytes : List ℕ) (given : List Message) : Type 0 where
   pub same_shape : source.shape ≡ shape
@@ -33,7 +37,7 @@ pub record Reads (source : SourceLines) (shape : Shape) (bytes : List ℕ) (give
   -- how many bytes are missing to the limit, and whether more came
   pub room : source.room ≡ FILE_LIMIT - length bytes
   pub over : source.over_limit ≡ nat_lt FILE_LIMIT (length bytes)
-  pub ended : source.lines.finished ≡ true → length bytes ≤ FILE_LIMIT
+  pub ended : is_ended source ≡ true → length bytes ≤ FILE_LIMIT
 
 -- how many lines the bytes that were fed and not taken are, if no more come
 abbrev pub lines_left : SourceLines → ℕ

@@ -7,6 +7,7 @@ use Rattle.cedr_base.specs.Messages.{IsLegal}
 use Rattle.cedr_text.specs.declared.event_line.EventLine.{EventLine}
 use Rattle.cedr_text.specs.declared.event_line.Shape.{Shape}
 use Rattle.cedr_text.specs.declared.fault.LineFault.{LineFault}
+use Rattle.cedr_text.specs.declared.lines.TheConstants.{LINE_LIMIT}
 use Rattle.cedr_text.specs.Parts.{line_feed, parts_of}
 use Rattle.cedr_guard.specs.declared.fault.GuardFault.{GuardFault}
 use Rattle.cedr_guard.specs.declared.fault.GuardFault.TheVariants as guard_fault
@@ -14,12 +15,12 @@ use Rattle.cedr_guard.specs.declared.guard.Guard.{Guard}
 use Rattle.cedr_guard.specs.declared.refusal.Refusal.{Refusal}
 use Rattle.cedr_guard.specs.declared.refusal.TheConstants.{FILE_LIMIT}
 use Rattle.cedr_guard.specs.Messages.{messages_behind}
-use Rattle.cedr_guard.specs.Sources.{judged, judged_lines, messages_of, whole_lines}
+use Rattle.cedr_guard.specs.Sources.{judged, judged_lines, messages_of, whole_lines, unfinished_line}
 use Rattle.cedr_guard.specs.Standing.{Guards, as_list}
 use Rattle.cedr_source.specs.declared.lines.SourceLines.{SourceLines}
 use Rattle.cedr_source.specs.declared.step.SourceStep.{SourceStep}
 use Rattle.cedr_source.specs.declared.step.SourceStep.TheVariants as step
-use Rattle.cedr_source.specs.Reads.{MayStillCome, Reads}
+use Rattle.cedr_source.specs.Reads.{MayStillCome, is_ended, Reads}
 
 -- these are a front of some messages
 pub record IsFrontOf (front all : List Message) : Type 0 where
@@ -31,16 +32,17 @@ pub record GivesFront (source : SourceLines) (shape : Shape) (bytes : List ℕ) 
   pub front : (more : List ℕ) → MayStillCome source.lines more → IsFrontOf given (messages_behind [] (judged shape (bytes ++ more)).good)
   pub legal : IsLegal given
 
--- all lines that ended were taken, none has a fault, and more bytes may come
+-- all lines that ended were taken, and none has a fault. More bytes may come: the line that they finish isn't too long yet
 pub record Waits (source : SourceLines) (shape : Shape) (bytes : List ℕ) (given : List Message) : Type 0 where
-  pub goes_on : source.lines.finished ≡ false
+  pub goes_on : is_ended source ≡ false
   pub within : length bytes ≤ FILE_LIMIT
+  pub short : length (unfinished_line (parts_of line_feed bytes)) ≤ LINE_LIMIT
   pub faultless : (judged_lines shape (whole_lines (parts_of line_feed bytes))).fault ≡ None
   pub all : given ≡ messages_behind [] (judged_lines shape (whole_lines (parts_of line_feed bytes))).good
 
 -- the source has no fault, and with the end all its messages were given
-pub record IsWhole (source : SourceLines) (shape : Shape) (bytes : List ℕ) (given : List Message) : Type 0 where
-  pub ended : source.lines.finished ≡ true
+pub record IsClosed (source : SourceLines) (shape : Shape) (bytes : List ℕ) (given : List Message) : Type 0 where
+  pub ended : is_ended source ≡ true
   pub faultless : (judged shape bytes).fault ≡ None
   pub all : given ++ message.End ∷ [] ≡ messages_of shape bytes
 
@@ -53,7 +55,7 @@ pub record IsRefused (source : SourceLines) (shape : Shape) (bytes : List ℕ) (
 abbrev pub Tells : SourceStep → SourceLines → Shape → List ℕ → List Message → Type 0
 Tells (step.Message m) source shape bytes given = Reads source shape bytes (given ++ m ∷ []) × IsLegal (given ++ m ∷ [])
 Tells step.NotYet source shape bytes given = Reads source shape bytes given × Waits source shape bytes given
-Tells step.Closed source shape bytes given = Reads source shape bytes given × IsWhole source shape bytes given
+Tells step.Closed source shape bytes given = Reads source shape bytes given × IsClosed source shape bytes given
 Tells (step.Refused refusal) source shape bytes given = IsRefused source shape bytes given refusal
 
 -- a message takes a line at least
@@ -85,7 +87,7 @@ Answers number (Err (guard_fault.Line fault)) answer = answer ≡ Ok (Some (refu
 Answers number (Err guard_fault.OutOfMemory) answer = IsErr answer
 
 -- a line behind accepted ones: with it they are accepted, and this is its message, or it has this fault
-abbrev pub Judges : Result (Option Message) GuardFault → Guard → List EventLine → Result (List EventLine) LineFault → Type 0
-Judges (Ok message) guard before now = (lines : List EventLine) × (now ≡ Ok lines) × Guards guard lines × (messages_behind [] lines ≡ messages_behind [] before ++ as_list message)
-Judges (Err (guard_fault.Line fault)) guard before now = now ≡ Err fault
-Judges (Err guard_fault.OutOfMemory) guard before now = Unit {0}
+abbrev pub JudgesLine : Result (Option Message) GuardFault → Guard → List EventLine → Result (List EventLine) LineFault → Type 0
+JudgesLine (Ok message) guard before now = (lines : List EventLine) × (now ≡ Ok lines) × Guards guard lines × (messages_behind [] lines ≡ messages_behind [] before ++ as_list message)
+JudgesLine (Err (guard_fault.Line fault)) guard before now = now ≡ Err fault
+JudgesLine (Err guard_fault.OutOfMemory) guard before now = Unit {0}

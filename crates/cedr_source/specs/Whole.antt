@@ -5,14 +5,13 @@ use Rattle.std.specs.Io.KnownBytes.{Consumes, IsAtEnd}
 use Rattle.cedr_base.specs.declared.change.Message.{Message}
 use Rattle.cedr_io.specs.Counts.{Rose}
 use Rattle.cedr_text.specs.declared.event_line.Shape.{Shape}
-use Rattle.cedr_guard.specs.declared.refusal.Refusal.{Refusal}
 use Rattle.cedr_guard.specs.declared.refusal.TheConstants.{FILE_LIMIT}
 use Rattle.cedr_guard.specs.Sources.{judged, messages_of}
 use Rattle.cedr_source.specs.declared.fault.SourceFault.{SourceFault}
 use Rattle.cedr_source.specs.declared.fault.SourceFault.TheVariants as source_fault
 use Rattle.cedr_source.specs.declared.read.Reading.{Reading}
 use Rattle.cedr_source.specs.Reads.{Reads}
-use Rattle.cedr_source.specs.Steps.{Waits, IsWhole, IsRefused}
+use Rattle.cedr_source.specs.Steps.{Waits, IsClosed, IsRefused}
 
 -- the count rose where a read failed, and is as before at every other answer
 abbrev pub CountsSource : {T : Type 0} → Result T SourceFault → ℕ → ℕ → Type 0
@@ -46,7 +45,7 @@ pub record Answered (answer : Result (Vec Message Global) SourceFault) (shape : 
 
 -- all messages that there are were taken: more bytes are needed, or the source is closed, or it is refused
 abbrev pub TookAll : Result (Unit {0}) SourceFault → Reading → Shape → List ℕ → Type 0
-TookAll (Ok done) reading shape bytes = Reads reading.lines shape bytes reading.messages.items × (Waits reading.lines shape bytes reading.messages.items ⊎ IsWhole reading.lines shape bytes reading.messages.items)
+TookAll (Ok done) reading shape bytes = Reads reading.lines shape bytes reading.messages.items × (Waits reading.lines shape bytes reading.messages.items ⊎ IsClosed reading.lines shape bytes reading.messages.items)
 TookAll (Err (source_fault.Refused refusal)) reading shape bytes = IsRefused reading.lines shape bytes reading.messages.items refusal
 TookAll (Err source_fault.Failed) reading shape bytes = ⊥
 TookAll (Err source_fault.OutOfMemory) reading shape bytes = Unit {0}

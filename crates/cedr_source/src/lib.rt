@@ -17,3 +17,8 @@ pub use law::read_laws;
 pub use lines::SourceLines;
 pub use read::read_messages;
 pub use step::SourceStep;
+
+#[cfg(test)]
+mod limit_tests;
+#[cfg(test)]
+mod tests;

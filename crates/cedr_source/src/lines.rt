@@ -6,8 +6,8 @@ ghost use Rattle.cedr_text.specs.Reading.{reading};
 ghost use Rattle.cedr_guard.specs.declared.refusal.TheConstants.{FILE_LIMIT};
 ghost use Rattle.cedr_guard.specs.Sources.{with_reading};
 ghost use Rattle.cedr_guard.specs.Standing.{Guards};
-ghost use Rattle.cedr_source.specs.Reads.{Reads, lines_left};
-ghost use Rattle.cedr_source.specs.Steps.{Tells, TellsLine, TakesLine, TakesOne, Judges, Answers, refused};
+ghost use Rattle.cedr_source.specs.Reads.{Reads, is_ended, lines_left};
+ghost use Rattle.cedr_source.specs.Steps.{Tells, TellsLine, TakesLine, TakesOne, JudgesLine, Answers, refused};
 
 use crate::step::SourceStep;
 use cedr_base::{Message, OutOfMemory};
@@ -40,7 +40,7 @@ impl SourceLines {
     /// Nothing was fed or given. It takes no memory.
     pub fn new(alloc: Global, shape: Shape) -> SourceLines
         ensures reads { Reads result shape [] [] }
-        ensures goes_on { result.lines.finished ≡ false }
+        ensures goes_on { is_ended result ≡ false }
     {
         SourceLines {
             lines: Lines::new(alloc),
@@ -55,10 +55,10 @@ impl SourceLines {
 
     /// Takes the next bytes of the source. O(n) in them. An error leaves all as it was.
     pub fn feed(&mut self, piece: &[u8]) -> Result<(), OutOfMemory>
-        requires { self.old.lines.finished ≡ false }
+        requires { is_ended self.old ≡ false }
         ensures reads { OnOk result ((shape : Shape) (bytes : List ℕ) (given : List Message) → Reads self.old shape bytes given → Reads self.new shape (bytes ++ piece.now) given) }
         ensures err { OnErr result (self.new ≡ self.old) }
-        ensures goes_on { self.new.lines.finished ≡ false }
+        ensures goes_on { is_ended self.new ≡ false }
     {
         let count = piece.len().min(self.room);
         self.lines.feed(&piece[..count])?;
@@ -72,7 +72,7 @@ impl SourceLines {
     /// Says that no more bytes come. It takes no memory.
     pub fn finish(&mut self)
         ensures reads { (shape : Shape) (bytes : List ℕ) (given : List Message) → Reads self.old shape bytes given → Reads self.new shape bytes given }
-        ensures finished { (shape : Shape) (bytes : List ℕ) (given : List Message) → Reads self.old shape bytes given → length bytes ≤ FILE_LIMIT → self.new.lines.finished ≡ true }
+        ensures finished { (shape : Shape) (bytes : List ℕ) (given : List Message) → Reads self.old shape bytes given → length bytes ≤ FILE_LIMIT → is_ended self.new ≡ true }
     {
         if !self.over_limit {
             self.lines.finish();
@@ -87,7 +87,7 @@ impl SourceLines {
     pub fn next(&mut self) -> Result<SourceStep, OutOfMemory>
         ensures told { IfOk result (λ told. (shape : Shape) (bytes : List ℕ) (given : List Message) → Reads self.old shape bytes given → Tells told self.new shape bytes given) }
         ensures falls { IfOk result (λ told. TakesLine told (lines_left self.old) (lines_left self.new)) }
-        ensures finished { self.new.lines.finished ≡ self.old.lines.finished }
+        ensures finished { is_ended self.new ≡ is_ended self.old }
     {
         loop {
             if let Some(step) = self.take_line()? {
@@ -100,13 +100,14 @@ impl SourceLines {
     fn take_line(&mut self) -> Result<Option<SourceStep>, OutOfMemory>
         ensures told { IfOk result (λ told. (shape : Shape) (bytes : List ℕ) (given : List Message) → Reads self.old shape bytes given → TellsLine told self.new shape bytes given) }
         ensures falls { IfOk result (λ told. TakesOne told (lines_left self.old) (lines_left self.new)) }
-        ensures finished { self.new.lines.finished ≡ self.old.lines.finished }
+        ensures finished { is_ended self.new ≡ is_ended self.old }
     {
         match self.lines.next_line(&mut self.line)? {
             LineStep::Line => {
                 let alloc = *self.line.allocator();
                 let judged = judge_line(alloc, &mut self.guard, &self.shape, &self.line);
                 let number = self.number;
+                // No source has so many lines that it stays at its last value.
                 self.number = number.saturating_add(1);
                 step_of(number, judged)
             }
@@ -128,7 +129,7 @@ fn judge_line(
     shape: &Shape,
     line: &[u8],
 ) -> Result<Option<Message>, GuardFault>
-    ensures { (before : List EventLine) → Guards guard.old before → Judges result guard.new before (with_reading before (reading shape.now line.now)) }
+    ensures { (before : List EventLine) → Guards guard.old before → JudgesLine result guard.new before (with_reading before (reading shape.now line.now)) }
 {
     match read_line(alloc, line, shape) {
         Ok(Some(event)) => guard.accept(&event),

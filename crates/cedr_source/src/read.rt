@@ -1,7 +1,7 @@
 ghost use Rattle.std.specs.Prelude.{◌≡◌, ◌≤◌, ◌++◌, [], ℕ, List, false, length, IfSome};
 ghost use Rattle.cedr_text.specs.declared.event_line.Shape.{Shape};
 ghost use Rattle.cedr_guard.specs.declared.refusal.TheConstants.{FILE_LIMIT};
-ghost use Rattle.cedr_source.specs.Reads.{Reads};
+ghost use Rattle.cedr_source.specs.Reads.{Reads, is_ended};
 ghost use Rattle.cedr_source.specs.Whole.{TookAll, CountsSource, AnswersAll, Answered, ReadBlocks, Closes};
 
 use crate::fault::SourceFault;
@@ -58,7 +58,7 @@ struct Reading {
 impl Reading {
     fn new(alloc: Global, shape: Shape) -> Reading
         ensures reads { Reads result.lines shape [] result.messages.items }
-        ensures goes_on { result.lines.lines.finished ≡ false }
+        ensures goes_on { is_ended result.lines ≡ false }
     {
         Reading {
             lines: SourceLines::new(alloc, shape),
@@ -68,9 +68,9 @@ impl Reading {
 
     /// Takes the messages of a block.
     fn take_block(&mut self, block: &[u8]) -> Result<(), SourceFault>
-        requires { self.old.lines.lines.finished ≡ false }
+        requires { is_ended self.old.lines ≡ false }
         ensures took { (shape : Shape) (bytes : List ℕ) → Reads self.old.lines shape bytes self.old.messages.items → TookAll result self.new shape (bytes ++ block.now) }
-        ensures goes_on { self.new.lines.lines.finished ≡ false }
+        ensures goes_on { is_ended self.new.lines ≡ false }
     {
         self.lines.feed(block)?;
         self.take_all()
@@ -79,7 +79,7 @@ impl Reading {
     /// Takes all messages that there are.
     fn take_all(&mut self) -> Result<(), SourceFault>
         ensures took { (shape : Shape) (bytes : List ℕ) → Reads self.old.lines shape bytes self.old.messages.items → TookAll result self.new shape bytes }
-        ensures finished { self.new.lines.lines.finished ≡ self.old.lines.lines.finished }
+        ensures finished { is_ended self.new.lines ≡ is_ended self.old.lines }
     {
         loop {
             match self.lines.next()? {

@@ -1,4 +1,4 @@
-use Rattle.std.proofs.Common.{arith, ap, refl, sym, ◌∙◌, ◌≡◌, ◌<◌, ◌≤◌, ◌++◌, take, cond, length, true, false}
+use Rattle.std.proofs.Common.{arith, ap, refl, sym, ◌∙◌, ◌<◌, ◌≤◌, ◌++◌, take, cond, length, true, false}
 use Rattle.std.proofs.lemmas.Bool.{lt-ltb, le-ltb}
 use Rattle.cedr_text.specs.Lines.{Fed}
 use Rattle.cedr_source.proofs.ReadsLemmas.{more_read}

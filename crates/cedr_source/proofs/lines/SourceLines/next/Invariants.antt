@@ -1,4 +1,4 @@
-use Rattle.std.proofs.Common.{◌≡◌, ◌≤◌, ◌++◌, List, ℕ}
+use Rattle.std.proofs.Common.{◌≡◌, ◌≤◌, List, ℕ}
 use Rattle.cedr_base.specs.declared.change.Message.{Message}
 use Rattle.cedr_text.specs.declared.event_line.Shape.{Shape}
 use Rattle.cedr_source.specs.Reads.{Reads, lines_left}

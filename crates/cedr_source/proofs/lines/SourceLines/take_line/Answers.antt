@@ -2,7 +2,7 @@ use Rattle.std.proofs.Common.{refl, subst}
 use Rattle.cedr_text.specs.Lines.{Steps}
 use Rattle.cedr_text.specs.Reading.{reading}
 use Rattle.cedr_guard.specs.Sources.{with_reading}
-use Rattle.cedr_source.specs.Steps.{Judges}
+use Rattle.cedr_source.specs.Steps.{JudgesLine}
 use Rattle.cedr_source.proofs.ReadsLemmas.{line_told, line_falls, one_less, long_told, large_told, waiting_told, closed_told}
 use Rattle.cedr_source.proofs.lines.SourceLines.take_line.Goals as goal
 
@@ -18,7 +18,7 @@ returns-in-Line-clause-told c =
       over = refl;
     })
     (λ before guards.
-    subst (λ line. Judges c.judge_line-judged.result c.judge_line-judged.new.guard before (with_reading before (reading c.args.self.now.shape line))) c.deref.ensures.value
+    subst (λ line. JudgesLine c.judge_line-judged.result c.judge_line-judged.new.guard before (with_reading before (reading c.args.self.now.shape line))) c.deref.ensures.value
     (c.judge_line-judged.ensures before guards))
     c.step_of.ensures
 

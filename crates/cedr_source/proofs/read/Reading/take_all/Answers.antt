@@ -5,12 +5,12 @@ use Rattle.cedr_source.specs.declared.lines.SourceLines.{SourceLines}
 use Rattle.cedr_source.specs.declared.step.SourceStep.{SourceStep}
 use Rattle.cedr_source.specs.declared.step.SourceStep.TheVariants as step
 use Rattle.cedr_source.specs.Reads.{Reads}
-use Rattle.cedr_source.specs.Steps.{Waits, IsWhole, Tells}
+use Rattle.cedr_source.specs.Steps.{Waits, IsClosed, Tells}
 use Rattle.cedr_source.proofs.read.Reading.take_all.Goals as goal
 
 -- no message is left
 no_message : (told : SourceStep) (source : SourceLines) (shape : Shape) (bytes : List ℕ) (given : List Message) → (told ≡ step.NotYet) ⊎ (told ≡ step.Closed) → Tells told source shape bytes given
-    → Reads source shape bytes given × (Waits source shape bytes given ⊎ IsWhole source shape bytes given)
+    → Reads source shape bytes given × (Waits source shape bytes given ⊎ IsClosed source shape bytes given)
 no_message told source shape bytes given (inl waits) tells = let told_so = subst (λ t. Tells t source shape bytes given) waits tells in (told_so.0, inl told_so.1)
 no_message told source shape bytes given (inr closed) tells = let told_so = subst (λ t. Tells t source shape bytes given) closed tells in (told_so.0, inr told_so.1)
 
