@@ -35,11 +35,13 @@ use Rattle.cedr_source.specs.Reads.{MayStillCome, AreTaken, Reads}
 use Rattle.cedr_source.specs.Steps.{IsFrontOf, GivesFront, Waits, IsClosed, IsRefused, Tells, TellsLine, TakesOne, refused, Answers, JudgesLine}
 use Rattle.cedr_source.proofs.TakenLemmas.{take-more, parts_are, taken_parts, goes_on, no_feed_part, AreGood, lines_behind, whole-taken, unfinished-taken, some_part, Stands, front_behind, holds_behind, line_refused, part_refused, long_reading, long_part, large_part, good_grows, messages-append, few_lines}
 
+-- what was read stands for the lines that were taken
 stands : (source : SourceLines) (shape : Shape) (bytes : List ℕ) (given : List Message) (reads : Reads source shape bytes given) → Stands source.lines shape bytes reads.taken reads.good
 stands source shape bytes given reads = record { taken_are = reads.taken_are; accepted = reads.accepted; ended = reads.ended }
 
 -- ---- what was given is a front
 
+-- the messages of accepted lines are a front of those of the good lines
 front_given : (shape : Shape) (count : ℕ) (good : List EventLine) (given : List Message) (lines : List (List ℕ)) → given ≡ messages_behind [] good → IsFrontOf given (messages_behind [] (judged_behind shape count good lines).good)
 front_given shape count good given lines is =
     let more = good_grows shape count good lines in
@@ -48,6 +50,7 @@ front_given shape count good given lines is =
       begins = ap (λ ms. ms ++ messages_behind good more.0) is ∙ (sym (messages-append [] good more.0) ∙ ap (messages_behind []) (sym more.1));
     }
 
+-- the law of what was given
 pub gives_front : (source : SourceLines) (shape : Shape) (bytes : List ℕ) (given : List Message) → Reads source shape bytes given → GivesFront source shape bytes given
 gives_front source shape bytes given reads =
     let count = length reads.taken in
@@ -69,6 +72,7 @@ pub record Takes (old new : SourceLines) (line : List ℕ) : Type 0 where
   pub room : new.room ≡ old.room
   pub over : new.over_limit ≡ old.over_limit
 
+-- with the next line that was taken
 one_more : (old new : Fed) (bytes raw : List ℕ) (taken : List (List ℕ)) → AreTaken old bytes taken → NextIs old raw (λ more. raw_lines (new.kept ++ more)) → new.finished ≡ old.finished
     → AreTaken new bytes (taken ++ raw ∷ [])
 one_more old new bytes raw taken are next same =
@@ -76,6 +80,7 @@ one_more old new bytes raw taken are next same =
     let may_old = λ (ended : old.finished ≡ true). may (same ∙ ended) in
     are more may_old ∙ (ap (λ lines. taken ++ lines) (next more may_old) ∙ sym (append_assoc taken (raw ∷ []) (raw_lines (new.kept ++ more))))
 
+-- where that is accepted
 accepted_more : (shape : Shape) (taken : List (List ℕ)) (raw : List ℕ) (good now : List EventLine) → AreGood shape taken good → with_reading good (line_reading shape raw) ≡ Ok now → AreGood shape (taken ++ raw ∷ []) now
 accepted_more shape taken raw good now all reads =
     lines_behind shape taken (raw ∷ []) good all
@@ -91,9 +96,11 @@ taken_few : (fed : Fed) (bytes : List ℕ) (taken : List (List ℕ)) → AreTake
 taken_few fed bytes taken are =
     omega (arith, few_lines (take FILE_LIMIT bytes ++ []), ap length (are [] (λ ended. refl)), length-append taken (raw_lines (fed.kept ++ [])), length-append {A = ℕ} (take FILE_LIMIT bytes) [], length-take FILE_LIMIT bytes)
 
+-- the number of the next line doesn't reach its last value
 next_number : (number now count : ℕ) → now ≡ min (number + 1) (2 ^ 64 - 1) → number ≡ count + 1 → count ≤ FILE_LIMIT + 1 → now ≡ count + 1 + 1
 next_number number now count is was few = omega arith
 
+-- an accepted line was taken, and its message given if it has one
 accepted_line : (old new : SourceLines) (line : List ℕ) (message : Option Message) (shape : Shape) (bytes : List ℕ) (given : List Message) → Takes old new line
     → ((before : List EventLine) → Guards old.guard before → JudgesLine (Ok message) new.guard before (with_reading before (reading old.shape line)))
     → Reads old shape bytes given → Reads new shape bytes (given ++ as_list message)
@@ -118,6 +125,7 @@ accepted_line old new line message shape bytes given takes judges reads =
 
 -- ---- a source is refused
 
+-- how all bytes are judged says of what they are refused
 is_refused : (source : SourceLines) (shape : Shape) (bytes : List ℕ) (given : List Message) (good : List EventLine) (refusal : Refusal) → given ≡ messages_behind [] good
     → ((more : List ℕ) → MayStillCome source.lines more → judged shape (bytes ++ more) ≡ record { good = good; fault = Some refusal }) → IsRefused source shape bytes given refusal
 is_refused source shape bytes given good refusal all is =
@@ -134,11 +142,13 @@ next_part old new raw more next unended =
     ∙ (next (more ++ line_feed ∷ []) (goes_on old (more ++ line_feed ∷ []) unended)
     ∙ ap (λ lines. raw ∷ lines) (ap raw_lines (sym (append_assoc new.kept more (line_feed ∷ []))) ∙ sym (parts_are (new.kept ++ more)))))
 
+-- a source over the limit whose first part behind the taken ones has a fault, and isn't the last
 first_part_refused : (shape : Shape) (count : ℕ) (good : List EventLine) (line : List ℕ) (parts : List (List ℕ)) (fault : LineFault) → parts ≢ [] → with_reading good (line_reading shape line) ≡ Err fault
     → front_behind shape count good (line ∷ parts) ≡ record { good = good; fault = Some (record { line = count + 1; fault = fault }) }
 first_part_refused shape count good line [] fault some reads = absurd (some refl)
 first_part_refused shape count good line (next ∷ parts) fault some reads = part_refused shape count good line next parts fault reads
 
+-- a line that was taken has a fault
 refused_line : (old new : SourceLines) (line : List ℕ) (fault : LineFault) (shape : Shape) (bytes : List ℕ) (given : List Message) → Takes old new line
     → ((before : List EventLine) → Guards old.guard before → JudgesLine (Err (guard_fault.Line fault)) new.guard before (with_reading before (reading old.shape line)))
     → Reads old shape bytes given → IsRefused new shape bytes given (record { line = old.number; fault = fault })
@@ -176,9 +186,11 @@ refused_long source shape bytes given long reads =
 
 -- ---- no line ends any more
 
+-- the line that isn't finished is the one part
 no_feed : (bytes : List ℕ) → has_line_feed bytes ≡ false → parts_of line_feed (bytes ++ []) ≡ bytes ∷ []
 no_feed bytes none = ap (parts_of line_feed) (append-nil bytes) ∙ no_feed_part bytes none
 
+-- behind more bytes than a source may have, no byte counts
 none_fit : (count : ℕ) (more : List ℕ) → FILE_LIMIT < count → take (FILE_LIMIT - count) more ≡ []
 none_fit count more long = let none : FILE_LIMIT - count ≡ 0 = omega arith in ap (λ k. take k more) none
 
@@ -233,9 +245,11 @@ is_closed source shape bytes given ended nothing reads =
 
 -- ---- the answer for a line
 
+-- a message is legal behind those before it
 line_message : (old new : SourceLines) (line : List ℕ) (m : Message) (shape : Shape) (bytes : List ℕ) (given : List Message) → Reads new shape bytes (given ++ m ∷ []) → Tells (step.Message m) new shape bytes given
 line_message old new line m shape bytes given reads = (reads, (gives_front new shape bytes (given ++ m ∷ []) reads).legal)
 
+-- what the answer for a line tells
 pub line_told : (old new : SourceLines) (line : List ℕ) (judged : Result (Option Message) GuardFault) (answer : Result (Option SourceStep) OutOfMemory) → Takes old new line
     → ((before : List EventLine) → Guards old.guard before → JudgesLine judged new.guard before (with_reading before (reading old.shape line))) → Answers old.number judged answer
     → IfOk answer (λ told. (shape : Shape) (bytes : List ℕ) (given : List Message) → Reads old shape bytes given → TellsLine told new shape bytes given)
@@ -256,6 +270,7 @@ pub line_falls : (old new : Fed) (line : List ℕ) → GivesLine old new line �
 line_falls old new line gives =
     omega (arith, ap length (gives.next [] (λ ended. refl)), ap (λ kept. length (raw_lines kept)) (append-nil old.kept), ap (λ kept. length (raw_lines kept)) (append-nil new.kept))
 
+-- so a line that was taken is one less
 pub one_less : (number left now : ℕ) (judged : Result (Option Message) GuardFault) (answer : Result (Option SourceStep) OutOfMemory) → Answers number judged answer → now < left → IfOk answer (λ told. TakesOne told left now)
 one_less number left now (Ok None) answer is less = subst (λ a. IfOk a (λ told. TakesOne told left now)) (sym is) less
 one_less number left now (Ok (Some m)) answer is less = subst (λ a. IfOk a (λ told. TakesOne told left now)) (sym is) less
@@ -265,6 +280,7 @@ one_less number left now (Err guard_fault.OutOfMemory) (Err lack) is less = tt
 
 -- ---- no bytes, more bytes
 
+-- nothing was fed
 pub none_read : (source : SourceLines) (shape : Shape) → source.lines ≡ record { kept = []; finished = false } → Guards source.guard [] → source.shape ≡ shape → source.number ≡ 1 → source.room ≡ FILE_LIMIT → source.over_limit ≡ false
     → Reads source shape [] []
 none_read source shape lines guards same number room over =
@@ -292,15 +308,18 @@ pub record Feeds (old new : SourceLines) (piece : List ℕ) : Type 0 where
   pub room : new.room ≡ old.room - length piece
   pub over : new.over_limit ≡ cond (nat_lt old.room (length piece)) true old.over_limit
 
+-- more bytes came than fit, or had come
 over_more : (limit bytes piece all : ℕ) → all ≡ bytes + piece → cond (nat_lt (limit - bytes) piece) true (nat_lt limit bytes) ≡ nat_lt limit all
 over_more limit bytes piece all is = grind (arith, nat_tests)
 
+-- as many bytes are kept as fit
 take_least : (less : Bool) (room : ℕ) (piece : List ℕ) → nat_lt room (length piece) ≡ less → take (min (length piece) room) piece ≡ take room piece
 take_least true room piece is = let least : min (length piece) room ≡ room = omega (arith, ltb-true room (length piece) is) in ap (λ n. take n piece) least
 take_least false room piece is =
     let all = ltb-false room (length piece) is in
     take_all (min (length piece) room) piece (omega arith) ∙ sym (take_all room piece all)
 
+-- a piece was fed
 pub more_read : (old new : SourceLines) (piece : List ℕ) (shape : Shape) (bytes : List ℕ) (given : List Message) → Feeds old new piece → Reads old shape bytes given → Reads new shape (bytes ++ piece) given
 more_read old new piece shape bytes given feeds reads =
     let part = take (FILE_LIMIT - length bytes) piece in
@@ -328,6 +347,7 @@ more_read old new piece shape bytes given feeds reads =
 
 -- ---- a line behind accepted ones
 
+-- a guard's answer for an event is that for its line
 pub event_judged : (result : Result (Option Message) GuardFault) (old new : Guard) (event : EventLine)
     → ((before : List EventLine) → Guards old before → guard.Judges result (fault_behind before event))
     → IfOk result (λ message. (before : List EventLine) → Guards old before → as_list message ≡ message_of before event)
@@ -349,6 +369,7 @@ pub record Stays (old new : SourceLines) : Type 0 where
   pub room : new.room ≡ old.room
   pub over : new.over_limit ≡ old.over_limit
 
+-- where no line was taken, the same was read
 still_reads : (old new : SourceLines) (shape : Shape) (bytes : List ℕ) (given : List Message) → Stays old new → Reads old shape bytes given → Reads new shape bytes given
 still_reads old new shape bytes given stays reads =
     record {
@@ -365,12 +386,14 @@ still_reads old new shape bytes given stays reads =
       ended = λ ended. reads.ended (ap (λ (fed : Fed). fed.finished) (sym stays.lines) ∙ ended);
     }
 
+-- the next line is told to be too long
 pub long_told : (old new : SourceLines) (told : SourceStep) → told ≡ refused old.number LineTooLong → Stays old new → IsTooLong old.lines
     → (shape : Shape) (bytes : List ℕ) (given : List Message) → Reads old shape bytes given → Tells told new shape bytes given
 long_told old new told is stays long shape bytes given reads =
     subst (λ t. Tells t new shape bytes given) (sym (is ∙ ap (λ n. refused n LineTooLong) (sym stays.number)))
     (refused_long new shape bytes given (subst IsTooLong (sym stays.lines) long) (still_reads old new shape bytes given stays reads))
 
+-- a source is told to be too large
 pub large_told : (old new : SourceLines) (told : SourceStep) → told ≡ refused old.number TooLarge → Stays old new → GivesNone lines.NotYet old.lines → old.over_limit ≡ true
     → (shape : Shape) (bytes : List ℕ) (given : List Message) → Reads old shape bytes given → Tells told new shape bytes given
 large_told old new told is stays none over shape bytes given reads =
@@ -378,6 +401,7 @@ large_told old new told is stays none over shape bytes given reads =
     subst (λ t. Tells t new shape bytes given) (sym (is ∙ ap (λ n. refused n TooLarge) (sym stays.number)))
     (refused_large new shape bytes given still.0 still.1 still.2 (stays.over ∙ over) (still_reads old new shape bytes given stays reads))
 
+-- more bytes are asked for
 pub waiting_told : (old new : SourceLines) → Stays old new → GivesNone lines.NotYet old.lines → old.over_limit ≡ false
     → (shape : Shape) (bytes : List ℕ) (given : List Message) → Reads old shape bytes given → Tells step.NotYet new shape bytes given
 waiting_told old new stays none over shape bytes given reads =
@@ -385,6 +409,7 @@ waiting_told old new stays none over shape bytes given reads =
     let reads_on = still_reads old new shape bytes given stays reads in
     (reads_on, waits new shape bytes given still.0 still.1 still.2 (stays.over ∙ over) reads_on)
 
+-- a source is told to be closed
 pub closed_told : (old new : SourceLines) → Stays old new → GivesNone lines.Finished old.lines
     → (shape : Shape) (bytes : List ℕ) (given : List Message) → Reads old shape bytes given → Tells step.Closed new shape bytes given
 closed_told old new stays none shape bytes given reads =

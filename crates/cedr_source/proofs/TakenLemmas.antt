@@ -23,6 +23,7 @@ use Rattle.cedr_source.specs.Reads.{MayStillCome, AreTaken}
 
 -- ---- the parts between line feeds are the lines of the bytes with a line feed more
 
+-- a part that isn't the last one stays
 end_kept : (part next : List ℕ) (parts : List (List ℕ)) → without_empty_end (part ∷ next ∷ parts) ≡ part ∷ without_empty_end (next ∷ parts)
 end_kept [] next parts = refl
 end_kept (b ∷ bs) next parts = refl
@@ -33,10 +34,12 @@ end_dropped [] = refl
 end_dropped (part ∷ []) = end_kept part [] []
 end_dropped (part ∷ next ∷ parts) = end_kept part next (parts ++ [] ∷ []) ∙ ap (λ rest. part ∷ rest) (end_dropped (next ∷ parts))
 
+-- a byte in front of parts leaves some part
 onto_some : (b : ℕ) (parts : List (List ℕ)) → onto_first b parts ≢ []
 onto_some b [] none = cc
 onto_some b (part ∷ parts) none = cc
 
+-- so does a byte that may be cut at
 cut_some : (cut : Bool) (b : ℕ) (parts : List (List ℕ)) → cond cut ([] ∷ parts) (onto_first b parts) ≢ []
 cut_some true b parts none = cc
 cut_some false b parts none = onto_some b parts none
@@ -46,17 +49,20 @@ pub some_part : (bytes : List ℕ) → parts_of line_feed bytes ≢ []
 some_part [] none = cc
 some_part (b ∷ bytes) none = cut_some (b == line_feed) b (parts_of line_feed bytes) none
 
+-- a byte in front of parts stands in front of these with an empty end, too
 onto-end : (cut : Bool) (b : ℕ) (parts : List (List ℕ)) → parts ≢ [] → cond cut ([] ∷ (parts ++ [] ∷ [])) (onto_first b (parts ++ [] ∷ [])) ≡ cond cut ([] ∷ parts) (onto_first b parts) ++ [] ∷ []
 onto-end true b parts some = refl
 onto-end false b [] some = absurd (some refl)
 onto-end false b (part ∷ parts) some = refl
 
+-- a line feed more makes an empty part more
 parts-end : (bytes : List ℕ) → parts_of line_feed (bytes ++ line_feed ∷ []) ≡ parts_of line_feed bytes ++ [] ∷ []
 parts-end [] = refl
 parts-end (b ∷ bytes) =
     ap (λ parts. cond (b == line_feed) ([] ∷ parts) (onto_first b parts)) (parts-end bytes)
     ∙ onto-end (b == line_feed) b (parts_of line_feed bytes) (some_part bytes)
 
+-- so the parts are the lines of the bytes with a line feed more
 pub parts_are : (bytes : List ℕ) → parts_of line_feed bytes ≡ raw_lines (bytes ++ line_feed ∷ [])
 parts_are bytes = sym (ap without_empty_end (parts-end bytes) ∙ end_dropped (parts_of line_feed bytes))
 
@@ -73,6 +79,7 @@ taken_parts fed bytes taken are unended more =
     ∙ (are (more ++ line_feed ∷ []) (goes_on fed (more ++ line_feed ∷ []) unended)
     ∙ ap (λ lines. taken ++ lines) (ap raw_lines (sym (append_assoc fed.kept more (line_feed ∷ []))) ∙ sym (parts_are (fed.kept ++ more)))))
 
+-- a byte that isn't cut at joins the one part
 no_cut : (cut : Bool) (b : ℕ) (bytes : List ℕ) → cut ≡ false → cond cut ([] ∷ bytes ∷ []) (onto_first b (bytes ∷ [])) ≡ (b ∷ bytes) ∷ []
 no_cut true b bytes none = cc
 no_cut false b bytes none = refl
@@ -86,9 +93,11 @@ no_feed_part (b ∷ bytes) none =
 
 -- ---- lines behind accepted ones
 
+-- a fault is there or not
 some_fault : (before good : List EventLine) (refusal : Refusal) → ◌≡◌ {A = Judged} (record { good = before; fault = Some refusal }) (record { good = good; fault = None }) → ⊥
 some_fault before good refusal same = let fault = ap (λ (file : Judged). file.fault) same in cc
 
+-- behind one line, where what is behind it is known
 go_behind : (shape : Shape) (count : ℕ) (before good : List EventLine) (read : Result (List EventLine) LineFault) (taken lines : List (List ℕ))
     → ((now : List EventLine) → judged_behind shape (count + 1) now taken ≡ record { good = good; fault = None } → judged_behind shape (count + 1) now (taken ++ lines) ≡ judged_behind shape ((count + 1) + length taken) good lines)
     → go_on (count + 1) before read (λ now. judged_behind shape (count + 1) now taken) ≡ record { good = good; fault = None }
@@ -96,6 +105,7 @@ go_behind : (shape : Shape) (count : ℕ) (before good : List EventLine) (read :
 go_behind shape count before good (Ok now) taken lines more all = more now all
 go_behind shape count before good (Err fault) taken lines more all = absurd (some_fault before good (record { line = count + 1; fault = fault }) all)
 
+-- lines behind accepted ones are judged as if they came first, but for the count and what was accepted
 taken_behind : (shape : Shape) (count : ℕ) (before good : List EventLine) (taken lines : List (List ℕ)) → judged_behind shape count before taken ≡ record { good = good; fault = None }
     → judged_behind shape count before (taken ++ lines) ≡ judged_behind shape (count + length taken) good lines
 taken_behind shape count before good [] lines all =
@@ -108,17 +118,20 @@ taken_behind shape count before good (line ∷ taken) lines all =
 abbrev pub AreGood : Shape → List (List ℕ) → List EventLine → Type 0
 AreGood shape taken good = judged_lines shape taken ≡ record { good = good; fault = None }
 
+-- the same of the first lines
 pub lines_behind : (shape : Shape) (taken lines : List (List ℕ)) (good : List EventLine) → AreGood shape taken good → judged_lines shape (taken ++ lines) ≡ judged_behind shape (length taken) good lines
 lines_behind shape taken lines good all = taken_behind shape 0 [] good taken lines all ∙ ap (λ n. judged_behind shape n good lines) (omega arith)
 
 -- ---- the parts of a source over the limit behind accepted lines
 
+-- behind whole lines the whole lines of some parts are whole
 pub whole-taken : (taken parts : List (List ℕ)) → parts ≢ [] → whole_lines (taken ++ parts) ≡ taken ++ whole_lines parts
 whole-taken [] parts some = refl
 whole-taken (line ∷ []) [] some = absurd (some refl)
 whole-taken (line ∷ []) (part ∷ parts) some = refl
 whole-taken (line ∷ next ∷ taken) parts some = ap (λ rest. line ∷ rest) (whole-taken (next ∷ taken) parts some)
 
+-- and the line that isn't finished is theirs
 pub unfinished-taken : (taken parts : List (List ℕ)) → parts ≢ [] → unfinished_line (taken ++ parts) ≡ unfinished_line parts
 unfinished-taken [] parts some = refl
 unfinished-taken (line ∷ []) [] some = absurd (some refl)
@@ -132,6 +145,7 @@ with_limit file number line = record { good = file.good; fault = Some (first_fau
 abbrev pub front_behind : Shape → ℕ → List EventLine → List (List ℕ) → Judged
 front_behind shape count good parts = with_limit (judged_behind shape count good (whole_lines parts)) (count + length (whole_lines parts) + 1) (unfinished_line parts)
 
+-- the parts of a source over the limit, behind accepted lines
 parts_behind : (shape : Shape) (taken parts : List (List ℕ)) (good : List EventLine) → AreGood shape taken good → parts ≢ [] → judged_front shape (taken ++ parts) ≡ front_behind shape (length taken) good parts
 parts_behind shape taken parts good all some =
     let whole = whole-taken taken parts some in
@@ -142,9 +156,11 @@ parts_behind shape taken parts good all some =
 
 -- ---- all bytes
 
+-- a source up to the limit
 pub judged_within : (shape : Shape) (bytes : List ℕ) → length bytes ≤ FILE_LIMIT → judged shape bytes ≡ judged_lines shape (raw_lines bytes)
 judged_within shape bytes short = ap (λ long. cond long (judged_front shape (parts_of line_feed (take FILE_LIMIT bytes))) (judged_lines shape (raw_lines bytes))) (le-ltb FILE_LIMIT (length bytes) short)
 
+-- a source over it
 judged_beyond : (shape : Shape) (bytes : List ℕ) → FILE_LIMIT < length bytes → judged shape bytes ≡ judged_front shape (parts_of line_feed (take FILE_LIMIT bytes))
 judged_beyond shape bytes long = ap (λ over. cond over (judged_front shape (parts_of line_feed (take FILE_LIMIT bytes))) (judged_lines shape (raw_lines bytes))) (lt-ltb FILE_LIMIT (length bytes) long)
 
@@ -160,6 +176,7 @@ pub record Stands (fed : Fed) (shape : Shape) (bytes : List ℕ) (taken : List (
   pub accepted : AreGood shape taken good
   pub ended : fed.finished ≡ true → length bytes ≤ FILE_LIMIT
 
+-- up to the limit the lines behind the taken ones decide
 within_behind : (fed : Fed) (shape : Shape) (bytes more : List ℕ) (taken : List (List ℕ)) (good : List EventLine) → Stands fed shape bytes taken good → MayStillCome fed more → length (bytes ++ more) ≤ FILE_LIMIT
     → judged shape (bytes ++ more) ≡ judged_behind shape (length taken) good (raw_lines (fed.kept ++ more))
 within_behind fed shape bytes more taken good stands may short =
@@ -169,6 +186,7 @@ within_behind fed shape bytes more taken good stands may short =
     ∙ (ap (judged_lines shape) (stands.taken_are more may)
     ∙ lines_behind shape taken (raw_lines (fed.kept ++ more)) good stands.accepted))
 
+-- over it the parts of the first bytes behind them do
 beyond_behind : (fed : Fed) (shape : Shape) (bytes more : List ℕ) (taken : List (List ℕ)) (good : List EventLine) → Stands fed shape bytes taken good → fed.finished ≡ false → FILE_LIMIT < length (bytes ++ more)
     → judged shape (bytes ++ more) ≡ front_behind shape (length taken) good (parts_of line_feed (fed.kept ++ take (FILE_LIMIT - length bytes) more))
 beyond_behind fed shape bytes more taken good stands unended long =
@@ -183,6 +201,7 @@ open_beyond : (finished : Bool) (fed : Fed) (bytes more : List ℕ) → fed.fini
 open_beyond false fed bytes more is ended may long = is
 open_beyond true fed bytes more is ended may long = absurd (omega (arith, ended is, long, length-append bytes more, ap length (may is)))
 
+-- both, by whether the source is over the limit
 by_length : (P : Judged → Type 0) (long : Bool) (fed : Fed) (shape : Shape) (bytes more : List ℕ) (taken : List (List ℕ)) (good : List EventLine) → nat_lt FILE_LIMIT (length (bytes ++ more)) ≡ long
     → Stands fed shape bytes taken good → MayStillCome fed more
     → (length (bytes ++ more) ≤ FILE_LIMIT → P (judged_behind shape (length taken) good (raw_lines (fed.kept ++ more))))
@@ -238,18 +257,22 @@ large_part shape count good line short =
 
 -- ---- good lines are kept
 
+-- equal answers have equal values
 ok_same : {A E : Type 0} {x y : A} → ◌≡◌ {A = Result A E} (Ok x) (Ok y) → x ≡ y
 ok_same same = cc
 
+-- what is accepted grows behind one line
 go_grows : (number : ℕ) (before : List EventLine) (read : Result (List EventLine) LineFault) (rest : List EventLine → Judged)
     → ((now : List EventLine) → read ≡ Ok now → (more : List EventLine) × ((rest now).good ≡ before ++ more)) → (more : List EventLine) × ((go_on number before read rest).good ≡ before ++ more)
 go_grows number before (Ok now) rest grows = grows now refl
 go_grows number before (Err fault) rest grows = ([], sym (append-nil before))
 
+-- by that line, where it is accepted
 event_grows : (before : List EventLine) (event : EventLine) (fault : Option LineFault) (now : List EventLine) → with_event before event fault ≡ Ok now → (more : List EventLine) × (now ≡ before ++ more)
 event_grows before event None now is = (event ∷ [], sym (ok_same is))
 event_grows before event (Some fault) now is = cc
 
+-- or by nothing, where it is empty
 reading_grows : (before : List EventLine) (read : Result (Option EventLine) LineFault) (now : List EventLine) → with_reading before read ≡ Ok now → (more : List EventLine) × (now ≡ before ++ more)
 reading_grows before (Err fault) now is = cc
 reading_grows before (Ok None) now is = ([], sym (append-nil before ∙ ok_same is))
@@ -275,6 +298,7 @@ messages-append before (line ∷ lines) others =
 
 -- ---- how many lines there are
 
+-- dropping an empty end makes no more lines
 without_fewer : (parts : List (List ℕ)) → length (without_empty_end parts) ≤ length parts
 without_fewer [] = omega arith
 without_fewer ([] ∷ []) = omega arith

@@ -52,6 +52,7 @@ all_taken reading shape bytes ended took = either_whole took.1 where
   either_whole (inl waits) = absurd (false≢true (sym waits.goes_on ∙ ended))
   either_whole (inr whole) = whole
 
+-- a refusal where no more bytes come
 pub refused_end : (fault : SourceFault) (reading : Reading) (shape : Shape) (bytes : List ℕ) → TookAll (Err fault) reading shape bytes → Closes (Err fault) shape bytes
 refused_end (source_fault.Refused refusal) reading shape bytes took = ap (λ all. (judged shape all).fault) (sym (append-nil bytes)) ∙ took.fault [] (λ ended. refl)
 refused_end source_fault.Failed reading shape bytes took = took
@@ -59,16 +60,19 @@ refused_end source_fault.OutOfMemory reading shape bytes took = tt
 
 -- ---- all bytes
 
+-- nothing is left at the end
 at_end : (left : Option (List ℕ)) (bytes : List ℕ) → IsAtEnd left → bytes ≡ bytes ++ unwrap_or left []
 at_end None bytes end = sym (append-nil bytes)
 at_end (Some rest) bytes end = sym (ap (λ more. bytes ++ more) end ∙ append-nil bytes)
 
+-- the answer at the end is that for all bytes
 ends_so : (answer : Result (Vec Message Global) SourceFault) (shape : Shape) (bytes : List ℕ) → Closes answer shape bytes → AnswersAll answer shape bytes
 ends_so (Ok messages) shape bytes closes = closes
 ends_so (Err (source_fault.Refused refusal)) shape bytes closes = closes
 ends_so (Err source_fault.Failed) shape bytes closes = tt
 ends_so (Err source_fault.OutOfMemory) shape bytes closes = tt
 
+-- and nothing is left then
 read_whole : (answer : Result (Vec Message Global) SourceFault) (left : Option (List ℕ)) → IsAtEnd left → IsReadWhole answer left
 read_whole (Ok messages) left end = end
 read_whole (Err fault) left end = tt
@@ -94,6 +98,7 @@ closed_count (Err (source_fault.Refused refusal)) reading shape rest left old ne
 closed_count (Err source_fault.Failed) reading shape rest left old new blocks closes same = absurd (closes shape blocks.bytes blocks.read.0 blocks.read.1)
 closed_count (Err source_fault.OutOfMemory) reading shape rest left old new blocks closes same = same
 
+-- a block's fault is that of all bytes
 fault_answers : (fault : SourceFault) (shape : Shape) (bytes more : List ℕ) → HasRead (Err fault) shape bytes → AnswersAll (Err fault) shape (bytes ++ more)
 fault_answers (source_fault.Refused refusal) shape bytes more read = read more
 fault_answers source_fault.Failed shape bytes more read = tt
@@ -110,6 +115,7 @@ broken_answer answer fault shape rest left is blocks =
       answers = fault_answers fault shape blocks.bytes (unwrap_or left []) blocks.read;
     })
 
+-- and its count is the answer's
 pub broken_count : (T : Type 0) (answer : Result (Vec Message Global) SourceFault) (fault : SourceFault) (old new : ℕ) → answer ≡ Err fault → CountsSource {T = T} (Err fault) old new → CountsSource answer old new
 broken_count T answer (source_fault.Refused refusal) old new is counts = subst (λ a. CountsSource a old new) (sym is) counts
 broken_count T answer source_fault.Failed old new is counts = subst (λ a. CountsSource a old new) (sym is) counts

@@ -15,12 +15,12 @@ fn long_line(alloc: Global) -> Result<Vec<u8>, OutOfMemory> {
     Ok(line)
 }
 
-/// What lines answer behind 1,023 long lines and these pieces, where they are asked after each of them.
-fn answer_behind(alloc: Global, pieces: &[&[u8]]) -> Result<Vec<u8>, OutOfMemory> {
+/// What lines answer behind so many long lines and these pieces, where they are asked after each of them.
+fn answer_behind(alloc: Global, count: u16, pieces: &[&[u8]]) -> Result<Vec<u8>, OutOfMemory> {
     let line = long_line(alloc)?;
     let mut lines = SourceLines::new(alloc, Shape::AnyText);
     let mut text = Vec::new(alloc);
-    for _ in 0..1023u16 {
+    for _ in 0..count {
         text.clear();
         lines.feed(&line)?;
         take_steps(&mut lines, &mut text)?;
@@ -32,15 +32,30 @@ fn answer_behind(alloc: Global, pieces: &[&[u8]]) -> Result<Vec<u8>, OutOfMemory
     Ok(text)
 }
 
-// The line that isn't finished would have fault 2 if the byte behind the limit counted.
 #[test]
 fn a_source_over_the_limit_is_judged_by_its_first_bytes(rt: HostRuntime) -> Result<(), Fail> {
     let alloc = rt.alloc();
-    let letters = vec![in alloc; b'x'; 65_536]?;
-    let text = answer_behind(alloc, &[&letters, b"\n", b"+,1,1,2,a\n"])?;
+    let letters = vec![in alloc; b'x'; 131_072]?;
+    let half = vec![in alloc; b'x'; 65_536]?;
+    // one byte too many
+    let text = answer_behind(alloc, 1024, &[b"\n"])?;
+    assert_eq!(rt; text.as_slice(), b"?line 1025 fault 10".as_slice());
+    // an unfinished line that would have fault 2 if the byte behind the limit ended it
+    let text = answer_behind(alloc, 1023, &[&half, b"\n", b"=,1\n"])?;
     assert_eq!(rt;
         text.as_slice(),
         b"??line 1024 fault 10line 1024 fault 10".as_slice()
+    );
+    // a whole line's fault comes first
+    let mut faulty = Vec::from_slice(alloc, b"x\n")?;
+    faulty.extend_from_slice(&half)?;
+    let text = answer_behind(alloc, 1023, &[&faulty])?;
+    assert_eq!(rt; text.as_slice(), b"?line 1024 fault 2".as_slice());
+    // and so does that of an unfinished line that is too long
+    let text = answer_behind(alloc, 1022, &[&letters, b"\n"])?;
+    assert_eq!(rt;
+        text.as_slice(),
+        b"?line 1023 fault 1line 1023 fault 1".as_slice()
     );
     Ok(())
 }
