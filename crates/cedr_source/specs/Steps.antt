@@ -32,7 +32,8 @@ pub record GivesFront (source : SourceLines) (shape : Shape) (bytes : List ℕ) 
   pub front : (more : List ℕ) → MayStillCome source.lines more → IsFrontOf given (messages_behind [] (judged shape (bytes ++ more)).good)
   pub legal : IsLegal given
 
--- all lines that ended were taken, and none has a fault. More bytes may come: the line that they finish isn't too long yet
+-- all lines that ended were taken, and none has a fault. More bytes may come, and the line that they go on with isn't
+-- too long yet
 pub record Waits (source : SourceLines) (shape : Shape) (bytes : List ℕ) (given : List Message) : Type 0 where
   pub goes_on : is_ended source ≡ false
   pub within : length bytes ≤ FILE_LIMIT
