@@ -1,0 +1,149 @@
+-- Sources that are fed, message by message.
+use Rattle.std.specs.Prelude.{◌||◌}
+use Rattle.std.proofs.lemmas.Bool.{cases_lt}
+use Rattle.std.proofs.Common.{◌≡◌, ◌≢◌, ◌⊎◌, ◌≤◌, ◌+◌, ℕ, zero, suc, ◌<◌, inl, inr, Bool, true, false, refl, List, [], ◌∷◌, ◌++◌, length, set, get_or, ap, sym, ◌∙◌, subst, arith, append_assoc, get_or-set_other}
+use Rattle.std.proofs.lemmas.List.{length-set, length-append}
+use Rattle.cedr_base.specs.declared.change.Message.{Message}
+use Rattle.cedr_base.specs.Messages.{IsLegal, MayCome}
+use Rattle.cedr_laws.specs.Lists.{Lists, list_at, with_more}
+use Rattle.cedr_plan.specs.declared.plan.PlanNode.{PlanNode}
+use Rattle.cedr_net.specs.Flows.{IsSourceAt}
+use Rattle.cedr_net.proofs.ListLemmas.{at_more, at_more_other, may_come_in}
+use Rattle.cedr_net.proofs.FlowLemmas.{same_or_not}
+use Rattle.cedr_net.proofs.SettleLemmas.{fewer}
+use Rattle.cedr_net.proofs.FedLemmas.{source_here}
+use Rattle.op_planned.specs.Ready.{is_source}
+use Rattle.cedr_serial.specs.Feeding.{AreFed, AreSources, left_count}
+
+-- the next message of a source
+module _ (nodes : List PlanNode) (given left left' whole : Lists) (place : ℕ) (m : Message) (h : AreFed nodes given left whole) (within : place < length nodes)
+    (front : list_at left place ≡ m ∷ list_at left' place) (rest : left' ≡ set left place (list_at left' place)) where
+  pub next_source : IsSourceAt nodes place
+  next_source = h.others place m (list_at left' place) front
+
+  all_here : list_at given place ++ m ∷ list_at left' place ≡ list_at whole place
+  all_here = ap (λ (ms : List Message). list_at given place ++ ms) (sym front) ∙ h.lists place within next_source
+
+  -- may come
+  pub next_may_come : MayCome (list_at given place) m
+  next_may_come = may_come_in (list_at given place) (list_at left' place) m (subst IsLegal (sym all_here) (h.legal place))
+
+  left_wide : length left' ≡ length left
+  left_wide = ap length rest ∙ length-set left place (list_at left' place)
+
+  other_left : (k : ℕ) → k ≢ place → list_at left' k ≡ list_at left k
+  other_left k ne = ap (λ (ls : Lists). list_at ls k) rest ∙ get_or-set_other left place k (list_at left' place) [] ne
+
+  module _ (given_count : length given ≡ length nodes) where
+    lists_now : (k : ℕ) → k < length nodes → IsSourceAt nodes k → (k ≡ place) ⊎ (k ≢ place) → list_at (with_more given place (m ∷ [])) k ++ list_at left' k ≡ list_at whole k
+    lists_now k inside source (inl e) =
+        ap (λ (j : ℕ). list_at (with_more given place (m ∷ [])) j ++ list_at left' j) e
+        ∙ (ap (λ (ms : List Message). ms ++ list_at left' place) (at_more given place (m ∷ []) (omega (arith, given_count)))
+        ∙ (append_assoc (list_at given place) (m ∷ []) (list_at left' place) ∙ (all_here ∙ ap (list_at whole) (sym e))))
+    lists_now k inside source (inr ne) =
+        ap (λ (ms : List Message). ms ++ list_at left' k) (at_more_other given place k (m ∷ []) ne)
+        ∙ (ap (λ (ms : List Message). list_at given k ++ ms) (other_left k ne) ∙ h.lists k inside source)
+
+    others_now : (k : ℕ) (x : Message) (more : List Message) → list_at left' k ≡ x ∷ more → (k ≡ place) ⊎ (k ≢ place) → IsSourceAt nodes k
+    others_now k x more e (inl same) = subst (IsSourceAt nodes) (sym same) next_source
+    others_now k x more e (inr ne) = h.others k x more (sym (other_left k ne) ∙ e)
+
+    -- and is fed
+    pub fed_on : AreFed nodes (with_more given place (m ∷ [])) left' whole
+    fed_on = record {
+      count = left_wide ∙ h.count;
+      lists = λ k inside source. lists_now k inside source (same_or_not k place);
+      legal = h.legal;
+      others = λ k x more e. others_now k x more e (same_or_not k place);
+    }
+
+  -- so fewer are left
+  pub fewer_left : left_count left' < left_count left
+  fewer_left = omega (arith, ap left_count rest, fewer left place m (list_at left' place) front)
+
+-- a network that went on without its sources
+pub fed_settled : (nodes : List PlanNode) (given given' left whole : Lists) → AreFed nodes given left whole → ((k : ℕ) → IsSourceAt nodes k → list_at given' k ≡ list_at given k) → AreFed nodes given' left whole
+fed_settled nodes given given' left whole h same = record {
+  count = h.count;
+  lists = λ k inside source. ap (λ (ms : List Message). ms ++ list_at left k) (same k source) ∙ h.lists k inside source;
+  legal = h.legal;
+  others = h.others;
+}
+
+-- two nodes may have had a message, one after the other
+pub fed_either : (b c : Bool) (first old new : Lists) → (b ≡ true → left_count old < left_count first) → (b ≡ false → old ≡ first) → (c ≡ true → left_count new < left_count old) → (c ≡ false → new ≡ old) → b || c ≡ true → left_count new < left_count first
+fed_either true true first old new fed still more none e = omega (arith, fed refl, more refl)
+fed_either true false first old new fed still more none e = omega (arith, fed refl, ap left_count (none refl))
+fed_either false true first old new fed still more none e = omega (arith, ap left_count (still refl), more refl)
+fed_either false false first old new fed still more none e = absurd (let x = e in cc)
+
+pub none_either : (b c : Bool) (first old new : Lists) (place : ℕ) → (b ≡ false → (old ≡ first) × ((k : ℕ) → k < place → list_at old k ≡ [])) → (c ≡ false → (list_at old place ≡ []) × (new ≡ old)) → b || c ≡ false → (new ≡ first) × ((k : ℕ) → k < place + 1 → list_at new k ≡ [])
+none_either true c first old new place still none e = absurd (let x = e in cc)
+none_either false true first old new place still none e = absurd (let x = e in cc)
+none_either false false first old new place still none e =
+    let s = still refl in
+    let n = none refl in (
+      n.1 ∙ s.0,
+      λ k within. ap (λ (ls : Lists). list_at ls k) n.1 ∙ elim (cases_lt k place) [
+        | inl h ↦ s.1 k h
+        | inr h ↦ ap (list_at old) (let here : k ≡ place = omega arith in here) ∙ n.0
+      ],
+    )
+
+-- there is no list behind the last one
+pub none_left : (ls : Lists) (count k : ℕ) → length ls ≤ count → ((j : ℕ) → j < count → list_at ls j ≡ []) → list_at ls k ≡ []
+none_left ls count k wide none = elim (cases_lt k count) [
+  | inl h ↦ none k h
+  | inr h ↦ behind ls k (omega arith)
+] where
+  behind : (ms : Lists) (j : ℕ) → length ms ≤ j → list_at ms j ≡ []
+  behind [] j h = refl
+  behind (m ∷ ms) zero h = absurd (omega arith)
+  behind (m ∷ ms) (suc j) h = behind ms j (omega arith)
+
+-- ---- sources, node by node
+
+push_cases : (left : Lists) (x : List Message) (k : ℕ) (m : Message) (more : List Message) → list_at (left ++ x ∷ []) k ≡ m ∷ more → (list_at left k ≡ m ∷ more) ⊎ ((k ≡ length left) × (x ≡ m ∷ more))
+push_cases [] x zero m more e = inr (refl, e)
+push_cases [] x (suc k) m more e = cc
+push_cases (l ∷ left) x zero m more e = inl e
+push_cases (l ∷ left) x (suc k) m more e = elim (push_cases left x k m more e) [
+  | inl h ↦ inl h
+  | inr h ↦ inr (ap (λ j. suc j) h.0, h.1)
+]
+
+legal_push : (left : Lists) (x : List Message) → ((k : ℕ) → IsLegal (list_at left k)) → IsLegal x → (k : ℕ) → IsLegal (list_at (left ++ x ∷ []) k)
+legal_push [] x all one zero = one
+legal_push [] x all one (suc k) = tt
+legal_push (l ∷ left) x all one zero = all 0
+legal_push (l ∷ left) x all one (suc k) = legal_push left x (λ j. all (suc j)) one k
+
+-- the first nodes have lists that may be theirs
+pub record SourcesUpTo (nodes : List PlanNode) (place : ℕ) (whole : Lists) : Type 0 where
+  pub count : length whole ≡ place
+  pub legal : (k : ℕ) → IsLegal (list_at whole k)
+  pub others : (k : ℕ) (m : Message) (more : List Message) → list_at whole k ≡ m ∷ more → IsSourceAt nodes k
+
+pub sources_none : (nodes : List PlanNode) (whole : Lists) → whole ≡ [] → SourcesUpTo nodes 0 whole
+sources_none nodes whole none = record {
+  count = ap length none;
+  legal = λ k. subst (λ (ls : Lists). IsLegal (list_at ls k)) (sym none) tt;
+  others = λ k m more e. absurd (let x = ap (λ (ls : Lists). list_at ls k) none in cc);
+}
+
+-- and so has one node more
+pub sources_push : (nodes : List PlanNode) (whole : Lists) (x : List Message) (n : PlanNode) (place : ℕ) → SourcesUpTo nodes place whole → place < length nodes → get_or nodes place n ≡ n → IsLegal x → (is_source n.kind ≡ false → x ≡ []) → SourcesUpTo nodes (place + 1) (whole ++ x ∷ [])
+sources_push nodes whole x n place h within here legal none = record {
+  count = omega (arith, length-append whole (x ∷ []), h.count);
+  legal = legal_push whole x h.legal legal;
+  others = λ k m more e. elim (push_cases whole x k m more e) [
+    | inl old ↦ h.others k m more old
+    | inr new ↦ subst (IsSourceAt nodes) (sym (new.0 ∙ h.count)) (at (is_source n.kind) refl m more new.1)
+  ];
+} where
+  at : (b : Bool) → is_source n.kind ≡ b → (m : Message) (more : List Message) → x ≡ m ∷ more → IsSourceAt nodes place
+  at true is m more e = source_here nodes place n within here is
+  at false is m more e = absurd (let z = none is in cc)
+
+pub all_sources : (nodes : List PlanNode) (place : ℕ) (whole : Lists) → place ≡ length nodes → SourcesUpTo nodes place whole → AreSources nodes whole
+all_sources nodes place whole end h = record { count = h.count ∙ end; legal = h.legal; others = h.others }

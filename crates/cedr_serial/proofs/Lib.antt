@@ -1,0 +1,3 @@
+pub mod FeedLemmas
+pub mod TextLemmas
+pub mod RunLemmas

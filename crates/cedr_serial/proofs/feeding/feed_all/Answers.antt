@@ -1,0 +1,9 @@
+use Rattle.cedr_serial.proofs.feeding.feed_all.Goals as goal
+
+pub loop-preserved : goal.loop-preserved
+loop-preserved c = λ nodes whole f. (c.in_ok-feed_round.ensures.stands nodes whole (c.loop.invariant nodes whole f)).0
+
+pub returns : goal.returns
+returns c = λ nodes whole f.
+    let now = c.in_ok-feed_round.ensures.stands nodes whole (c.loop.invariant nodes whole f) in
+    (now.0, now.1, c.in_ok-feed_round.ensures.none c.if-branch.false)

@@ -1,0 +1,27 @@
+use Rattle.std.proofs.Common.{length, ap, arith}
+use Rattle.cedr_laws.specs.Lists.{Lists}
+use Rattle.cedr_serial.proofs.FeedLemmas.{fed_either, none_either, none_left}
+use Rattle.cedr_serial.proofs.feeding.feed_each.Goals as goal
+
+pub feed_one-requires : goal.feed_one-requires
+feed_one-requires c =
+    let r = c.requires in
+    (r.0, r.1, c.loop-place.invariant.stands r.0 r.1 r.2, omega (arith, r.2.fed.count, c.loop-place-test.true, c.len-place-end.ensures))
+
+pub loop-place-preserved : goal.loop-place-preserved
+loop-place-preserved c =
+    let inv = c.loop-place.invariant in
+    let now = c.in_ok-fed.ensures in
+    let first = c.args.remaining.now.items in
+    let old = c.loop-place.remaining.items in
+    let new = c.feed_one.new.remaining.items in
+    record {
+      stands = λ nodes whole f. now.stands nodes whole (inv.stands nodes whole f) (omega (arith, f.fed.count, c.loop-place-test.true, c.len-place-end.ensures));
+      fed = fed_either c.loop-place.fed c.in_ok-fed.field-0 first old new inv.fed (λ isnt. (inv.none isnt).0) now.fed (λ isnt. (now.none isnt).1);
+      none = none_either c.loop-place.fed c.in_ok-fed.field-0 first old new c.loop-place.place inv.none now.none;
+    }
+
+pub returns-clause-none : goal.returns-clause-none
+returns-clause-none c = λ isnt k.
+    let n = c.loop-place.invariant.none isnt in
+    none_left c.loop-place.remaining.items c.loop-place.place k (omega (arith, ap (λ (ls : Lists). length ls) n.0, c.loop-place-test.false, c.len-place-end.ensures)) n.1

@@ -1,0 +1,36 @@
+use Rattle.std.proofs.Common.{[], ◌∷◌}
+use Rattle.cedr_laws.specs.Lists.{with_more}
+use Rattle.cedr_serial.proofs.FeedLemmas.{next_source, next_may_come, fed_on}
+use Rattle.cedr_serial.proofs.feeding.feed_one.Goals as goal
+
+pub feed-requires : goal.feed-requires
+feed-requires c = λ usable.
+    let r = c.requires in
+    let f = r.2 in
+    let left = c.args.remaining.now.items in
+    let now = c.pop_at.new.remaining.items in
+    let m = c.in-Some.message in
+    let some = c.in-Some.ensures.some in (
+      r.0,
+      f.ports,
+      f.given,
+      f.stands,
+      r.3,
+      next_source r.0 f.given left now r.1 c.args.place m f.fed r.3 some.0 some.1,
+      next_may_come r.0 f.given left now r.1 c.args.place m f.fed r.3 some.0 some.1,
+    )
+
+pub returns-in-Ok-clause-stands : goal.returns-in-Ok-clause-stands
+returns-in-Ok-clause-stands c = λ nodes whole f within.
+    let left = c.args.remaining.now.items in
+    let now = c.pop_at.new.remaining.items in
+    let m = c.in-Some.message in
+    let place = c.args.place in
+    let some = c.in-Some.ensures.some in
+    record {
+      ports = f.ports;
+      given = with_more f.given place (m ∷ []);
+      stands = c.in-Ok.ensures.fed nodes f.ports f.given f.stands within
+          (next_source nodes f.given left now whole place m f.fed within some.0 some.1) (next_may_come nodes f.given left now whole place m f.fed within some.0 some.1);
+      fed = fed_on nodes f.given left now whole place m f.fed within some.0 some.1 f.stands.stands.flows.given_count;
+    }

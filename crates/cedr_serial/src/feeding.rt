@@ -1,0 +1,124 @@
+ghost use Rattle.std.specs.Prelude.{ℕ, ◌≡◌, ◌<◌, ◌∷◌, [], List, true, false, OnOk, IfOk, IfSome, IfNone, length, slice_set};
+ghost use Rattle.cedr_laws.specs.Lists.{Lists, list_at};
+ghost use Rattle.cedr_plan.specs.declared.plan.PlanNode.{PlanNode};
+ghost use Rattle.cedr_serial.specs.Feeding.{FeedStands, IsSettledAt, left_count};
+
+use cedr_base::{Message, OutOfMemory};
+use cedr_net::SerialNet;
+use std::alloc::Global;
+use std::collections::VecDeque;
+use std::marker::Model;
+
+/// The messages that a source has still to give, in order.
+#[derive(Drop)]
+pub struct Remaining {
+    messages: VecDeque<Message>,
+}
+
+impl Model for Remaining {
+    ghost use Rattle.std.specs.Prelude.{List};
+    ghost use Rattle.cedr_base.specs.declared.change.Message.{Message};
+
+    ghost Value = { List Message };
+
+    ghost view = { λ r. r.messages.items };
+}
+
+impl Remaining {
+    /// All messages of a source. It takes no memory.
+    pub fn new(messages: Vec<Message>) -> Remaining
+        ensures { result ≡ messages.items }
+    {
+        Remaining {
+            messages: VecDeque::from_vec(messages),
+        }
+    }
+
+    fn pop(&mut self) -> Option<Message>
+        ensures some { IfSome result (λ m. self.old ≡ m ∷ self.new) }
+        ensures none { IfNone result ((self.old ≡ []) × (self.new ≡ [])) }
+    {
+        self.messages.pop_front()
+    }
+}
+
+/// Takes the next message of the source at a place.
+fn pop_at(remaining: &mut Vec<Remaining>, place: usize) -> Option<Message>
+    requires { place < length remaining.old.items }
+    ensures some { IfSome result (λ m. (list_at remaining.old.items place ≡ m ∷ list_at remaining.new.items place) × (remaining.new.items ≡ slice_set remaining.old.items place (list_at remaining.new.items place))) }
+    ensures none { IfNone result ((list_at remaining.old.items place ≡ []) × (remaining.new.items ≡ remaining.old.items)) }
+{
+    remaining[place].pop()
+}
+
+/// Feeds the next message of the node at a place, where it has one. Whether it had one.
+fn feed_one(
+    alloc: Global,
+    net: &mut SerialNet,
+    remaining: &mut Vec<Remaining>,
+    place: usize,
+) -> Result<bool, OutOfMemory>
+    requires { (nodes : List PlanNode) × (whole : Lists) × FeedStands nodes net.old remaining.old.items whole × (place < length nodes) }
+    ensures stands { OnOk result ((nodes : List PlanNode) (whole : Lists) → FeedStands nodes net.old remaining.old.items whole → place < length nodes → FeedStands nodes net.new remaining.new.items whole) }
+    ensures fed { IfOk result (λ fed. fed ≡ true → left_count remaining.new.items < left_count remaining.old.items) }
+    ensures none { IfOk result (λ fed. fed ≡ false → (list_at remaining.old.items place ≡ []) × (remaining.new.items ≡ remaining.old.items)) }
+{
+    match pop_at(remaining, place) {
+        None => Ok(false),
+        Some(message) => match net.feed(alloc, place, message) {
+            Ok(()) => Ok(true),
+            Err(_) => Err(OutOfMemory),
+        },
+    }
+}
+
+/// Feeds the next message of each source that has one, in the order of the plan. Whether one had.
+fn feed_each(
+    alloc: Global,
+    net: &mut SerialNet,
+    remaining: &mut Vec<Remaining>,
+) -> Result<bool, OutOfMemory>
+    requires { (nodes : List PlanNode) × (whole : Lists) × FeedStands nodes net.old remaining.old.items whole }
+    ensures stands { OnOk result ((nodes : List PlanNode) (whole : Lists) → FeedStands nodes net.old remaining.old.items whole → FeedStands nodes net.new remaining.new.items whole) }
+    ensures fed { IfOk result (λ fed. fed ≡ true → left_count remaining.new.items < left_count remaining.old.items) }
+    ensures none { IfOk result (λ fed. fed ≡ false → (k : ℕ) → list_at remaining.new.items k ≡ []) }
+{
+    let mut fed = false;
+    for place in 0..remaining.len() {
+        fed |= feed_one(alloc, net, remaining, place)?;
+    }
+    Ok(fed)
+}
+
+/// A round: feeds the next message of each source that has one, in the order of the plan, and then the network settles.
+/// Whether a source had one. Where memory runs out the network and what remains are only to be dropped.
+pub fn feed_round(
+    alloc: Global,
+    net: &mut SerialNet,
+    remaining: &mut Vec<Remaining>,
+) -> Result<bool, OutOfMemory>
+    requires { (nodes : List PlanNode) × (whole : Lists) × FeedStands nodes net.old remaining.old.items whole }
+    ensures stands { OnOk result ((nodes : List PlanNode) (whole : Lists) → FeedStands nodes net.old remaining.old.items whole → FeedStands nodes net.new remaining.new.items whole × IsSettledAt nodes net.new) }
+    ensures fed { IfOk result (λ fed. fed ≡ true → left_count remaining.new.items < left_count remaining.old.items) }
+    ensures none { IfOk result (λ fed. fed ≡ false → (k : ℕ) → list_at remaining.new.items k ≡ []) }
+{
+    let fed = feed_each(alloc, net, remaining)?;
+    match net.settle(alloc) {
+        Ok(()) => Ok(fed),
+        Err(_) => Err(OutOfMemory),
+    }
+}
+
+/// Rounds until each source has given all its messages: the run of a plan over whole sources. Where memory runs out the
+/// network and what remains are only to be dropped.
+pub fn feed_all(
+    alloc: Global,
+    net: &mut SerialNet,
+    remaining: &mut Vec<Remaining>,
+) -> Result<(), OutOfMemory>
+    requires { (nodes : List PlanNode) × (whole : Lists) × FeedStands nodes net.old remaining.old.items whole }
+    ensures { OnOk result ((nodes : List PlanNode) (whole : Lists) → FeedStands nodes net.old remaining.old.items whole → FeedStands nodes net.new remaining.new.items whole × IsSettledAt nodes net.new × ((k : ℕ) → list_at remaining.new.items k ≡ [])) }
+{
+    while feed_round(alloc, net, remaining)? {}
+    Ok(())
+}
