@@ -1,8 +1,8 @@
 -- Sources that are fed, message by message.
-use Rattle.std.specs.Prelude.{◌||◌}
+use Rattle.std.specs.Prelude.{◌||◌, map}
 use Rattle.std.proofs.lemmas.Bool.{cases_lt}
 use Rattle.std.proofs.Common.{◌≡◌, ◌≢◌, ◌⊎◌, ◌≤◌, ◌+◌, ℕ, zero, suc, ◌<◌, inl, inr, Bool, true, false, refl, List, [], ◌∷◌, ◌++◌, length, set, get_or, ap, sym, ◌∙◌, subst, arith, append_assoc, get_or-set_other}
-use Rattle.std.proofs.lemmas.List.{length-set, length-append}
+use Rattle.std.proofs.lemmas.List.{length-set, length-append, set-get_or}
 use Rattle.cedr_base.specs.declared.change.Message.{Message}
 use Rattle.cedr_base.specs.Messages.{IsLegal, MayCome}
 use Rattle.cedr_laws.specs.Lists.{Lists, list_at, with_more}
@@ -13,7 +13,7 @@ use Rattle.cedr_net.proofs.FlowLemmas.{same_or_not}
 use Rattle.cedr_net.proofs.SettleLemmas.{fewer}
 use Rattle.cedr_net.proofs.FedLemmas.{source_here}
 use Rattle.op_planned.specs.Ready.{is_source}
-use Rattle.cedr_serial.specs.Feeding.{AreFed, AreSources, left_count}
+use Rattle.cedr_serial.specs.Feeding.{AreFed, AreSources, behind_first, left_count}
 
 -- the next message of a source
 module _ (nodes : List PlanNode) (given left left' whole : Lists) (place : ℕ) (m : Message) (h : AreFed nodes given left whole) (within : place < length nodes)
@@ -100,6 +100,45 @@ none_left ls count k wide none = elim (cases_lt k count) [
   behind [] j h = refl
   behind (m ∷ ms) zero h = absurd (omega arith)
   behind (m ∷ ms) (suc j) h = behind ms j (omega arith)
+
+-- ---- a round, source by source
+
+-- the first lists are without their first message
+pub taken_up_to : ℕ → Lists → Lists
+taken_up_to zero ls = ls
+taken_up_to (suc k) [] = []
+taken_up_to (suc k) (l ∷ ls) = behind_first l ∷ taken_up_to k ls
+
+one_taken : (k : ℕ) (ls : Lists) → set (taken_up_to k ls) k (behind_first (list_at (taken_up_to k ls) k)) ≡ taken_up_to (suc k) ls
+unfolding taken_up_to
+one_taken zero [] = refl
+one_taken zero (l ∷ ls) = refl
+one_taken (suc k) [] = refl
+one_taken (suc k) (l ∷ ls) = ap (λ (ms : Lists). behind_first l ∷ ms) (one_taken k ls)
+
+pub taken_more : (k : ℕ) (ls old new : Lists) → old ≡ taken_up_to k ls → new ≡ set old k (behind_first (list_at old k)) → new ≡ taken_up_to (k + 1) ls
+taken_more k ls old new before now =
+    let next : suc k ≡ k + 1 = omega arith in
+    now ∙ (ap (λ (ms : Lists). set ms k (behind_first (list_at ms k))) before ∙ (one_taken k ls ∙ ap (λ (n : ℕ). taken_up_to n ls) next))
+
+pub taken_none : (ls : Lists) → ls ≡ taken_up_to 0 ls
+unfolding taken_up_to
+taken_none ls = refl
+
+all_taken : (ls : Lists) → taken_up_to (length ls) ls ≡ map behind_first ls
+unfolding taken_up_to
+all_taken [] = refl
+all_taken (l ∷ ls) = ap (λ (ms : Lists). behind_first l ∷ ms) (all_taken ls)
+
+pub taken_all : (k : ℕ) (ls now : Lists) → k ≡ length ls → now ≡ taken_up_to k ls → now ≡ map behind_first ls
+taken_all k ls now end is = is ∙ (ap (λ (n : ℕ). taken_up_to n ls) end ∙ all_taken ls)
+
+-- a message of a source was taken, or it had none
+pub one_behind : (old new : Lists) (k : ℕ) (m : Message) → list_at old k ≡ m ∷ list_at new k → new ≡ set old k (list_at new k) → new ≡ set old k (behind_first (list_at old k))
+one_behind old new k m front rest = rest ∙ ap (set old k) (sym (ap behind_first front))
+
+pub none_behind : (old new : Lists) (k : ℕ) → list_at old k ≡ [] → new ≡ old → new ≡ set old k (behind_first (list_at old k))
+none_behind old new k none same = same ∙ (sym (set-get_or old k []) ∙ ap (set old k) (none ∙ sym (ap behind_first none)))
 
 -- ---- sources, node by node
 

@@ -1,5 +1,5 @@
 -- Sources that are fed to a network, each message of a source behind the one before it.
-use Rattle.std.specs.Prelude.{ℕ, ◌≡◌, ◌<◌, List, ◌∷◌, ◌++◌, length, sum_by}
+use Rattle.std.specs.Prelude.{ℕ, ◌≡◌, ◌<◌, List, ◌∷◌, ◌++◌, length, sum_by, []}
 use Rattle.cedr_base.specs.declared.change.Message.{Message}
 use Rattle.cedr_base.specs.Messages.{IsLegal}
 use Rattle.cedr_laws.specs.Lists.{Lists, list_at}
@@ -27,6 +27,11 @@ pub record AreSources (nodes : List PlanNode) (whole : Lists) : Type 0 where
 -- how many messages are left
 abbrev pub left_count : Lists → ℕ
 left_count left = sum_by (λ (ms : List Message). length ms) left
+
+-- a list without its first message
+abbrev pub behind_first : List Message → List Message
+behind_first [] = []
+behind_first (m ∷ ms) = ms
 
 -- nothing waits on any port of a network
 abbrev pub IsSettledAt : List PlanNode → SerialNet → Type 0

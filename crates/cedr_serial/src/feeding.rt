@@ -1,7 +1,7 @@
-ghost use Rattle.std.specs.Prelude.{ℕ, ◌≡◌, ◌<◌, ◌∷◌, [], List, true, false, OnOk, IfOk, IfSome, IfNone, length, slice_set};
+ghost use Rattle.std.specs.Prelude.{ℕ, ◌≡◌, ◌<◌, ◌∷◌, [], List, true, false, OnOk, IfOk, IfSome, IfNone, length, map, slice_set};
 ghost use Rattle.cedr_laws.specs.Lists.{Lists, list_at};
 ghost use Rattle.cedr_plan.specs.declared.plan.PlanNode.{PlanNode};
-ghost use Rattle.cedr_serial.specs.Feeding.{FeedStands, IsSettledAt, left_count};
+ghost use Rattle.cedr_serial.specs.Feeding.{FeedStands, IsSettledAt, behind_first, left_count};
 
 use cedr_base::{Message, OutOfMemory};
 use cedr_net::SerialNet;
@@ -62,6 +62,7 @@ fn feed_one(
     ensures stands { OnOk result ((nodes : List PlanNode) (whole : Lists) → FeedStands nodes net.old remaining.old.items whole → place < length nodes → FeedStands nodes net.new remaining.new.items whole) }
     ensures fed { IfOk result (λ fed. fed ≡ true → left_count remaining.new.items < left_count remaining.old.items) }
     ensures none { IfOk result (λ fed. fed ≡ false → (list_at remaining.old.items place ≡ []) × (remaining.new.items ≡ remaining.old.items)) }
+    ensures taken { OnOk result (remaining.new.items ≡ slice_set remaining.old.items place (behind_first (list_at remaining.old.items place))) }
 {
     match pop_at(remaining, place) {
         None => Ok(false),
@@ -82,6 +83,7 @@ fn feed_each(
     ensures stands { OnOk result ((nodes : List PlanNode) (whole : Lists) → FeedStands nodes net.old remaining.old.items whole → FeedStands nodes net.new remaining.new.items whole) }
     ensures fed { IfOk result (λ fed. fed ≡ true → left_count remaining.new.items < left_count remaining.old.items) }
     ensures none { IfOk result (λ fed. fed ≡ false → (k : ℕ) → list_at remaining.new.items k ≡ []) }
+    ensures taken { OnOk result (remaining.new.items ≡ map behind_first remaining.old.items) }
 {
     let mut fed = false;
     for place in 0..remaining.len() {
@@ -101,6 +103,7 @@ pub fn feed_round(
     ensures stands { OnOk result ((nodes : List PlanNode) (whole : Lists) → FeedStands nodes net.old remaining.old.items whole → FeedStands nodes net.new remaining.new.items whole × IsSettledAt nodes net.new) }
     ensures fed { IfOk result (λ fed. fed ≡ true → left_count remaining.new.items < left_count remaining.old.items) }
     ensures none { IfOk result (λ fed. fed ≡ false → (k : ℕ) → list_at remaining.new.items k ≡ []) }
+    ensures taken { OnOk result (remaining.new.items ≡ map behind_first remaining.old.items) }
 {
     let fed = feed_each(alloc, net, remaining)?;
     match net.settle(alloc) {

@@ -1,7 +1,15 @@
-use Rattle.std.proofs.Common.{length, ap, arith}
+use Rattle.std.proofs.Common.{refl, length, ap, arith}
 use Rattle.cedr_laws.specs.Lists.{Lists}
-use Rattle.cedr_serial.proofs.FeedLemmas.{fed_either, none_either, none_left}
+use Rattle.cedr_serial.proofs.FeedLemmas.{fed_either, none_either, none_left, taken_none, taken_more, taken_all}
 use Rattle.cedr_serial.proofs.feeding.feed_each.Goals as goal
+
+pub loop-place-init : goal.loop-place-init
+loop-place-init c = record {
+  stands = λ nodes whole f. f;
+  fed = λ is. absurd (let e = is in cc);
+  none = λ isnt. (refl, λ k within. absurd (omega arith));
+  taken = taken_none c.args.remaining.now.items;
+}
 
 pub feed_one-requires : goal.feed_one-requires
 feed_one-requires c =
@@ -18,6 +26,7 @@ loop-place-preserved c =
     record {
       stands = λ nodes whole f. now.stands nodes whole (inv.stands nodes whole f) (omega (arith, f.fed.count, c.loop-place-test.true, c.len-place-end.ensures));
       fed = fed_either c.loop-place.fed c.in_ok-fed.field-0 first old new inv.fed (λ isnt. (inv.none isnt).0) now.fed (λ isnt. (now.none isnt).1);
+      taken = taken_more c.loop-place.place first old new inv.taken now.taken;
       none = none_either c.loop-place.fed c.in_ok-fed.field-0 first old new c.loop-place.place inv.none now.none;
     }
 
@@ -25,3 +34,6 @@ pub returns-clause-none : goal.returns-clause-none
 returns-clause-none c = λ isnt k.
     let n = c.loop-place.invariant.none isnt in
     none_left c.loop-place.remaining.items c.loop-place.place k (omega (arith, ap (λ (ls : Lists). length ls) n.0, c.loop-place-test.false, c.len-place-end.ensures)) n.1
+
+pub returns-clause-taken : goal.returns-clause-taken
+returns-clause-taken c = taken_all c.loop-place.place c.args.remaining.now.items c.loop-place.remaining.items (omega (arith, c.loop-place-test.false, c.loop-place.auto.place-end, c.len-place-end.ensures)) c.loop-place.invariant.taken

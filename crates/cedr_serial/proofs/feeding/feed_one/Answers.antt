@@ -1,6 +1,6 @@
 use Rattle.std.proofs.Common.{[], ◌∷◌}
 use Rattle.cedr_laws.specs.Lists.{with_more}
-use Rattle.cedr_serial.proofs.FeedLemmas.{next_source, next_may_come, fed_on}
+use Rattle.cedr_serial.proofs.FeedLemmas.{next_source, next_may_come, fed_on, one_behind, none_behind}
 use Rattle.cedr_serial.proofs.feeding.feed_one.Goals as goal
 
 pub feed-requires : goal.feed-requires
@@ -34,3 +34,13 @@ returns-in-Ok-clause-stands c = λ nodes whole f within.
           (next_source nodes f.given left now whole place m f.fed within some.0 some.1) (next_may_come nodes f.given left now whole place m f.fed within some.0 some.1);
       fed = fed_on nodes f.given left now whole place m f.fed within some.0 some.1 f.stands.stands.flows.given_count;
     }
+
+pub returns-in-None-clause-taken : goal.returns-in-None-clause-taken
+returns-in-None-clause-taken c =
+    let none = c.in-None.ensures.none in
+    none_behind c.args.remaining.now.items c.pop_at.new.remaining.items c.args.place none.0 none.1
+
+pub returns-in-Ok-clause-taken : goal.returns-in-Ok-clause-taken
+returns-in-Ok-clause-taken c =
+    let some = c.in-Some.ensures.some in
+    one_behind c.args.remaining.now.items c.pop_at.new.remaining.items c.args.place c.in-Some.message some.0 some.1
