@@ -13,7 +13,7 @@ use Rattle.cedr_net.proofs.FlowLemmas.{same_or_not}
 use Rattle.cedr_net.proofs.SettleLemmas.{fewer}
 use Rattle.cedr_net.proofs.FedLemmas.{source_here}
 use Rattle.op_planned.specs.Ready.{is_source}
-use Rattle.cedr_serial.specs.Feeding.{AreFed, AreSources, behind_first, left_count}
+use Rattle.cedr_serial.specs.Feeding.{AreFed, behind_first, left_count}
 
 -- the next message of a source
 module _ (nodes : List PlanNode) (given left left' whole : Lists) (place : ℕ) (m : Message) (h : AreFed nodes given left whole) (within : place < length nodes)
@@ -163,13 +163,6 @@ pub record SourcesUpTo (nodes : List PlanNode) (place : ℕ) (whole : Lists) : T
   pub legal : (k : ℕ) → IsLegal (list_at whole k)
   pub others : (k : ℕ) (m : Message) (more : List Message) → list_at whole k ≡ m ∷ more → IsSourceAt nodes k
 
-pub sources_none : (nodes : List PlanNode) (whole : Lists) → whole ≡ [] → SourcesUpTo nodes 0 whole
-sources_none nodes whole none = record {
-  count = ap length none;
-  legal = λ k. subst (λ (ls : Lists). IsLegal (list_at ls k)) (sym none) tt;
-  others = λ k m more e. absurd (let x = ap (λ (ls : Lists). list_at ls k) none in cc);
-}
-
 -- and so has one node more
 pub sources_push : (nodes : List PlanNode) (whole : Lists) (x : List Message) (n : PlanNode) (place : ℕ) → SourcesUpTo nodes place whole → place < length nodes → get_or nodes place n ≡ n → IsLegal x → (is_source n.kind ≡ false → x ≡ []) → SourcesUpTo nodes (place + 1) (whole ++ x ∷ [])
 sources_push nodes whole x n place h within here legal none = record {
@@ -183,6 +176,3 @@ sources_push nodes whole x n place h within here legal none = record {
   at : (b : Bool) → is_source n.kind ≡ b → (m : Message) (more : List Message) → x ≡ m ∷ more → IsSourceAt nodes place
   at true is m more e = source_here nodes place n within here is
   at false is m more e = absurd (let z = none is in cc)
-
-pub all_sources : (nodes : List PlanNode) (place : ℕ) (whole : Lists) → place ≡ length nodes → SourcesUpTo nodes place whole → AreSources nodes whole
-all_sources nodes place whole end h = record { count = h.count ∙ end; legal = h.legal; others = h.others }

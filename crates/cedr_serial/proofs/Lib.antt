@@ -1,3 +1,4 @@
 pub mod FeedLemmas
 pub mod TextLemmas
 pub mod RunLemmas
+pub mod SourceLemmas

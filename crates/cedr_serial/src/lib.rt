@@ -8,10 +8,12 @@
 mod answer;
 mod feeding;
 mod law;
+mod sources;
 
 pub use answer::{has_memory, write_answer};
 pub use feeding::{Remaining, feed_all, feed_round};
 pub use law::fed_sources;
+pub use sources::{FaultySource, SourcesFault, read_sources};
 
 #[cfg(test)]
 mod tests;

@@ -1,19 +1,14 @@
-ghost use Rattle.std.specs.Prelude.{◌≡◌, [], false, IfOk, OnOk};
-ghost use Rattle.cedr_base.specs.Messages.{IsLegal};
-ghost use Rattle.cedr_plan.specs.Rules.{IsPlan};
+ghost use Rattle.std.specs.Prelude.{◌<◌, IfOk};
+ghost use Rattle.cedr_io.specs.Counts.{last_count};
 ghost use Rattle.cedr_laws.specs.Lists.{Lists};
-ghost use Rattle.op_planned.specs.Ready.{is_source};
+ghost use Rattle.cedr_plan.specs.Rules.{IsPlan};
 ghost use Rattle.cedr_serial.specs.Feeding.{AreSources, IsWholeRun};
 
 use super::*;
-use cedr_base::FieldType;
-use cedr_guard::message_laws;
-use cedr_io::MemSource;
+use cedr_io::{Files, MemFiles};
 use cedr_net::SerialNet;
 use cedr_plan::{Plan, PlanNode, read_plan};
-use cedr_source::read_messages;
-use cedr_text::Shape;
-use op_planned::is_source;
+use cedr_text::LineFault;
 use std::alloc::Global;
 use std::test::Fail;
 
@@ -51,67 +46,34 @@ fn plan(alloc: Global, text: &str) -> Result<Plan, Fail>
     Ok(read_plan(alloc, text.as_bytes())?)
 }
 
-/// All messages of a source of one text field.
-fn messages(alloc: Global, lines: &str) -> Result<Remaining, Fail>
-    ensures { IfOk result IsLegal }
-{
-    message_laws();
-    let mut types = Vec::new(alloc);
-    types.push(FieldType::Bytes)?;
-    let mut source = MemSource::new(Vec::from_slice(alloc, lines.as_bytes())?);
-    let messages = read_messages(alloc, Shape::Fields(types), &mut source)?;
-    Ok(Remaining::new(messages))
-}
-
-/// What a node has to give: these lines, where it is a source.
-fn source(alloc: Global, node: &PlanNode, lines: &str) -> Result<Remaining, Fail>
-    ensures legal { IfOk result IsLegal }
-    ensures none { IfOk result (λ left. is_source node.now.kind ≡ false → left ≡ []) }
-{
-    if is_source(&node.kind) {
-        return messages(alloc, lines);
-    }
-    Ok(Remaining::new(Vec::new(alloc)))
-}
-
-/// The lines at a place, or none.
-fn lines_at(lines: &[&'static str], place: usize) -> &'static str {
-    match lines.get(place) {
-        Some(lines) => lines,
-        None => "",
-    }
-}
-
-/// What each node has to give: the sources, which stand first, these lines.
-fn sources(
-    alloc: Global,
-    nodes: &[PlanNode],
-    lines: &[&'static str],
-) -> Result<Vec<Remaining>, Fail>
+/// What each node of a plan has to give, where all sources are accepted.
+fn read(alloc: Global, nodes: &[PlanNode], files: &mut MemFiles) -> Result<Vec<Remaining>, Fail>
+    requires { ⟦<MemFiles as Files>⟧.faults files.old < last_count }
     ensures { IfOk result (λ left. AreSources nodes.now left.items) }
 {
-    let mut left = Vec::new(alloc);
-    for place in 0..nodes.len() {
-        let one = source(alloc, &nodes[place], lines_at(lines, place))?;
-        left.push(one)?;
+    match read_sources(alloc, nodes, files) {
+        Ok(left) => Ok(left),
+        Err(_) => Err("a source isn't accepted, or wasn't read")?,
     }
-    Ok(left)
 }
 
-/// Feeds whole sources, which stand first in the plan, to its network.
-fn run(alloc: Global, text: &str, lines: &[&'static str]) -> Result<Ran, Fail>
+/// Feeds the sources of a plan to its network.
+fn run(alloc: Global, text: &str, files: &mut MemFiles) -> Result<Ran, Fail>
+    requires { ⟦<MemFiles as Files>⟧.faults files.old < last_count }
     ensures { IfOk result (λ ran. (whole : Lists) × IsWholeRun ran.plan.nodes.items ran.net whole) }
 {
     let plan = plan(alloc, text)?;
     let mut net = SerialNet::new(alloc, &plan)?;
-    let mut left = sources(alloc, plan.nodes.as_slice(), lines)?;
+    let mut left = read(alloc, plan.nodes.as_slice(), files)?;
     feed_all(alloc, &mut net, &mut left)?;
     Ok(Ran { plan, net })
 }
 
 /// What is written of the answer, with what was forgotten where the plan has a finite memory.
-fn answer(alloc: Global, text: &str, lines: &[&'static str]) -> Result<Vec<u8>, Fail> {
-    let ran = run(alloc, text, lines)?;
+fn answer(alloc: Global, text: &str, files: &mut MemFiles) -> Result<Vec<u8>, Fail>
+    requires { ⟦<MemFiles as Files>⟧.faults files.old < last_count }
+{
+    let ran = run(alloc, text, files)?;
     let nodes = ran.plan.nodes.as_slice();
     let mut out = Vec::new(alloc);
     write_answer(nodes, &ran.net, has_memory(nodes), &mut out)?;
@@ -121,18 +83,23 @@ fn answer(alloc: Global, text: &str, lines: &[&'static str]) -> Result<Vec<u8>, 
 #[test]
 fn equal_rows_are_joined_each(rt: HostRuntime) -> Result<(), Fail> {
     let alloc = rt.alloc();
-    let left = "+,1,1,10,a\n+,2,1,10,a\n";
-    let written = answer(alloc, JOIN, &[left, "+,1,5,20,b\n"])?;
+    let mut files = MemFiles::new(alloc);
+    files.add("l.csv", b"+,1,1,10,a\n+,2,1,10,a\n")?;
+    files.add("r.csv", b"+,1,5,20,b\n")?;
+    let written = answer(alloc, JOIN, &mut files)?;
     assert!(rt; written.as_slice() == b"5,10,a,b\n5,10,a,b\n".as_slice());
-    let written = answer(alloc, JOIN, &["+,1,1,10,a\n-,1,5\n", "+,1,5,20,b\n"])?;
-    assert!(rt; written.is_empty());
+    let [first, second] = files.asked() else {
+        return Err("two files are asked for")?;
+    };
+    assert!(rt; first.bytes() == b"l.csv".as_slice() && second.bytes() == b"r.csv".as_slice());
     Ok(())
 }
 
 #[test]
 fn what_was_forgotten_follows_the_rows(rt: HostRuntime) -> Result<(), Fail> {
-    let lines = "+,1,1,2,a\n+,2,20,30,b\n+,3,10,40,c\n-,3,25\n";
-    let written = answer(rt.alloc(), WEAK, &[lines])?;
+    let mut files = MemFiles::new(rt.alloc());
+    files.add("s.csv", b"+,1,1,2,a\n+,2,20,30,b\n+,3,10,40,c\n-,3,25\n")?;
+    let written = answer(rt.alloc(), WEAK, &mut files)?;
     let wanted = b"1,2,a\n20,30,b\n--\nout,0,late,20,+,10,40,c\nout,0,orphan,20,-,25,10,40,c\n";
     assert!(rt; written.as_slice() == wanted.as_slice());
     Ok(())
@@ -140,13 +107,43 @@ fn what_was_forgotten_follows_the_rows(rt: HostRuntime) -> Result<(), Fail> {
 
 #[test]
 fn a_restart_in_time_is_no_failure(rt: HostRuntime) -> Result<(), Fail> {
-    let installs = "+,1,1000,inf,m1\n+,2,2000,inf,m2\n";
-    let shutdowns = "+,1,5000,inf,m1\n+,2,6000,inf,m2\n";
-    let written = answer(
-        rt.alloc(),
-        PAPER,
-        &[installs, shutdowns, "+,1,5100,inf,m1\n"],
-    )?;
+    let mut files = MemFiles::new(rt.alloc());
+    files.add("install.csv", b"+,1,1000,inf,m1\n+,2,2000,inf,m2\n")?;
+    files.add("shutdown.csv", b"+,1,5000,inf,m1\n+,2,6000,inf,m2\n")?;
+    files.add("restart.csv", b"+,1,5100,inf,m1\n")?;
+    let written = answer(rt.alloc(), PAPER, &mut files)?;
     assert!(rt; written.as_slice() == b"6300,6301,m2,m2\n".as_slice());
+    Ok(())
+}
+
+#[test]
+fn each_faulty_source_is_told(rt: HostRuntime) -> Result<(), Fail> {
+    let alloc = rt.alloc();
+    let mut files = MemFiles::new(alloc);
+    files.add("l.csv", b"+,1,5,4,a\n")?;
+    files.add("r.csv", b"\n-,3,1\n")?;
+    let plan = plan(alloc, JOIN)?;
+    let Err(SourcesFault::Events(faulty)) = read_sources(alloc, plan.nodes.as_slice(), &mut files)
+    else {
+        return Err("both sources have a faulty line")?;
+    };
+    let [first, second] = faulty.as_slice() else {
+        return Err("two sources are faulty")?;
+    };
+    assert_eq!(rt; (first.place, first.refusal.line), (0, 1));
+    assert_eq!(rt; first.refusal.fault, LineFault::EmptyLife);
+    assert_eq!(rt; (second.place, second.refusal.line), (1, 2));
+    assert_eq!(rt; second.refusal.fault, LineFault::UnknownId);
+    Ok(())
+}
+
+#[test]
+fn a_file_that_is_not_there_comes_before_faulty_lines(rt: HostRuntime) -> Result<(), Fail> {
+    let alloc = rt.alloc();
+    let mut files = MemFiles::new(alloc);
+    files.add("l.csv", b"+,1,5,4,a\n")?;
+    let plan = plan(alloc, JOIN)?;
+    let read = read_sources(alloc, plan.nodes.as_slice(), &mut files);
+    assert!(rt; matches!(read, Err(SourcesFault::Read)));
     Ok(())
 }
