@@ -1,8 +1,8 @@
 //! A plan's answer over whole sources, on one thread.
 //!
-//! The messages of the sources are fed to the plan's network in rounds, one of each source, and it settles behind each
-//! round (`feed_round`, `feed_all`). `write_answer` writes the rows, and what ports forgot. `fed_sources` says that the
-//! lists that went over the network are then a run of the plan over the whole sources.
+//! `read_sources` reads all sources of a plan. Their messages are fed to the plan's network in rounds, one of each source,
+//! and it settles behind each round (`feed_round`, `feed_all`). `write_answer` writes the rows, and what ports forgot.
+//! `fed_sources` says that the lists that went over the network are then a run of the plan over the whole sources.
 #![tactic(auto)]
 
 mod answer;
