@@ -29,7 +29,7 @@ use Rattle.cedr_laws.proofs.Splits.{split, cuts_held}
 use Rattle.cedr_laws.proofs.Steps.{other, candidates, rest, held_after, passed_after, gained_count, count-both}
 use Rattle.cedr_laws.proofs.Strong.{gained_ascends}
 use Rattle.cedr_laws.proofs.Passes.{passes, broken_held, broken_passed}
-use Rattle.cedr_align.specs.Released.{IsSettled, is_missing, cause_at, own_of, other_of, when_kept}
+use Rattle.cedr_align.specs.Released.{IsSettled, is_missing, cause_at, own_of, other_of}
 use Rattle.cedr_align.specs.declared.aligner.Aligner.{Aligner}
 use Rattle.cedr_align.specs.declared.fate.Fate.{Fate}
 use Rattle.cedr_align.specs.Aligner.{Aligns, IsTaken, listed}
@@ -149,6 +149,11 @@ own_at level ms held0 (Add r) h k = (refl, refl)
 own_at level ms held0 (Cut a e) h k =
     let t = held_test_at level ms held0 a (holds level ms a) refl h (some_of (count_of a (kept_table level.memory ms)) k) in
     (ap (λ (b : Bool). cond b [] (Cut a e ∷ [])) t, ap (λ (b : Bool). cond b (Cut a e ∷ []) []) t)
+
+-- changes, where there is no cause to forget them
+abbrev pub when_kept : Option Cause → List Change → List Change
+when_kept None cs = cs
+when_kept (Some cause) cs = []
 
 own_when : (level : Level) (ms : List Message) (held0 : List Row) (c : Change) (cz : Option Cause) → cz ≡ cause_of level.memory (high_of ms) (kept level.memory ms) c → SameRows held0 (held level ms)
     → (when_kept cz (own_of held0 c) ≡ flat_map (cuts_passed level ms) (kept_alone cz c)) × (when_kept cz (other_of held0 c) ≡ flat_map (cuts_held level ms) (kept_alone cz c))

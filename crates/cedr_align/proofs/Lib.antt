@@ -1,3 +1,4 @@
 pub mod TurnLemmas
 pub mod MoveLemmas
+pub mod ThroughLemmas
 pub mod Aligned

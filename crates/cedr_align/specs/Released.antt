@@ -4,6 +4,7 @@ use Rattle.cedr_base.specs.declared.row.Row.{Row}
 use Rattle.cedr_base.specs.declared.change.Change.{Change}
 use Rattle.cedr_base.specs.declared.change.Change.TheVariants.{Add, Cut}
 use Rattle.cedr_base.specs.Rows.{count_of, SameRows}
+use Rattle.cedr_base.specs.Changes.{all_puts, all_takes}
 use Rattle.cedr_laws.specs.declared.forgotten.Cause.{Cause}
 use Rattle.cedr_laws.specs.declared.forgotten.Cause.TheVariants.{Late, Orphan}
 use Rattle.cedr_laws.specs.Kept.{is_late}
@@ -11,6 +12,7 @@ use Rattle.cedr_base.specs.declared.change.Message.{Message}
 use Rattle.cedr_laws.specs.Surplus.{Ascend}
 use Rattle.cedr_laws.specs.Pass.{front_at, additions}
 use Rattle.cedr_laws.specs.Lists.{mark_above}
+use Rattle.cedr_stream.specs.Repairs.{wrapped}
 
 -- the rows that needn't wait, in canonical order
 pub record IsReleased (stays : Row → Bool) (rows released : List Row) : Type 0 where
@@ -42,6 +44,19 @@ pub record IsSettled (stays : Row → Bool) (ended : Bool) (mark before : ℕ) (
   pub passed_are : SameRows passed' (passed ++ released)
   pub out_is : out' ≡ out ++ (additions released ++ mark_above before (front_at ended mark held'))
 
-abbrev pub when_kept : Option Cause → List Change → List Change
-when_kept None cs = cs
-when_kept (Some cause) cs = []
+-- an addition of a row that needn't wait, where none waits
+abbrev pub GoesThrough : (Row → Bool) → List Row → Change → Type 0
+GoesThrough stays held (Add r) = (held ≡ []) × (stays r ≡ false)
+GoesThrough stays held (Cut r e) = ⊥
+
+-- A change was applied to the rows that wait, or to those that passed and then passed on; between this and what follows
+-- stand other rows and messages. Then the rows that needn't wait any longer passed, and a mark where the front is above
+-- the one before the change.
+pub record IsKeptAndSettled (stays : Row → Bool) (ended : Bool) (mark : ℕ) (c : Change) (held passed : List Row) (out : List Message) (held' passed' : List Row) (out' : List Message) : Type 0 where
+  pub held_between : List Row
+  pub passed_between : List Row
+  pub out_between : List Message
+  pub held_moved : SameRows (held_between ++ all_takes (other_of held c)) (held ++ all_puts (other_of held c))
+  pub passed_moved : SameRows (passed_between ++ all_takes (own_of held c)) (passed ++ all_puts (own_of held c))
+  pub out_is : out_between ≡ out ++ wrapped (own_of held c)
+  pub settled : IsSettled stays ended mark (front_at ended mark held) held_between passed_between out_between held' passed' out'

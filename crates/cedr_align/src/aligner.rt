@@ -7,8 +7,8 @@ ghost use Rattle.cedr_laws.specs.Pass.{front, IsLevel};
 
 use crate::fate::Fate;
 use crate::held::Held;
-use crate::keep::{find_cause, keep_unless};
-use crate::settle::{front_of, settle};
+use crate::keep::find_cause;
+use crate::settle::{front_of, keep_and_settle, settle};
 use cedr_base::{Change, Level, Message, OutOfMemory, Time};
 use cedr_laws::Forgotten;
 use cedr_table::Table;
@@ -73,28 +73,42 @@ impl Aligner {
         ensures kept { take (length out.old.items) out.new.items ≡ out.old.items }
     {
         let high = self.high;
-        let before = front_of(self.ended, self.mark, &self.held);
         let cause = find_cause(self.level.memory, high, &self.held, &self.passed, &change);
         self.high = high.max(change.sync());
-        keep_unless(alloc, cause, &mut self.held, &mut self.passed, &change, out)?;
-        settle(
-            alloc,
-            self.level.block,
-            self.ended,
-            self.mark,
-            self.high,
-            before,
-            &mut self.held,
-            &mut self.passed,
-            out,
-        )?;
         match cause {
-            None => Ok(Fate::Kept),
-            Some(cause) => Ok(Fate::Forgotten(Forgotten {
-                change,
-                cause,
-                high,
-            })),
+            None => {
+                keep_and_settle(
+                    alloc,
+                    self.level.block,
+                    self.ended,
+                    self.mark,
+                    self.high,
+                    &mut self.held,
+                    &mut self.passed,
+                    change,
+                    out,
+                )?;
+                Ok(Fate::Kept)
+            }
+            Some(cause) => {
+                let before = front_of(self.ended, self.mark, &self.held);
+                settle(
+                    alloc,
+                    self.level.block,
+                    self.ended,
+                    self.mark,
+                    self.high,
+                    before,
+                    &mut self.held,
+                    &mut self.passed,
+                    out,
+                )?;
+                Ok(Fate::Forgotten(Forgotten {
+                    change,
+                    cause,
+                    high,
+                }))
+            }
         }
     }
 

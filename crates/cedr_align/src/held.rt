@@ -1,4 +1,4 @@
-ghost use Rattle.std.specs.Prelude.{ℕ, ◌≡◌, ◌<◌, ◌++◌, ◌∷◌, [], List, Option, not, filter, replicate, IfOk, OnOk};
+ghost use Rattle.std.specs.Prelude.{ℕ, ◌≡◌, ◌<◌, ◌++◌, ◌∷◌, [], List, Option, not, filter, replicate, IfOk, OnOk, MatchBool, ◌≢◌};
 ghost use Rattle.cedr_base.specs.declared.row.Row.{Row};
 ghost use Rattle.cedr_base.specs.Rows.{count_of, SameRows};
 ghost use Rattle.cedr_base.specs.Changes.{puts, takes};
@@ -44,6 +44,13 @@ fn has_passed(block: Option<u64>, high: Time, begin: Time) -> bool
     }
 }
 
+/// A row must wait: the mark hasn't passed its end, nor the block its begin, and the list hasn't ended.
+pub(crate) fn must_wait(block: Option<u64>, ended: bool, mark: Time, high: Time, row: &Row) -> bool
+    ensures { result ≡ is_held block ended mark high row.now }
+{
+    !ended && row.end >= mark && !has_passed(block, high, row.begin)
+}
+
 /// The row with its begin and its end exchanged.
 fn turn(row: Row) -> Row
     ensures { result ≡ turned row }
@@ -64,6 +71,13 @@ impl Held {
             by_end: Table::new(alloc),
             by_begin: Table::new(alloc),
         }
+    }
+
+    /// Whether no row waits. It takes no memory. O(1).
+    pub(crate) fn is_empty(&self) -> bool
+        ensures { MatchBool result (self.now ≡ []) (self.now ≢ []) }
+    {
+        self.by_end.len() == 0
     }
 
     /// How many copies of a row wait.

@@ -4,7 +4,7 @@ ghost use Rattle.cedr_base.specs.declared.change.Message.TheVariants as message;
 ghost use Rattle.cedr_base.specs.Changes.{puts, takes, all_puts, all_takes};
 ghost use Rattle.cedr_stream.specs.Repairs.{wrapped};
 ghost use Rattle.cedr_laws.specs.Kept.{is_late};
-ghost use Rattle.cedr_align.specs.Released.{own_of, other_of, when_kept, cause_at};
+ghost use Rattle.cedr_align.specs.Released.{own_of, other_of, cause_at};
 
 use crate::held::Held;
 use cedr_base::{Change, Message, OutOfMemory, Time};
@@ -48,65 +48,43 @@ pub(crate) fn find_cause(
     }
 }
 
-/// Applies a retraction to the passed rows, and passes it on.
-fn cut_passed(
-    alloc: Global,
+/// Applies a change to the rows that passed, and passes it on.
+pub(crate) fn pass_on(
     passed: &mut Table,
-    change: &Change,
+    change: Change,
     out: &mut Vec<Message>,
 ) -> Result<(), OutOfMemory>
-    ensures passed { OnOk result (SameRows (passed.new ++ takes change.now) (passed.old ++ puts change.now)) }
-    ensures out { OnOk result (out.new.items ≡ out.old.items ++ message.Change change.now ∷ []) }
+    ensures passed { OnOk result (SameRows (passed.new ++ takes change) (passed.old ++ puts change)) }
+    ensures out { OnOk result (out.new.items ≡ out.old.items ++ message.Change change ∷ []) }
     ensures kept { take (length out.old.items) out.new.items ≡ out.old.items }
 {
-    if passed.apply(change).is_err() {
+    if passed.apply(&change).is_err() {
         return Err(OutOfMemory);
     }
-    let copied = change.copy(alloc)?;
-    out.push(Message::Change(copied))?;
+    out.push(Message::Change(change))?;
     Ok(())
 }
 
-/// Applies a kept change to the held rows or to the passed ones, and passes it on there.
-fn keep(
+/// Applies a change that isn't forgotten to the held rows, or to the passed ones and passes it on there.
+pub(crate) fn keep(
     alloc: Global,
     held: &mut Held,
     passed: &mut Table,
-    change: &Change,
+    change: Change,
     out: &mut Vec<Message>,
 ) -> Result<(), OutOfMemory>
-    ensures held { OnOk result (SameRows (held.new ++ all_takes (other_of held.old change.now)) (held.old ++ all_puts (other_of held.old change.now))) }
-    ensures passed { OnOk result (SameRows (passed.new ++ all_takes (own_of held.old change.now)) (passed.old ++ all_puts (own_of held.old change.now))) }
-    ensures out { OnOk result (out.new.items ≡ out.old.items ++ wrapped (own_of held.old change.now)) }
+    ensures held { OnOk result (SameRows (held.new ++ all_takes (other_of held.old change)) (held.old ++ all_puts (other_of held.old change))) }
+    ensures passed { OnOk result (SameRows (passed.new ++ all_takes (own_of held.old change)) (passed.old ++ all_puts (own_of held.old change))) }
+    ensures out { OnOk result (out.new.items ≡ out.old.items ++ wrapped (own_of held.old change)) }
     ensures kept { take (length out.old.items) out.new.items ≡ out.old.items }
 {
-    match change {
-        Change::Add(_) => held.apply(alloc, change),
+    match &change {
+        Change::Add(_) => held.apply(alloc, &change),
         Change::Cut(row, _) => {
             if held.count(row) > 0 {
-                return held.apply(alloc, change);
+                return held.apply(alloc, &change);
             }
-            cut_passed(alloc, passed, change, out)
+            pass_on(passed, change, out)
         }
-    }
-}
-
-/// The same, where there is no cause to forget the change.
-pub(crate) fn keep_unless(
-    alloc: Global,
-    cause: Option<Cause>,
-    held: &mut Held,
-    passed: &mut Table,
-    change: &Change,
-    out: &mut Vec<Message>,
-) -> Result<(), OutOfMemory>
-    ensures held { OnOk result (SameRows (held.new ++ all_takes (when_kept cause (other_of held.old change.now))) (held.old ++ all_puts (when_kept cause (other_of held.old change.now)))) }
-    ensures passed { OnOk result (SameRows (passed.new ++ all_takes (when_kept cause (own_of held.old change.now))) (passed.old ++ all_puts (when_kept cause (own_of held.old change.now)))) }
-    ensures out { OnOk result (out.new.items ≡ out.old.items ++ wrapped (when_kept cause (own_of held.old change.now))) }
-    ensures kept { take (length out.old.items) out.new.items ≡ out.old.items }
-{
-    match cause {
-        None => keep(alloc, held, passed, change, out),
-        Some(_) => Ok(()),
     }
 }

@@ -155,6 +155,36 @@ fn a_middle_port_passes_at_once(rt: HostRuntime) -> Result<(), Fail> {
 }
 
 #[test]
+fn a_row_goes_through_where_none_waits(rt: HostRuntime) -> Result<(), Fail> {
+    let alloc = rt.alloc();
+    let level = Level {
+        block: Some(5),
+        memory: None,
+    };
+    let mut aligner = Aligner::new(level, alloc);
+    let (none, _) = take(alloc, &mut aligner, Told::Add(1, 0, 30))?;
+    assert_eq!(rt; none.len(), 0);
+    let (released, _) = take(alloc, &mut aligner, Told::Add(2, 6, 30))?;
+    assert_eq!(rt; released.as_slice(), [Told::Add(1, 0, 30)].as_slice());
+    let (alone, _) = take(alloc, &mut aligner, Told::Add(3, 1, 40))?;
+    assert_eq!(rt; alone.as_slice(), [Told::Add(3, 1, 40)].as_slice());
+    let (mark, _) = take(alloc, &mut aligner, Told::Mark(6))?;
+    assert_eq!(rt; mark.as_slice(), [Told::Mark(6)].as_slice());
+    let (shorter, _) = take(alloc, &mut aligner, Told::Cut(2, 6, 30, 12))?;
+    assert_eq!(rt; shorter.as_slice(), [Told::Add(2, 6, 12)].as_slice());
+    let (through, _) = take(alloc, &mut aligner, Told::Add(4, 7, 50))?;
+    assert_eq!(rt; through.as_slice(), [Told::Add(4, 7, 50)].as_slice());
+    let (waits, _) = take(alloc, &mut aligner, Told::Add(5, 8, 50))?;
+    assert_eq!(rt; (waits.len(), aligner.front()), (0, 6));
+    let (cut, _) = take(alloc, &mut aligner, Told::Cut(4, 7, 50, 20))?;
+    assert_eq!(rt;
+        cut.as_slice(),
+        [Told::Cut(4, 7, 50, 20), Told::Add(5, 8, 50)].as_slice()
+    );
+    Ok(())
+}
+
+#[test]
 fn many_rows_are_held_and_released_in_order(rt: HostRuntime) -> Result<(), Fail> {
     let alloc = rt.alloc();
     let mut aligner = Aligner::new(STRONG, alloc);

@@ -1,22 +1,22 @@
 use Rattle.std.proofs.Common.{◌∙◌, sym, ap, refl, max, ℕ}
-use Rattle.std.specs.Prelude.{Option}
-use Rattle.cedr_laws.specs.declared.forgotten.Cause.{Cause}
-use Rattle.cedr_laws.specs.Kept.{forgotten_alone}
+use Rattle.std.specs.Prelude.{Some, None}
+use Rattle.std.proofs.lemmas.List.{append-nil}
+use Rattle.cedr_stream.proofs.BagSums.{same_itself}
 use Rattle.cedr_align.proofs.Aligned.{changed}
 use Rattle.cedr_align.proofs.aligner.Aligner.take_change.Goals as goal
 
-pub returns-in-None-clause-taken : goal.returns-in-None-clause-taken
-returns-in-None-clause-taken c = λ ms al may.
-    let k = c.in_ok-keep_unless.ensures in
-    changed _ _ ms c.args.change c.find_cause-cause.result _ c.front_of-before.result c.keep_unless.new.held c.keep_unless.new.passed c.args.out.now.items c.keep_unless.new.out.items c.settle.new.out.items
-    al may c.front_of-before.ensures c.find_cause-cause.ensures k.held k.passed k.out c.in_ok-settle.ensures.settled refl refl refl
+pub returns-in_ok-keep_and_settle-in-None-clause-taken : goal.returns-in_ok-keep_and_settle-in-None-clause-taken
+returns-in_ok-keep_and_settle-in-None-clause-taken c = λ ms al may.
+    let k = c.in_ok-keep_and_settle-in-None.ensures.settled in
+    changed _ _ ms c.args.change None _ _ k.held_between k.passed_between c.args.out.now.items k.out_between c.keep_and_settle.new.out.items
+    al may refl (sym c.in-None.is ∙ c.find_cause-cause.ensures) k.held_moved k.passed_moved k.out_is k.settled refl refl refl
     (c.max-self.ensures ∙ ap (λ (n : ℕ). max c.args.self.now.high n) c.sync.ensures)
-    (ap (λ (z : Option Cause). forgotten_alone z c.args.self.now.high c.args.change) (sym c.in-None.is))
+    refl
 
-pub returns-in-Some-clause-taken : goal.returns-in-Some-clause-taken
-returns-in-Some-clause-taken c = λ ms al may.
-    let k = c.in_ok-keep_unless.ensures in
-    changed _ _ ms c.args.change c.find_cause-cause.result _ c.front_of-before.result c.keep_unless.new.held c.keep_unless.new.passed c.args.out.now.items c.keep_unless.new.out.items c.settle.new.out.items
-    al may c.front_of-before.ensures c.find_cause-cause.ensures k.held k.passed k.out c.in_ok-settle.ensures.settled refl refl refl
-    (c.max-self.ensures ∙ ap (λ (n : ℕ). max c.args.self.now.high n) c.sync.ensures)
-    (ap (λ (z : Option Cause). forgotten_alone z c.args.self.now.high c.args.change) (sym c.in-Some.is))
+pub returns-in_ok-settle-in-Some-clause-taken : goal.returns-in_ok-settle-in-Some-clause-taken
+returns-in_ok-settle-in-Some-clause-taken c = λ ms al may.
+    let me = c.args.self.now in
+    changed _ _ ms c.args.change (Some c.in-Some.cause) _ c.front_of-before.result me.held me.passed c.args.out.now.items c.args.out.now.items c.settle.new.out.items
+    al may c.front_of-before.ensures (sym c.in-Some.is ∙ c.find_cause-cause.ensures) (same_itself _) (same_itself _) (sym (append-nil c.args.out.now.items)) c.in_ok-settle-in-Some.ensures.settled refl refl refl
+    (c.max-self.ensures ∙ ap (λ (n : ℕ). max me.high n) c.sync.ensures)
+    refl
