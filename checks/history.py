@@ -25,11 +25,11 @@ EVENT = b"+,1,1,2,a\n"
 # A file has the name that it is asked for by, blanks at its ends and all.
 FILES = {"e.csv": EVENT, "e.csv ": b"+,1,3,4,b\n", " e.csv": b"x\n", "\u00e9 ,\".csv": b"x\n"}
 
-# The words that match no command. What the usage line names and isn't built is among them.
+# Words that match no command.
 NO_COMMAND = [
     [], [b"history"], [b"history", b"e.csv", b"e.csv"], [b"history", b"e.csv", b""], [b"e.csv"], [b"", b"e.csv"],
-    [b"History", b"e.csv"], [b"hist", b"e.csv"], [b"run", b"x"], [b"--help", b"history"], [b"--version", b"--help"],
-    [b"history", b"\xff"], [b"\xff", b"e.csv"],
+    [b"History", b"e.csv"], [b"hist", b"e.csv"], [b"running", b"x"], [b"make", b"0"], [b"--help", b"history"],
+    [b"--version", b"--help"], [b"history", b"\xff"], [b"\xff", b"e.csv"],
 ]
 
 COMMAND_LINES = [(words, 1, b"", USAGE) for words in NO_COMMAND] + [
@@ -59,7 +59,7 @@ def check_command_lines(check: Check) -> int:
         check.write(name, data)
     for words, *expected in COMMAND_LINES:
         check.compare(f"the words {words}", b"", tuple(expected), check.run(words))
-    for word, part in ((b"--help", b"history FILE"), (b"--help", b"check PLAN"), (b"--version", b"cedr ")):
+    for word, part in ((b"--help", b"history FILE"), (b"--help", b"live PLAN SCRIPT"), (b"--version", b"cedr ")):
         status, out, err = check.run([word])
         told = part in out if word == b"--help" else out.startswith(part)
         check.compare(f"the word {word}", b"", (0, True, b""), (status, told, err))
@@ -95,7 +95,7 @@ def check_limited_output(check: Check) -> int:
 def check_refused_read(check: Check) -> int:
     """A read that is refused behind one that gave a line."""
     try:
-        came = terminal.refused_history(check.program, check.folder)
+        came = terminal.refused_read(check.program, check.folder, ["history", terminal.NAME])
     except terminal.NoTerminal as reason:
         print(f"history: a read that fails in the middle is skipped: there is no terminal ({reason})")
         return 0

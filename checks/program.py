@@ -57,8 +57,8 @@ class Check:
     def write(self, name: str, data: bytes) -> None:
         (self.folder / name).write_bytes(data)
 
-    def compare(self, name: str, data: bytes, expected: tuple, came: tuple) -> None:
-        """Counts a difference, and shows it and keeps its file where it is among the first."""
+    def compare(self, name: str, data, expected: tuple, came: tuple) -> None:
+        """Counts a difference, and shows it and keeps what it came of where it is among the first."""
         if expected == came:
             return
         self.differences += 1
@@ -66,11 +66,14 @@ class Check:
             return
         self.kept = self.kept or Path(tempfile.mkdtemp(prefix="cedr-differences-"))
         place = self.kept / str(self.differences)
-        place.with_suffix(self.suffix).write_bytes(data)
-        print(f"DIFFERENCE {self.differences}: {name}; the file is {place}{self.suffix}")
+        print(f"DIFFERENCE {self.differences}: {name}; {self.keep(data, place)}", flush=True)
         for title, answer in (("expected", expected), ("came", came)):
             place.with_suffix(f".{title}").write_bytes(answer[1])
             print(f"  {title}: status {answer[0]}, err {shown(answer[2])}, out {shown(answer[1])}")
+
+    def keep(self, data: bytes, place: Path) -> str:
+        place.with_suffix(self.suffix).write_bytes(data)
+        return f"the file is {place}{self.suffix}"
 
 
 def limit_files(size: int) -> None:

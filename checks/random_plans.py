@@ -64,11 +64,13 @@ class Maker:
         for _ in range(self.rng.choice([0, 1, 1, 2, 3, 4, 6])):
             self.operator(self.rng.choice(OPERATORS))
         while len(self.unused) > 1:
-            ports = self.unused[:2]
-            self.add("unless", ports, self.types[ports[0]], scope=60, hold=1, where=self.tests(ports))
+            self.merge(self.unused[:2])
         self.add("output", self.unused[:1], [])
         edge = {"edge": self.rng.choice([1, 64, 1_024])} if self.rng.random() < 0.2 else {}
         return self.mixed({"version": 1, **edge, "nodes": self.nodes})
+
+    def merge(self, ports: list) -> None:
+        self.add("unless", ports, self.types[ports[0]], scope=60, hold=1, where=self.tests(ports))
 
     def mixed(self, members: dict) -> dict:
         return dict(self.rng.sample(list(members.items()), len(members))) if self.rng.random() < 0.3 else members

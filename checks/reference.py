@@ -1,8 +1,8 @@
-"""What `cedr history` answers for the bytes of a file, written as plainly as possible and apart from the program."""
+"""What the lines of event files say, and what `cedr history` answers, plainly and apart from the program."""
+from messages import FOREVER, Add, Cut, Mark, Row
 
 LINE_LIMIT = 65_536
 FILE_LIMIT = 67_108_864
-FOREVER = 2**62
 QUOTE, COMMA = b'"', b","
 
 
@@ -16,68 +16,105 @@ class Fault(Exception):
 
 def history(name: str, data: bytes) -> tuple[int, bytes, bytes]:
     """The exit status, standard output and standard error for the file of this name."""
+    judge = Judge()
+    _, told = judged(data, judge.take)
+    if told:
+        return 3, b"", f"events {name} {told}\n".encode()
+    return 0, b"".join(row_text(row) for row in sorted(judge.rows_left())), b""
+
+
+def judged(data: bytes, take) -> tuple[list, str]:
+    """What `take` answers for each good line, and what is told of the first faulty one, if there is one."""
     *lines, rest = data[:FILE_LIMIT].split(b"\n")
     too_large = len(data) > FILE_LIMIT
     if rest and not too_large:
         lines.append(rest)
-    events, marks, number = {}, [0], 0
+    answers, number = [], 0
     try:
         for number, line in enumerate(lines, 1):
-            judge(line, events, marks)
+            answers.append(take(line))
         if too_large:
             number += 1
             raise Fault(1 if len(rest) > LINE_LIMIT else 10)
     except Fault as fault:
-        text = f"events {name} line {number} fault {fault.number}{fault.carried}\n"
-        return 3, b"", text.encode()
-    return 0, b"".join(row_text(row) for row in sorted(rows_left(events))), b""
+        return answers, f"line {number} fault {fault.number}{fault.carried}"
+    return answers, ""
 
 
-def judge(line: bytes, events: dict, marks: list) -> None:
-    """Takes a line into the events, which are by id, and the guarantees so far, or raises its least fault."""
+class Judge:
+    """The events, which are by id, and the guarantee that the lines of a source leave.
+
+    Without types an event may have any texts as its payload, and with types it has one field of each.
+    """
+
+    def __init__(self, types: list = None) -> None:
+        self.types = types
+        self.events = {}
+        self.mark = 0
+
+    def take(self, line: bytes):
+        """The message of a line, or none where it has none. Raises its least fault."""
+        line = without_return(line)
+        return self.take_event(line) if line else None
+
+    def take_event(self, line: bytes):
+        """The same of a line that isn't empty and whose carriage return was dropped."""
+        if b"\r" in line:
+            raise Fault(2)
+        kind, *fields = fields_of(line)
+        if kind == b"+" and self.may_insert(len(fields) - 3):
+            return self.insert(fields)
+        if kind == b"-" and len(fields) == 2:
+            return self.retract(fields)
+        if kind == b"=" and len(fields) == 1:
+            return self.promise(time_of(fields[0]))
+        raise Fault(2)
+
+    def may_insert(self, count: int) -> bool:
+        return 0 <= count <= 16 if self.types is None else count == len(self.types)
+
+    def insert(self, fields: list) -> Add:
+        identity, begin = number_of(fields[0], 2**64), number_of(fields[1], FOREVER)
+        end = time_of(fields[2])
+        if end <= begin:
+            raise Fault(4)
+        types = self.types or ["text"] * len(fields[3:])
+        payload = tuple(value_of(field, one) for field, one in zip(fields[3:], types))
+        if identity in self.events:
+            raise Fault(6)
+        self.check_sync(begin)
+        self.events[identity] = Row(end, begin, payload)
+        return Add(self.events[identity])
+
+    def retract(self, fields: list) -> Cut:
+        identity, new_end = number_of(fields[0], 2**64), time_of(fields[1])
+        if identity not in self.events:
+            raise Fault(7)
+        row = self.events[identity]
+        if not row.begin <= new_end < row.end:
+            raise Fault(8, f" begin {time_text(row.begin)} end {time_text(row.end)}")
+        self.check_sync(new_end)
+        self.events[identity] = row._replace(end=new_end)
+        return Cut(row, new_end)
+
+    def promise(self, time: int):
+        if time <= self.mark:
+            return None
+        self.mark = time
+        return Mark(time)
+
+    def check_sync(self, sync: int) -> None:
+        if sync < self.mark:
+            raise Fault(9, f" sync {time_text(sync)} mark {time_text(self.mark)}")
+
+    def rows_left(self) -> list:
+        return [row for row in self.events.values() if row.begin < row.end]
+
+
+def without_return(line: bytes) -> bytes:
     if len(line) > LINE_LIMIT:
         raise Fault(1)
-    line = line.removesuffix(b"\r")
-    if not line:
-        return
-    if b"\r" in line:
-        raise Fault(2)
-    kind, *fields = fields_of(line)
-    if kind == b"+" and 3 <= len(fields) <= 19:
-        insert(fields, events, max(marks))
-    elif kind == b"-" and len(fields) == 2:
-        retract(fields, events, max(marks))
-    elif kind == b"=" and len(fields) == 1:
-        marks.append(time_of(fields[0]))
-    else:
-        raise Fault(2)
-
-
-def insert(fields: list, events: dict, mark: int) -> None:
-    identity, begin = number_of(fields[0], 2**64), number_of(fields[1], FOREVER)
-    end = time_of(fields[2])
-    if end <= begin:
-        raise Fault(4)
-    if identity in events:
-        raise Fault(6)
-    check_sync(begin, mark)
-    events[identity] = (end, begin, fields[3:])
-
-
-def retract(fields: list, events: dict, mark: int) -> None:
-    identity, new_end = number_of(fields[0], 2**64), time_of(fields[1])
-    if identity not in events:
-        raise Fault(7)
-    end, begin, payload = events[identity]
-    if not begin <= new_end < end:
-        raise Fault(8, f" begin {time_text(begin)} end {time_text(end)}")
-    check_sync(new_end, mark)
-    events[identity] = (new_end, begin, payload)
-
-
-def check_sync(sync: int, mark: int) -> None:
-    if sync < mark:
-        raise Fault(9, f" sync {time_text(sync)} mark {time_text(mark)}")
+    return line.removesuffix(b"\r")
 
 
 def fields_of(line: bytes) -> list:
@@ -124,22 +161,37 @@ def time_of(field: bytes) -> int:
     return FOREVER if field == b"inf" else number_of(field, FOREVER)
 
 
+def value_of(field: bytes, kind: str):
+    """A number column has digits, perhaps behind a minus, and a value of 64 bits with sign."""
+    if kind == "text":
+        return field
+    digits = field.removeprefix(b"-")
+    shown = digits.lstrip(b"0") or b"0"
+    value = int(shown) if digits.isdigit() and len(shown) <= 20 else 2**64
+    value = -value if field.startswith(b"-") else value
+    if not -(2**63) <= value < 2**63:
+        raise Fault(5)
+    return value
+
+
 def time_text(time: int) -> str:
     return "inf" if time == FOREVER else str(time)
 
 
-def rows_left(events: dict) -> list:
-    return [row for row in events.values() if row[1] < row[0]]
+def row_text(row: Row) -> bytes:
+    times = [time_text(row.begin).encode(), time_text(row.end).encode()]
+    return COMMA.join(times + [field_text(field) for field in row.payload]) + b"\n"
 
 
-def row_text(row: tuple) -> bytes:
-    """A row is its end, its begin and its fields, which is also the order that rows are sorted in."""
-    end, begin, payload = row
-    times = [time_text(begin).encode(), time_text(end).encode()]
-    return COMMA.join(times + [field_text(field) for field in payload]) + b"\n"
+def change_text(change) -> bytes:
+    if isinstance(change, Add):
+        return b"+," + row_text(change.row)
+    return b"-,%s,%s" % (time_text(change.end).encode(), row_text(change.row))
 
 
-def field_text(field: bytes) -> bytes:
+def field_text(field) -> bytes:
+    if isinstance(field, int):
+        return str(field).encode()
     if any(special in field for special in (COMMA, QUOTE, b"\r", b"\n")):
         return QUOTE + field.replace(QUOTE, QUOTE * 2) + QUOTE
     return field

@@ -1,7 +1,7 @@
 """A source that fails in the middle: a terminal that gives a program a line, and refuses one of its later reads.
 
 A terminal refuses to be read from the background, where the signal that would stop the reader is ignored. As a script
-this is the leader of a session with a terminal of its own: usage: terminal.py PROGRAM
+this is the leader of a session with a terminal of its own: usage: terminal.py PROGRAM WORD..
 """
 import ast
 import fcntl
@@ -16,6 +16,7 @@ from pathlib import Path
 
 SECONDS = 20
 NO_TERMINAL = 3
+NAME = "terminal.csv"
 FIRST = b"+,1,1,2,a\n"
 SECOND = b"+,2,1,2,b\n"
 
@@ -24,9 +25,9 @@ class NoTerminal(Exception):
     """The system has no terminal to make."""
 
 
-def refused_history(program: Path, folder: Path) -> tuple[int, bytes, bytes]:
-    """What `history` answers of such a source. Raises NoTerminal where the system has none."""
-    leader = subprocess.run([sys.executable, __file__, program], cwd=folder, stdin=subprocess.DEVNULL,
+def refused_read(program: Path, folder: Path, words: list) -> tuple[int, bytes, bytes]:
+    """What the program answers for words that have it read the file NAME. Raises NoTerminal where there is none."""
+    leader = subprocess.run([sys.executable, __file__, program, *words], cwd=folder, stdin=subprocess.DEVNULL,
                             stdout=subprocess.PIPE, start_new_session=True, timeout=4 * SECONDS, text=True)
     if leader.returncode == NO_TERMINAL:
         raise NoTerminal(leader.stdout.strip())
@@ -44,8 +45,8 @@ def wait_until(holds) -> None:
         time.sleep(0.002)
 
 
-def history_at(keyboard: int, terminal: int, program: str) -> tuple[int, bytes, bytes]:
-    """Runs `history` on the terminal, in the foreground until it has read the first line."""
+def answer_at(keyboard: int, terminal: int, command: list) -> tuple[int, bytes, bytes]:
+    """Runs the command on the terminal, in the foreground until it has read the first line."""
 
     def to_foreground() -> None:
         os.setpgid(0, 0)
@@ -53,7 +54,6 @@ def history_at(keyboard: int, terminal: int, program: str) -> tuple[int, bytes, 
 
     os.write(keyboard, FIRST)
     wait_until(lambda: waiting_bytes(terminal) == len(FIRST))
-    command = [program, "history", os.ttyname(terminal)]
     with subprocess.Popen(command, stdin=subprocess.DEVNULL, stdout=subprocess.PIPE, stderr=subprocess.PIPE,
                           preexec_fn=to_foreground) as reader:
         wait_until(lambda: waiting_bytes(terminal) == 0 or reader.poll() is not None)
@@ -78,7 +78,9 @@ def main() -> int:
     except OSError as error:
         print(error)
         return NO_TERMINAL
-    print(repr(history_at(keyboard, terminal, sys.argv[1])))
+    Path(NAME).unlink(missing_ok=True)
+    Path(NAME).symlink_to(os.ttyname(terminal))
+    print(repr(answer_at(keyboard, terminal, sys.argv[1:])))
     return 0
 
 

@@ -9,6 +9,12 @@ use std::{env, io};
 
 const HELP: &str = "usage: cedr history FILE
        cedr check PLAN
+       cedr run PLAN
+       cedr serial PLAN
+       cedr stream PLAN
+       cedr audit PLAN
+       cedr live PLAN SCRIPT
+       cedr make N
 
 history writes the canonical history of an event file to standard output: for each
 event its valid interval and payload as the file's retractions leave them, one row a
@@ -17,6 +23,23 @@ left out.
 
 check reads a plan, and writes a line for each of its nodes: the name, the operator and
 the types of the fields of its result. It opens no event file.
+
+run reads a plan and the files of its sources, and writes the rows of the plan's answer
+over their canonical histories. Where some level of the plan has a finite memory, a line
+-- and a line for each change that came too late to count follow. serial writes the
+same, and stays on one thread whatever run will do.
+
+stream writes the changes of the answer as they come: an added row behind +, and behind
+- a row that ends earlier, with its new end in front.
+
+audit writes what run does, with the line -- and the changes that didn't count always.
+
+live reads no event file. Each line of its script is an event line behind the name of
+its source and a comma, or ? alone, at which the rows so far are written, and then how
+far they are decided.
+
+make answers a plan over two sources of N events that it makes itself, N from 1 to
+100000, and writes how many rows there are and for how long they are valid together.
 
 cedr --help and cedr --version print this text and the version.
 

@@ -1,26 +1,36 @@
--- How a call that ran `history` ends, from how that went.
-use Rattle.std.proofs.Common.{◌≡◌, ◌≢◌, ℕ, ◌⊎◌, inl, inr, List, [], ◌∷◌, length, Option, None, Some, Result, Ok, Err, refl, sym, ◌∙◌, subst, arith}
+-- How a command ends, from how its steps went.
+use Rattle.std.proofs.Common.{◌≡◌, ◌≢◌, ℕ, suc, Bool, false, ◌<◌, ◌⊎◌, inl, inr, List, [], ◌∷◌, ◌++◌, length, take, Option, None, Some, Result, Ok, Err, refl, sym, ap, ◌∙◌, subst, arith, rules, tests}
 use Rattle.std.specs.Prelude.{IfSome, OnOk, OnErr}
 use Rattle.std.specs.Io.KnownBytes.{Appends, Keeps}
-use Rattle.std.proofs.lemmas.List.{take_all, append-nil}
+use Rattle.std.proofs.lemmas.List.{take_all, append-nil, append_assoc}
 use Rattle.cedr_io.specs.Asked.{AppendsFront}
-use Rattle.cedr_run.specs.declared.answer.Answer.{Answer}
-use Rattle.cedr_run.specs.declared.answer.Answer.TheVariants.{Lines, Faulty, BadPlan}
+use Rattle.cedr_io.specs.Counts.{Rose, last_count}
+use Rattle.cedr_plan.specs.Drawn.{drawn}
+use Rattle.cedr_plan.specs.Plans.{plan_of}
+use Rattle.cedr_plan.specs.declared.fault.PlanKind.{PlanKind}
+use Rattle.cedr_plan.specs.declared.plan.Plan.{Plan}
+use Rattle.cedr_plan.specs.declared.plan.PlanNode.{PlanNode}
+use Rattle.cedr_serial.specs.Sources.{AsksFirst, AreTold, AreRead, source_files}
+use Rattle.cedr_laws.specs.Lists.{Lists}
+use Rattle.cedr_run.specs.declared.command.Job.{Job}
+use Rattle.cedr_run.specs.declared.command.Job.TheVariants.{History, Check, Serial, Run, Stream, Audit, Live, Make}
 use Rattle.cedr_run.specs.declared.outcome.Outcome.{Outcome}
 use Rattle.cedr_run.specs.declared.outcome.Outcome.TheVariants as outcome
 use Rattle.cedr_run.specs.declared.status.Status.{Status}
 use Rattle.cedr_run.specs.declared.status.Status.TheVariants as status
-use Rattle.cedr_guard.specs.declared.refusal.Refusal.{Refusal}
-use Rattle.cedr_run.specs.Answers.{answer_text}
-use Rattle.cedr_plan.specs.declared.fault.PlanKind.{PlanKind}
-use Rattle.cedr_run.specs.Commands.{Command}
-use Rattle.cedr_run.specs.Refusals.{plan_fault_text}
-use Rattle.cedr_run.specs.Files.{AsksFirst}
-use Rattle.cedr_run.specs.Seen.{FilesSeen, SinkSeen, NoneRose, Writes, Tells}
-use Rattle.cedr_run.specs.Ending.{Completes, IsRefusal, IsBadPlan, Ends, ErrBreaksOff, known_answer, refused_text, bad_plan_text}
-use Rattle.cedr_run.specs.Outcomes.{usage_text, memory_text, status_of, told_text, TellsLack, CommandEnds}
+use Rattle.cedr_laws.specs.Lists.{AreTables}
+use Rattle.cedr_query.specs.Queries.{source_count}
+use Rattle.cedr_runs.specs.Runs.{AllWhole, sources_in}
+use Rattle.cedr_serial.specs.Queries.{AreAccepted, source_nodes, IsAnswerText, IsStreamText, MayStream}
+use Rattle.cedr_table.specs.Operators.{Tables}
+use Rattle.cedr_run.specs.Answers.{AnswersQuery, AnswersChanges, BeginsChanges, IsPlanOf, IsNoPlan, OfPlan, Gives, Refuses, Begins, RefusesPlan, RefusesSources, GivesPlan, BeginsPlan}
+use Rattle.cedr_run.specs.Commands.{Command, named_files}
+use Rattle.cedr_run.specs.Seen.{FilesSeen, SinkSeen, Tells}
+use Rattle.cedr_run.specs.Outcomes.{status_of, told_text, TellsLack, CommandEnds, AsksOnly, AsksPlan}
+use Rattle.cedr_run.specs.Steps.{Texts, WritesText, Says, OpensPlan, OpensSources, StopsSources, CountsStep, ReadsSources, EndsWith, EndsSources}
+use Rattle.cedr_run.specs.Ending.{Ends}
 
--- ---- what was written is a front of the answer's text
+-- ---- fronts
 
 pub nothing_is_front : (old new : Option (List ℕ)) (text : List ℕ) → Keeps old new → AppendsFront old new text
 nothing_is_front None new text keeps = record { count = 0; grows = tt }
@@ -30,267 +40,250 @@ nothing_is_front (Some xs) (Some ys) text keeps = record { count = 0; grows = ke
 pub whole_is_front : (old new : Option (List ℕ)) (text : List ℕ) → Appends old new text → AppendsFront old new text
 whole_is_front old new text appends = record { count = length text; grows = subst (Appends old new) (sym (take_all (length text) text (omega arith))) appends }
 
-all_is_front : (old new : Option (List ℕ)) (answer : Answer) → Writes old new answer → AppendsFront old new (answer_text answer)
-all_is_front old new (Lines text) writes = whole_is_front old new text writes
-all_is_front old new (Faulty refusal) writes = absurd writes
-all_is_front old new (BadPlan kind node) writes = absurd writes
-
-weaker : {P Q : Answer → Type 0} (answer : Option Answer) → ((a : Answer) → P a → Q a) → IfSome answer P → IfSome answer Q
-weaker None f h = tt
-weaker (Some a) f h = f a h
-
--- what holds of each answer holds of a known one
-pub always : {P : Answer → Type 0} (answer : Option Answer) → ((a : Answer) → P a) → IfSome answer P
-always None f = tt
-always (Some a) f = f a
-
-front_of : (answer : Option Answer) (files files' : FilesSeen) (out out' : SinkSeen) (o : Outcome) → CommandEnds answer files files' out out' o
-    → IfSome answer (λ a. AppendsFront out.written out'.written (answer_text a))
-front_of answer files files' out out' outcome.Done h = weaker answer (all_is_front out.written out'.written) h.1
-front_of answer files files' out out' outcome.Usage h = absurd h
-front_of answer files files' out out' (outcome.Faulty refusal) h = always answer (λ a. nothing_is_front out.written out'.written (answer_text a) h.1)
-front_of answer files files' out out' (outcome.BadPlan kind node) h = always answer (λ a. nothing_is_front out.written out'.written (answer_text a) h.1)
-front_of answer files files' out out' outcome.Read h = always answer (λ a. nothing_is_front out.written out'.written (answer_text a) h.1)
-front_of answer files files' out out' outcome.Write h = h.1
-front_of answer files files' out out' outcome.OutOfMemory h = h
-
 pub kept_itself : (old : Option (List ℕ)) → Keeps old old
 kept_itself None = tt
 kept_itself (Some bytes) = refl
 
--- where nothing was written that is a front of each text
-pub wrote_nothing : (old : Option (List ℕ)) (known : Option Answer) → IfSome known (λ a. AppendsFront old old (answer_text a))
-wrote_nothing old known = always known (λ a. nothing_is_front old old (answer_text a) (kept_itself old))
+nothing_appends : (old : Option (List ℕ)) → Appends old old []
+nothing_appends None = tt
+nothing_appends (Some bytes) = sym (append-nil bytes)
 
--- what holds of the answer that was found holds of the known one
-pub found_answer : (P : Answer → Type 0) (known : Option Answer) (found answer : Answer) → IfSome known (λ a. a ≡ found) → found ≡ answer → P answer → IfSome known P
-found_answer P known found answer same is holds = weaker known (λ a other. subst P (sym (other ∙ is)) holds) same
+-- ---- a whole text
 
-completes_lacking : (a : Answer) → Completes a status.OutOfMemory
-completes_lacking (Lines text) = inr refl
-completes_lacking (Faulty refusal) = inr refl
-completes_lacking (BadPlan kind node) = inr refl
+pub ends_written : (command : Command) (files files' : FilesSeen) (out out' : SinkSeen) (o : Outcome) (text : List ℕ) → WritesText o out out' text → files'.faults ≡ files.faults
+    → ((told : List ℕ → List ℕ) → AreTold files.content told (named_files command) → Gives files.content told command text)
+    → ((told : List ℕ → List ℕ) → Gives files.content told command text → Begins files.content told command text)
+    → CommandEnds command files files' out out' o
+ends_written command files files' out out' outcome.Done text h same gives begins = (record { files_count = same; out_count = h.0 }, λ told is. (text, gives told is, h.1))
+ends_written command files files' out out' outcome.Write text h same gives begins = (h.0, λ told is. (text, begins told (gives told is), h.1))
+ends_written command files files' out out' outcome.OutOfMemory text h same gives begins = inr (λ told is. (text, begins told (gives told is), h))
+ends_written command files files' out out' outcome.Usage text h same gives begins = absurd h
+ends_written command files files' out out' (outcome.Events said) text h same gives begins = absurd h
+ends_written command files files' out out' (outcome.BadPlan kind node) text h same gives begins = absurd h
+ends_written command files files' out out' outcome.Read text h same gives begins = absurd h
 
--- ---- the two ways in which the call ends
+-- ---- something isn't accepted, and nothing was written
 
-lack_of : (command : Command) (files files' : FilesSeen) (out out' err err' : SinkSeen) (o : Outcome)
-    → CommandEnds (known_answer files (Some command)) files files' out out' o → TellsLack err err' (told_text o command.1)
-    → AppendsFront err.written err'.written memory_text ⊎ ErrBreaksOff (Some command) files files' out out' err err'
-lack_of command files files' out out' err err' o h (inl words) = inl words
-lack_of command files files' out out' err err' o h (inr begun) = inr (record { went = o; came = h; begun = begun })
+pub ends_said : (command : Command) (files files' : FilesSeen) (out : SinkSeen) (o : Outcome) (text : List ℕ) → Says o text → files'.faults ≡ files.faults
+    → ((told : List ℕ → List ℕ) (said : List ℕ) → said ≡ text → AreTold files.content told (named_files command) → Refuses files.content told command [] said)
+    → CommandEnds command files files' out out o
+ends_said command files files' out (outcome.Events said) text h same refuses =
+    (record { files_count = same; out_count = refl }, (λ silent. kept_itself out.written), λ told is. ([], refuses told said.items h is, nothing_appends out.written))
+ends_said command files files' out outcome.OutOfMemory text h same refuses = inl (kept_itself out.written)
+ends_said command files files' out outcome.Done text h same refuses = absurd h
+ends_said command files files' out outcome.Usage text h same refuses = absurd h
+ends_said command files files' out (outcome.BadPlan kind node) text h same refuses = absurd h
+ends_said command files files' out outcome.Read text h same refuses = absurd h
+ends_said command files files' out outcome.Write text h same refuses = absurd h
 
-pub ends_lacking : (command : Command) (files files' : FilesSeen) (out out' err err' : SinkSeen) (o : Outcome)
-    → CommandEnds (known_answer files (Some command)) files files' out out' o
-    → AsksFirst files.asked files'.asked (command.1 ∷ []) → ((name : List ℕ) → files'.content name ≡ files.content name)
-    → TellsLack err err' (told_text o command.1)
-    → Ends (Some command) files files' out out' err err' status.OutOfMemory
-ends_lacking command files files' out out' err err' o h asked contents lacks = record {
-  usage = λ e. cc;
-  no_command = λ e. cc;
-  done = λ e. cc;
-  rows = λ e. cc;
-  events = λ e. cc;
-  refusal = λ e. cc;
-  plan = λ e. cc;
-  bad_plan = λ e. cc;
-  read = λ e. cc;
-  write = λ e. cc;
-  complete = λ none. always (known_answer files (Some command)) completes_lacking;
-  nothing = λ e. absurd e;
-  front = λ e. front_of (known_answer files (Some command)) files files' out out' o h;
-  no_answer = λ e. cc;
-  told = tt;
-  lacking = λ e. lack_of command files files' out out' err err' o h lacks;
-  asked = asked;
-  contents = contents;
-}
+-- ---- no plan
 
--- what is said of a file that gave no rows
-told_faulty : (command : Command) (err err' : SinkSeen) (refusal : Refusal) (answer : Option Answer) → IfSome answer (λ a. a ≡ Faulty refusal) → Tells err err' (told_text (outcome.Faulty refusal) command.1) → IfSome (refused_text (Some command) answer) (Tells err err')
-told_faulty command err err' refusal None is told = tt
-told_faulty command err err' refusal (Some answer) is told = subst (λ a. IfSome (refused_text (Some command) (Some a)) (Tells err err')) (sym is) told
+known_no_plan : (content : Option (List ℕ)) (bytes : List ℕ) (kind : PlanKind) (node : ℕ) → content ≡ Some bytes → IfSome content (λ all. IsNoPlan all kind node) → IsNoPlan bytes kind node
+known_no_plan content bytes kind node is h = subst (λ (known : Option (List ℕ)). IfSome known (λ all. IsNoPlan all kind node)) is h
 
-completes_faulty : (refusal : Refusal) (a : Answer) → a ≡ Faulty refusal → Completes a status.Events
-completes_faulty refusal (Lines text) is = cc
-completes_faulty refusal (Faulty other) is = inl refl
-completes_faulty refusal (BadPlan kind node) is = cc
+known_plan : (content : Option (List ℕ)) (bytes : List ℕ) (plan : Plan) → content ≡ Some bytes → IfSome content (λ all. plan_of all ≡ Ok (drawn plan)) → plan_of bytes ≡ Ok (drawn plan)
+known_plan content bytes plan is h = subst (λ (known : Option (List ℕ)). IfSome known (λ all. plan_of all ≡ Ok (drawn plan))) is h
 
-refusal_faulty : (refusal : Refusal) (a : Answer) → a ≡ Faulty refusal → IsRefusal a
-refusal_faulty refusal (Lines text) is = cc
-refusal_faulty refusal (Faulty other) is = tt
-refusal_faulty refusal (BadPlan kind node) is = cc
+-- the plan that was opened is that of the bytes
+pub opened_plan : (content : Option (List ℕ)) (bytes : List ℕ) (plan : Plan) → content ≡ Some bytes → OpensPlan (Ok plan) content → IsPlanOf bytes plan.nodes.items
+opened_plan content bytes plan is h = record { plan = drawn plan; described = known_plan content bytes plan is h; nodes_are = refl }
 
-completes_done : (old new : Option (List ℕ)) (a : Answer) → Writes old new a → Completes a status.Done
-completes_done old new (Lines text) writes = inl refl
-completes_done old new (Faulty refusal) writes = absurd writes
-completes_done old new (BadPlan kind node) writes = absurd writes
+pub ends_no_plan : (command : Command) (files files' : FilesSeen) (out : SinkSeen) (o : Outcome) → OpensPlan (Err o) (files.content command.file) → CountsStep {T = Plan} (Err o) files.faults files'.faults
+    → ((told : List ℕ → List ℕ) (kind : PlanKind) (node : ℕ) → IsNoPlan (told command.file) kind node → RefusesPlan told command kind node)
+    → CommandEnds command files files' out out o
+ends_no_plan command files files' out (outcome.BadPlan kind node) h same refuses =
+    (record { files_count = same; out_count = refl }, kept_itself out.written, λ told is. refuses told kind node (known_no_plan (files.content command.file) (told command.file) kind node is.0 h))
+ends_no_plan command files files' out outcome.Read h rose refuses = (rose, kept_itself out.written)
+ends_no_plan command files files' out outcome.OutOfMemory h same refuses = inl (kept_itself out.written)
+ends_no_plan command files files' out (outcome.Events said) h same refuses = absurd h
+ends_no_plan command files files' out outcome.Done h same refuses = absurd h
+ends_no_plan command files files' out outcome.Usage h same refuses = absurd h
+ends_no_plan command files files' out outcome.Write h same refuses = absurd h
 
--- what is said of a file that is no plan
-told_bad_plan : (err err' : SinkSeen) (kind : PlanKind) (node : ℕ) (answer : Option Answer) → IfSome answer (λ a. a ≡ BadPlan kind node) → Tells err err' (plan_fault_text kind node) → IfSome (bad_plan_text answer) (Tells err err')
-told_bad_plan err err' kind node None is told = tt
-told_bad_plan err err' kind node (Some answer) is told = subst (λ a. IfSome (bad_plan_text (Some a)) (Tells err err')) (sym is) told
+-- ---- which files were asked for
 
-completes_bad_plan : (kind : PlanKind) (node : ℕ) (a : Answer) → a ≡ BadPlan kind node → Completes a status.Plan
-completes_bad_plan kind node (Lines text) is = cc
-completes_bad_plan kind node (Faulty refusal) is = cc
-completes_bad_plan kind node (BadPlan other place) is = inl refl
-
-is_bad_plan : (kind : PlanKind) (node : ℕ) (a : Answer) → a ≡ BadPlan kind node → IsBadPlan a
-is_bad_plan kind node (Lines text) is = cc
-is_bad_plan kind node (Faulty refusal) is = cc
-is_bad_plan kind node (BadPlan other place) is = tt
-
-ends_bad_plan : (command : Command) (files files' : FilesSeen) (out out' err err' : SinkSeen) → NoneRose files files' out out' → Keeps out.written out'.written
-    → IfSome (known_answer files (Some command)) IsBadPlan → IfSome (known_answer files (Some command)) (λ a. Completes a status.Plan) → IfSome (bad_plan_text (known_answer files (Some command))) (Tells err err')
-    → AsksFirst files.asked files'.asked (command.1 ∷ []) → ((name : List ℕ) → files'.content name ≡ files.content name)
-    → Ends (Some command) files files' out out' err err' status.Plan
-ends_bad_plan command files files' out out' err err' none keeps refusal complete told asked contents = record {
-  usage = λ e. cc;
-  no_command = λ e. cc;
-  done = λ e. cc;
-  rows = λ e. cc;
-  events = λ e. cc;
-  refusal = λ e. cc;
-  plan = λ e. none;
-  bad_plan = λ e. refusal;
-  read = λ e. cc;
-  write = λ e. cc;
-  complete = λ none. complete;
-  nothing = λ e. keeps;
-  front = λ e. absurd e;
-  no_answer = λ e. cc;
-  told = told;
-  lacking = λ e. cc;
-  asked = asked;
-  contents = contents;
-}
-
-ends_refused : (command : Command) (files files' : FilesSeen) (out out' err err' : SinkSeen) → NoneRose files files' out out' → Keeps out.written out'.written
-    → IfSome (known_answer files (Some command)) IsRefusal → IfSome (known_answer files (Some command)) (λ a. Completes a status.Events) → IfSome (refused_text (Some command) (known_answer files (Some command))) (Tells err err')
-    → AsksFirst files.asked files'.asked (command.1 ∷ []) → ((name : List ℕ) → files'.content name ≡ files.content name)
-    → Ends (Some command) files files' out out' err err' status.Events
-ends_refused command files files' out out' err err' none keeps refusal complete told asked contents = record {
-  usage = λ e. cc;
-  no_command = λ e. cc;
-  done = λ e. cc;
-  rows = λ e. cc;
-  events = λ e. none;
-  refusal = λ e. refusal;
-  plan = λ e. cc;
-  bad_plan = λ e. cc;
-  read = λ e. cc;
-  write = λ e. cc;
-  complete = λ none. complete;
-  nothing = λ e. keeps;
-  front = λ e. absurd e;
-  no_answer = λ e. cc;
-  told = told;
-  lacking = λ e. cc;
-  asked = asked;
-  contents = contents;
-}
-
--- the status is the outcome's
-pub ends_told : (command : Command) (files files' : FilesSeen) (out out' err err' : SinkSeen) (o : Outcome)
-    → CommandEnds (known_answer files (Some command)) files files' out out' o
-    → AsksFirst files.asked files'.asked (command.1 ∷ []) → ((name : List ℕ) → files'.content name ≡ files.content name)
-    → (status_of o ≢ status.OutOfMemory → Tells err err' (told_text o command.1))
-    → (status_of o ≡ status.OutOfMemory → TellsLack err err' (told_text o command.1))
-    → Ends (Some command) files files' out out' err err' (status_of o)
-ends_told command files files' out out' err err' outcome.Done h asked contents told lacks =
-    let complete = weaker (known_answer files (Some command)) (completes_done out.written out'.written) h.1 in
-    let said = told (λ e. cc) in
-    grind arith
-ends_told command files files' out out' err err' outcome.Usage h asked contents told lacks = absurd h
-ends_told command files files' out out' err err' (outcome.Faulty refusal) h asked contents told lacks =
-    let answer = known_answer files (Some command) in
-    ends_refused command files files' out out' err err' h.0 h.1 (weaker answer (refusal_faulty refusal) h.2) (weaker answer (completes_faulty refusal) h.2) (told_faulty command err err' refusal answer h.2 (told (λ e. cc))) asked contents
-ends_told command files files' out out' err err' (outcome.BadPlan kind node) h asked contents told lacks =
-    let answer = known_answer files (Some command) in
-    ends_bad_plan command files files' out out' err err' h.0 h.1 (weaker answer (is_bad_plan kind node) h.2) (weaker answer (completes_bad_plan kind node) h.2) (told_bad_plan err err' kind node answer h.2 (told (λ e. cc))) asked contents
-ends_told command files files' out out' err err' outcome.Read h asked contents told lacks =
-    let said = told (λ e. cc) in
-    grind arith
-ends_told command files files' out out' err err' outcome.Write h asked contents told lacks =
-    let said = told (λ e. cc) in
-    grind arith
-ends_told command files files' out out' err err' outcome.OutOfMemory h asked contents told lacks = ends_lacking command files files' out out' err err' outcome.OutOfMemory h asked contents (lacks refl)
-
--- either it is, or memory ran out
-pub ends_command : (command : Command) (files files' : FilesSeen) (out out' err err' : SinkSeen) (o : Outcome) (s : Status)
-    → CommandEnds (known_answer files (Some command)) files files' out out' o
-    → AsksFirst files.asked files'.asked (command.1 ∷ []) → ((name : List ℕ) → files'.content name ≡ files.content name)
-    → (s ≡ status_of o) ⊎ (s ≡ status.OutOfMemory) → (s ≢ status.OutOfMemory → Tells err err' (told_text o command.1))
-    → (s ≡ status.OutOfMemory → TellsLack err err' (told_text o command.1))
-    → Ends (Some command) files files' out out' err err' s
-ends_command command files files' out out' err err' o s h asked contents (inl is) told lacks =
-    subst (Ends (Some command) files files' out out' err err') (sym is) (ends_told command files files' out out' err err' o h asked contents (λ e. told (λ lack. e (sym is ∙ lack))) (λ e. lacks (is ∙ e)))
-ends_command command files files' out out' err err' o s h asked contents (inr is) told lacks =
-    subst (Ends (Some command) files files' out out' err err') (sym is) (ends_lacking command files files' out out' err err' o h asked contents (lacks is))
-
--- ---- words that match no command
-
-lack_alone : (files : FilesSeen) (out err err' : SinkSeen) → TellsLack err err' usage_text → AppendsFront err.written err'.written memory_text ⊎ ErrBreaksOff None files files out out err err'
-lack_alone files out err err' (inl words) = inl words
-lack_alone files out err err' (inr begun) = inr (record { went = outcome.Usage; came = inl refl; begun = begun })
-
--- no file was asked for
-asks_none : (asked : List (List ℕ)) → AsksFirst asked asked []
+pub asks_none : (asked : List (List ℕ)) → AsksFirst asked asked []
 asks_none asked = record { count = 0; added = sym (append-nil asked) }
 
-ends_usage : (files : FilesSeen) (out err err' : SinkSeen) → Tells err err' usage_text → Ends None files files out out err err' status.Usage
-ends_usage files out err err' told = record {
-  usage = λ e. refl;
-  no_command = λ e. inl refl;
-  done = λ e. cc;
-  rows = λ e. cc;
-  events = λ e. cc;
-  refusal = λ e. cc;
-  plan = λ e. cc;
-  bad_plan = λ e. cc;
-  read = λ e. cc;
-  write = λ e. cc;
-  complete = λ none. tt;
-  nothing = λ e. kept_itself out.written;
-  front = λ e. absurd e;
-  no_answer = λ e. kept_itself out.written;
-  told = told;
-  lacking = λ e. cc;
-  asked = asks_none files.asked;
-  contents = λ name. refl;
+pub asks_one : (old new : List (List ℕ)) (name : List ℕ) (names : List (List ℕ)) → new ≡ old ++ name ∷ [] → AsksFirst old new (name ∷ names)
+asks_one old new name names is = record { count = 1; added = is }
+
+pub asks_more : (old now new : List (List ℕ)) (name : List ℕ) (names : List (List ℕ)) → now ≡ old ++ name ∷ [] → AsksFirst now new names → AsksFirst old new (name ∷ names)
+asks_more old now new name names is asks = record {
+  count = suc asks.count;
+  added = asks.added ∙ (ap (λ (before : List (List ℕ)). before ++ take asks.count names) is ∙ append_assoc old (name ∷ []) (take asks.count names));
 }
 
-ends_usage_lacking : (files : FilesSeen) (out err err' : SinkSeen) → TellsLack err err' usage_text → Ends None files files out out err err' status.OutOfMemory
-ends_usage_lacking files out err err' lacks = record {
-  usage = λ e. cc;
-  no_command = λ e. inr refl;
-  done = λ e. cc;
-  rows = λ e. cc;
-  events = λ e. cc;
-  refusal = λ e. cc;
-  plan = λ e. cc;
-  bad_plan = λ e. cc;
-  read = λ e. cc;
-  write = λ e. cc;
-  complete = λ none. tt;
-  nothing = λ e. absurd e;
-  front = λ e. tt;
-  no_answer = λ e. kept_itself out.written;
-  told = tt;
-  lacking = λ e. lack_alone files out err err' lacks;
-  asked = asks_none files.asked;
-  contents = λ name. refl;
-}
+-- ---- commands over sources
 
-pub ends_no_command : (command : Option Command) (files : FilesSeen) (out err err' : SinkSeen) (s : Status) → command ≡ None
-    → (s ≡ status.Usage) ⊎ (s ≡ status.OutOfMemory) → (s ≢ status.OutOfMemory → Tells err err' usage_text) → (s ≡ status.OutOfMemory → TellsLack err err' usage_text)
-    → Ends command files files out out err err' s
-ends_no_command command files out err err' s none (inl is) told lacks =
-    subst (λ (words : Option Command). Ends words files files out out err err' s) (sym none)
-    (subst (Ends None files files out out err err') (sym is) (ends_usage files out err err' (told (λ lack. let e : status.Usage ≡ status.OutOfMemory = sym is ∙ lack in cc))))
-ends_no_command command files out err err' s none (inr is) told lacks =
-    subst (λ (words : Option Command). Ends words files files out out err err' s) (sym none)
-    (subst (Ends None files files out out err err') (sym is) (ends_usage_lacking files out err err' (lacks is)))
+pub told_same : (before after : List ℕ → Option (List ℕ)) (told : List ℕ → List ℕ) (names : List (List ℕ)) → ((name : List ℕ) → after name ≡ before name) → AreTold before told names → AreTold after told names
+told_same before after told [] same h = tt
+told_same before after told (name ∷ names) same h = (same name ∙ h.0, told_same before after told names same h.1)
+
+named_one : (job : Job) (content : List ℕ → Option (List ℕ)) (told : List ℕ → List ℕ) (file script : List ℕ) → ReadsSources job → AreTold content told (named_files (record { job = job; file = file; script = script })) → AreTold content told (file ∷ [])
+named_one Serial content told file script reads h = h
+named_one Run content told file script reads h = h
+named_one Audit content told file script reads h = h
+named_one Stream content told file script reads h = h
+named_one History content told file script reads h = absurd reads
+named_one Check content told file script reads h = absurd reads
+named_one Live content told file script reads h = absurd reads
+named_one (Make n) content told file script reads h = absurd reads
+
+no_plan_of : (job : Job) (told : List ℕ → List ℕ) (file script : List ℕ) (kind : PlanKind) (node : ℕ) → ReadsSources job → IsNoPlan (told file) kind node → RefusesPlan told (record { job = job; file = file; script = script }) kind node
+no_plan_of Serial told file script kind node reads h = h
+no_plan_of Run told file script kind node reads h = h
+no_plan_of Audit told file script kind node reads h = h
+no_plan_of Stream told file script kind node reads h = h
+no_plan_of History told file script kind node reads h = absurd reads
+no_plan_of Check told file script kind node reads h = absurd reads
+no_plan_of Live told file script kind node reads h = absurd reads
+no_plan_of (Make n) told file script kind node reads h = absurd reads
+
+refuses_of : (job : Job) (content : List ℕ → Option (List ℕ)) (told : List ℕ → List ℕ) (file script said : List ℕ) → ReadsSources job → OfPlan content told file (λ nodes. RefusesSources told nodes said) → Refuses content told (record { job = job; file = file; script = script }) [] said
+refuses_of Serial content told file script said reads h = (refl, h)
+refuses_of Run content told file script said reads h = (refl, h)
+refuses_of Audit content told file script said reads h = (refl, h)
+refuses_of Stream content told file script said reads h = (refl, h)
+refuses_of History content told file script said reads h = absurd reads
+refuses_of Check content told file script said reads h = absurd reads
+refuses_of Live content told file script said reads h = absurd reads
+refuses_of (Make n) content told file script said reads h = absurd reads
+
+gives_of : (job : Job) (content : List ℕ → Option (List ℕ)) (told : List ℕ → List ℕ) (file script text : List ℕ) → ReadsSources job → OfPlan content told file (λ nodes. GivesPlan job told nodes text) → Gives content told (record { job = job; file = file; script = script }) text
+gives_of Serial content told file script text reads h = h
+gives_of Run content told file script text reads h = h
+gives_of Audit content told file script text reads h = h
+gives_of Stream content told file script text reads h = h
+gives_of History content told file script text reads h = absurd reads
+gives_of Check content told file script text reads h = absurd reads
+gives_of Live content told file script text reads h = absurd reads
+gives_of (Make n) content told file script text reads h = absurd reads
+
+begins_of : (job : Job) (content : List ℕ → Option (List ℕ)) (told : List ℕ → List ℕ) (file script text : List ℕ) → ReadsSources job → OfPlan content told file (λ nodes. BeginsPlan job told nodes text) → Begins content told (record { job = job; file = file; script = script }) text
+begins_of Serial content told file script text reads h = h
+begins_of Run content told file script text reads h = h
+begins_of Audit content told file script text reads h = h
+begins_of Stream content told file script text reads h = h
+begins_of History content told file script text reads h = absurd reads
+begins_of Check content told file script text reads h = absurd reads
+begins_of Live content told file script text reads h = absurd reads
+begins_of (Make n) content told file script text reads h = absurd reads
+
+asks_named : (job : Job) (files files' : FilesSeen) (file script : List ℕ) → ReadsSources job → AsksFirst files.asked files'.asked (file ∷ []) → AsksOnly (record { job = job; file = file; script = script }) files files'
+asks_named Serial files files' file script reads h = inl h
+asks_named Run files files' file script reads h = inl h
+asks_named Audit files files' file script reads h = inl h
+asks_named Stream files files' file script reads h = inl h
+asks_named History files files' file script reads h = absurd reads
+asks_named Check files files' file script reads h = absurd reads
+asks_named Live files files' file script reads h = absurd reads
+asks_named (Make n) files files' file script reads h = absurd reads
+
+asks_plan : (job : Job) (files files' : FilesSeen) (file script : List ℕ) → ReadsSources job → AsksPlan files files' file → AsksOnly (record { job = job; file = file; script = script }) files files'
+asks_plan Serial files files' file script reads h = inr h
+asks_plan Run files files' file script reads h = inr h
+asks_plan Audit files files' file script reads h = inr h
+asks_plan Stream files files' file script reads h = inr h
+asks_plan History files files' file script reads h = absurd reads
+asks_plan Check files files' file script reads h = absurd reads
+asks_plan Live files files' file script reads h = absurd reads
+asks_plan (Make n) files files' file script reads h = absurd reads
+
+-- what accepted sources have
+abbrev pub AcceptedLeft : (List ℕ → List ℕ) → List PlanNode → Lists → Type 0
+AcceptedLeft told nodes left = (histories : Tables) × AreAccepted told (source_nodes nodes) (sources_in nodes left) histories × AllWhole (source_count nodes) (sources_in nodes left) × AreTables (sources_in nodes left) histories
+
+-- the commands that write rows and don't ask for the list
+pub plain_gives : (job : Job) (nodes : List PlanNode) (left : Lists) (out out' : SinkSeen) (o : Outcome) → ReadsSources job → job ≢ Stream → job ≢ Audit → EndsWith (AnswersQuery false) (AnswersQuery false) nodes left out out' o → EndsSources job nodes left out out' o
+plain_gives Serial nodes left out out' o reads no_stream no_audit h = h
+plain_gives Run nodes left out out' o reads no_stream no_audit h = h
+plain_gives Audit nodes left out out' o reads no_stream no_audit h = absurd (no_audit refl)
+plain_gives Stream nodes left out out' o reads no_stream no_audit h = absurd (no_stream refl)
+plain_gives History nodes left out out' o reads no_stream no_audit h = absurd reads
+plain_gives Check nodes left out out' o reads no_stream no_audit h = absurd reads
+plain_gives Live nodes left out out' o reads no_stream no_audit h = absurd reads
+plain_gives (Make n) nodes left out out' o reads no_stream no_audit h = absurd reads
+
+-- no plan was opened
+pub sources_no_plan : (job : Job) (file script : List ℕ) (files files' : FilesSeen) (out : SinkSeen) (o : Outcome) → ReadsSources job → OpensPlan (Err o) (files.content file) → CountsStep {T = Plan} (Err o) files.faults files'.faults
+    → CommandEnds (record { job = job; file = file; script = script }) files files' out out o
+sources_no_plan job file script files files' out o reads h counts = ends_no_plan (record { job = job; file = file; script = script }) files files' out o h counts (λ told kind node no. no_plan_of job told file script kind node reads no)
+
+-- a plan was opened
+pub IsOpened : FilesSeen → List ℕ → List PlanNode → Type 0
+IsOpened files file nodes = (told : List ℕ → List ℕ) → AreTold files.content told (file ∷ []) → IsPlanOf (told file) nodes
+
+pub is_opened : (files : FilesSeen) (file : List ℕ) (plan : Plan) → OpensPlan (Ok plan) (files.content file) → IsOpened files file plan.nodes.items
+unfolding IsOpened
+is_opened files file plan h told is = opened_plan (files.content file) (told file) plan is.0 h
+
+pub sources_asked : (job : Job) (files files' : FilesSeen) (file script : List ℕ) (nodes : List PlanNode) → ReadsSources job → IsOpened files file nodes → AsksFirst files.asked files'.asked (file ∷ source_files nodes) → AsksOnly (record { job = job; file = file; script = script }) files files'
+unfolding IsOpened
+sources_asked job files files' file script nodes reads opened asked = asks_plan job files files' file script reads (record { nodes = nodes; plan = opened; asked = asked })
+
+pub plan_asked : (job : Job) (files files' : FilesSeen) (file script : List ℕ) → ReadsSources job → AsksFirst files.asked files'.asked (file ∷ []) → AsksOnly (record { job = job; file = file; script = script }) files files'
+plan_asked job files files' file script reads asked = asks_named job files files' file script reads asked
+
+-- its sources weren't
+pub sources_stopped : (T : Type 0) (job : Job) (file script : List ℕ) (files files' : FilesSeen) (out : SinkSeen) (o : Outcome) (nodes : List PlanNode) → ReadsSources job → IsOpened files file nodes
+    → StopsSources {T = T} (Err o) → CountsStep {T = T} (Err o) files.faults files'.faults
+    → ((told : List ℕ → List ℕ) → AreTold files.content told (source_files nodes) → OpensSources (Err o) told nodes)
+    → CommandEnds (record { job = job; file = file; script = script }) files files' out out o
+unfolding IsOpened
+sources_stopped T job file script files files' out (outcome.Events said) nodes reads opened stops counts refuses = (
+  record { files_count = counts; out_count = refl },
+  (λ silent. kept_itself out.written),
+  λ told is. ([], refuses_of job files.content told file script said.items reads (record { nodes = nodes; plan = opened told (named_one job files.content told file script reads is); holding = λ all. refuses told all }), nothing_appends out.written),
+)
+sources_stopped T job file script files files' out outcome.Read nodes reads opened stops counts refuses = (counts, kept_itself out.written)
+sources_stopped T job file script files files' out outcome.OutOfMemory nodes reads opened stops counts refuses = inl (kept_itself out.written)
+sources_stopped T job file script files files' out (outcome.BadPlan kind node) nodes reads opened stops counts refuses = absurd stops
+sources_stopped T job file script files files' out outcome.Done nodes reads opened stops counts refuses = absurd stops
+sources_stopped T job file script files files' out outcome.Usage nodes reads opened stops counts refuses = absurd stops
+sources_stopped T job file script files files' out outcome.Write nodes reads opened stops counts refuses = absurd stops
+
+-- they were: a text was written, or begun
+pub ends_text : (texts : Texts) (nodes : List PlanNode) (left : Lists) (out out' : SinkSeen) (o : Outcome) (text : List ℕ) → WritesText o out out' text → ((told : List ℕ → List ℕ) → AreRead told nodes left [] → texts told nodes text)
+    → EndsWith texts texts nodes left out out' o
+ends_text texts nodes left out out' outcome.Done text h gives = (h.0, record { text = text; gives = gives; wrote = h.1 })
+ends_text texts nodes left out out' outcome.Write text h gives = (h.0, record { text = text; begins = gives; wrote = h.1 })
+ends_text texts nodes left out out' outcome.OutOfMemory text h gives = inr (record { text = text; begins = gives; wrote = h })
+ends_text texts nodes left out out' outcome.Usage text h gives = absurd h
+ends_text texts nodes left out out' (outcome.Events said) text h gives = absurd h
+ends_text texts nodes left out out' (outcome.BadPlan kind node) text h gives = absurd h
+ends_text texts nodes left out out' outcome.Read text h gives = absurd h
+
+pub answers_query : (always : Bool) (told : List ℕ → List ℕ) (nodes : List PlanNode) (left : Lists) (text : List ℕ) → AcceptedLeft told nodes left
+    → ((histories : Tables) → AllWhole (source_count nodes) (sources_in nodes left) → AreTables (sources_in nodes left) histories → IsAnswerText always nodes (sources_in nodes left) histories text) → AnswersQuery always told nodes text
+answers_query always told nodes left text got answer = record { sources = sources_in nodes left; histories = got.0; accepted = got.1; text_is = answer got.0 got.2 got.3 }
+
+pub answers_changes : (told : List ℕ → List ℕ) (nodes : List PlanNode) (left : Lists) (text : List ℕ) → AcceptedLeft told nodes left → IsStreamText nodes (sources_in nodes left) text → AnswersChanges told nodes text
+answers_changes told nodes left text got is = record { sources = sources_in nodes left; histories = got.0; accepted = got.1; text_is = is }
+
+pub begins_changes : (told : List ℕ → List ℕ) (nodes : List PlanNode) (left : Lists) (text : List ℕ) → AcceptedLeft told nodes left → MayStream nodes (sources_in nodes left) text → BeginsChanges told nodes text
+begins_changes told nodes left text got is = record { sources = sources_in nodes left; histories = got.0; accepted = got.1; text_is = is }
+
+-- they were, and what the command gives of them was written, or was begun
+pub sources_given : (job : Job) (file script : List ℕ) (files files' : FilesSeen) (out out' : SinkSeen) (o : Outcome) (nodes : List PlanNode) (left : Lists) → ReadsSources job → IsOpened files file nodes
+    → files'.faults ≡ files.faults → ((told : List ℕ → List ℕ) → AreTold files.content told (source_files nodes) → AreRead told nodes left [])
+    → EndsSources job nodes left out out' o → CommandEnds (record { job = job; file = file; script = script }) files files' out out' o
+unfolding IsOpened
+sources_given job file script files files' out out' outcome.Done nodes left reads opened same read h = (
+  record { files_count = same; out_count = h.0 },
+  λ told is. (h.1.text, gives_of job files.content told file script h.1.text reads (record { nodes = nodes; plan = opened told (named_one job files.content told file script reads is); holding = λ all. h.1.gives told (read told all) }), h.1.wrote),
+)
+sources_given job file script files files' out out' outcome.Write nodes left reads opened same read h = (
+  h.0,
+  λ told is. (h.1.text, begins_of job files.content told file script h.1.text reads (record { nodes = nodes; plan = opened told (named_one job files.content told file script reads is); holding = λ all. h.1.begins told (read told all) }), h.1.wrote),
+)
+sources_given job file script files files' out out' outcome.OutOfMemory nodes left reads opened same read (inl keeps) = inl keeps
+sources_given job file script files files' out out' outcome.OutOfMemory nodes left reads opened same read (inr h) =
+    inr (λ told is. (h.text, begins_of job files.content told file script h.text reads (record { nodes = nodes; plan = opened told (named_one job files.content told file script reads is); holding = λ all. h.begins told (read told all) }), h.wrote))
+sources_given job file script files files' out out' outcome.Usage nodes left reads opened same read h = absurd h
+sources_given job file script files files' out out' (outcome.Events said) nodes left reads opened same read h = absurd h
+sources_given job file script files files' out out' (outcome.BadPlan kind node) nodes left reads opened same read h = absurd h
+sources_given job file script files files' out out' outcome.Read nodes left reads opened same read h = absurd h
 
 -- ---- what err is told where memory ran out
 
@@ -298,3 +291,23 @@ ends_no_command command files out err err' s none (inr is) told lacks =
 pub words_tried : {A E : Type 0} (r : Result A E) (old new : Option (List ℕ)) (text : List ℕ) → OnOk r (Appends old new text) → OnErr r (AppendsFront old new text) → AppendsFront old new text
 words_tried (Ok done) old new text ok err = whole_is_front old new text ok
 words_tried (Err fault) old new text ok err = err
+
+-- ---- a count rose
+
+pub rose_above : (old new : ℕ) → Rose old new → old < last_count → old < new
+rose_above old new rose below = let more = rose.more in search (rules, tests)
+
+-- ---- the call
+
+pub ends_command : (command : Option Command) (named : Command) (files files' : FilesSeen) (out out' err err' : SinkSeen) (o : Outcome) (s : Status) → Some named ≡ command
+    → CommandEnds named files files' out out' o → AsksOnly named files files' → ((name : List ℕ) → files'.content name ≡ files.content name)
+    → (s ≡ status_of o) ⊎ (s ≡ status.OutOfMemory) → (s ≢ status.OutOfMemory → Tells err err' (told_text o)) → (s ≡ status.OutOfMemory → TellsLack err err' (told_text o))
+    → Ends command files files' out out' err err' s
+ends_command command named files files' out out' err err' o s is ends asked contents at told lacking =
+    subst (λ (c : Option Command). Ends c files files' out out' err err' s) is (record { went = o; came = (ends, asked); answered = at; told = told; lacking = lacking; contents = contents })
+
+pub ends_no_command : (command : Option Command) (files : FilesSeen) (out err err' : SinkSeen) (s : Status) → None ≡ command
+    → (s ≡ status.Usage) ⊎ (s ≡ status.OutOfMemory) → (s ≢ status.OutOfMemory → Tells err err' (told_text outcome.Usage)) → (s ≡ status.OutOfMemory → TellsLack err err' (told_text outcome.Usage))
+    → Ends command files files out out err err' s
+ends_no_command command files out err err' s is at told lacking =
+    subst (λ (c : Option Command). Ends c files files out out err err' s) is (record { went = outcome.Usage; came = (inl refl, refl, refl); answered = at; told = told; lacking = lacking; contents = λ name. refl })

@@ -1,6 +1,6 @@
 -- The lines of a file, one after the other.
-use Rattle.std.proofs.Common.{◌≡◌, ◌≢◌, ℕ, ◌+◌, ◌<◌, ◌≤◌, List, [], ◌∷◌, ◌++◌, Bool, true, false, cond, length, take, Option, Some, Result, Ok, Err, refl, ap, sym, ◌∙◌, arith}
-use Rattle.std.specs.Prelude.{nat_lt}
+use Rattle.std.proofs.Common.{◌≡◌, ◌≢◌, ℕ, ◌+◌, ◌<◌, ◌≤◌, List, [], ◌∷◌, ◌++◌, Bool, true, false, cond, length, take, Option, None, Some, Result, Ok, Err, refl, ap, sym, ◌∙◌, subst, arith}
+use Rattle.std.specs.Prelude.{nat_lt, IfSome}
 use Rattle.std.specs.List.{slice_split, onto_first}
 use Rattle.std.proofs.lemmas.Bool.{ltb-true, ltb-false, lt-ltb, le-ltb}
 use Rattle.std.proofs.lemmas.List.{append-nil, take-append-le, length-append}
@@ -15,13 +15,19 @@ use Rattle.cedr_guard.specs.declared.refusal.Refusal.{Refusal}
 use Rattle.cedr_guard.specs.declared.refusal.TheConstants.{FILE_LIMIT}
 use Rattle.cedr_guard.specs.Sources.{with_reading, line_reading, Judged, go_on, judged_behind, judged_lines, judged_front, whole_lines, unfinished_line, first_fault, limit_fault, judged}
 use Rattle.cedr_run.specs.declared.events.Events.{Events}
-use Rattle.cedr_run.specs.Answers.{history_answer, check_answer, answer_of}
+use Rattle.cedr_live.specs.Scripts.{played, played_front, played_lines}
+use Rattle.cedr_plan.specs.declared.plan.PlanNode.{PlanNode}
+use Rattle.cedr_text.specs.declared.event_line.Shape.{Shape}
+use Rattle.cedr_guard.specs.History.{history_of}
+use Rattle.cedr_text.specs.Texts.{rows_text}
+use Rattle.cedr_plan.specs.Drawn.{Drawn}
 use Rattle.cedr_plan.specs.Plans as plans
-use Rattle.cedr_plan.specs.Plans.{plan_of, plan_of_json, json_of, longest}
+use Rattle.cedr_run.specs.Answers.{GivesHistory}
+use Rattle.cedr_plan.specs.Plans.{plan_of, plan_of_json, json_of, longest, IsFaultOf}
+use Rattle.cedr_plan.specs.declared.fault.PlanFault.{PlanFault}
+use Rattle.cedr_plan.specs.declared.fault.PlanFault.TheVariants as plan_fault
+use Rattle.cedr_plan.specs.declared.fault.PlanKind.{PlanKind}
 use Rattle.cedr_plan.specs.declared.fault.PlanKind.TheVariants as kind
-use Rattle.cedr_run.specs.declared.command.Job.{Job}
-use Rattle.cedr_run.specs.declared.command.Job.TheVariants.{History, Check}
-use Rattle.cedr_run.specs.Commands.{limit_of}
 use Rattle.cedr_run.specs.Files.{IsFileFront}
 use Rattle.cedr_run.specs.Refusals.{fault_at}
 use Rattle.cedr_run.specs.Events.{AreEventsOf, TakesLine, JudgesFile, parts_behind}
@@ -129,7 +135,7 @@ front_at all front true true is_front is_all read =
 front_at all front true false is_front is_all read =
     absurd (omega (arith, ltb-true FILE_LIMIT (length front) is_front, ltb-false FILE_LIMIT (length all) is_all, ap length read.begins, length-append front read.rest))
 
-front_judged : (all front : List ℕ) → IsFileFront FILE_LIMIT all front → judged AnyText front ≡ judged AnyText all
+pub front_judged : (all front : List ℕ) → IsFileFront FILE_LIMIT all front → judged AnyText front ≡ judged AnyText all
 front_judged all front read = front_at all front (nat_lt FILE_LIMIT (length front)) (nat_lt FILE_LIMIT (length all)) refl refl read
 
 -- and a front of what is no plan, for its length, is none either
@@ -145,7 +151,51 @@ front_plan all front true true is_front is_all read =
 front_plan all front true false is_front is_all read =
     absurd (omega (arith, ltb-true longest (length front) is_front, ltb-false longest (length all) is_all, ap length read.begins, length-append front read.rest))
 
--- so it has the same answer
-pub front_answer : (job : Job) (all front : List ℕ) → IsFileFront (limit_of job) all front → answer_of job all ≡ answer_of job front
-front_answer History all front read = ap (λ (file : Judged). history_answer file.good file.fault) (sym (front_judged all front read))
-front_answer Check all front read = ap check_answer (front_plan all front (nat_lt longest (length front)) (nat_lt longest (length all)) refl refl read)
+pub plan_of_front : (all front : List ℕ) → IsFileFront longest all front → plan_of all ≡ plan_of front
+plan_of_front all front read = front_plan all front (nat_lt longest (length front)) (nat_lt longest (length all)) refl refl read
+
+-- ---- a script over the limit
+
+played_at : (nodes : List PlanNode) (shapes : List Shape) (all front : List ℕ) (long_front long_all : Bool) → nat_lt FILE_LIMIT (length front) ≡ long_front → nat_lt FILE_LIMIT (length all) ≡ long_all → IsFileFront FILE_LIMIT all front
+    → played nodes shapes front ≡ played nodes shapes all
+played_at nodes shapes all front false long_all is_front is_all read =
+    let nothing = read.whole (ltb-false FILE_LIMIT (length front) is_front) in
+    ap (played nodes shapes) (sym (read.begins ∙ (ap (λ rest. front ++ rest) nothing ∙ append-nil front)))
+played_at nodes shapes all front true true is_front is_all read =
+    let same = take-append-le FILE_LIMIT front read.rest (omega (arith, ltb-true FILE_LIMIT (length front) is_front)) in
+    ap (λ long. cond long (played_front nodes shapes (parts_of line_feed (take FILE_LIMIT front))) (played_lines nodes shapes (raw_lines front))) is_front
+    ∙ (ap (λ bytes. played_front nodes shapes (parts_of line_feed bytes)) (sym same ∙ ap (take FILE_LIMIT) (sym read.begins))
+    ∙ sym (ap (λ long. cond long (played_front nodes shapes (parts_of line_feed (take FILE_LIMIT all))) (played_lines nodes shapes (raw_lines all))) is_all))
+played_at nodes shapes all front true false is_front is_all read =
+    absurd (omega (arith, ltb-true FILE_LIMIT (length front) is_front, ltb-false FILE_LIMIT (length all) is_all, ap length read.begins, length-append front read.rest))
+
+pub played_of_front : (nodes : List PlanNode) (shapes : List Shape) (all front : List ℕ) → IsFileFront FILE_LIMIT all front → played nodes shapes front ≡ played nodes shapes all
+played_of_front nodes shapes all front read = played_at nodes shapes all front (nat_lt FILE_LIMIT (length front)) (nat_lt FILE_LIMIT (length all)) refl refl read
+
+-- ---- what a file that is told holds
+
+known_front : (limit : ℕ) (content : Option (List ℕ)) (bytes front : List ℕ) → content ≡ Some bytes → IfSome content (λ all. IsFileFront limit all front) → IsFileFront limit bytes front
+known_front limit content bytes front is h = subst (λ (known : Option (List ℕ)). IfSome known (λ all. IsFileFront limit all front)) is h
+
+pub given_history : (content : Option (List ℕ)) (bytes front seen items written : List ℕ) → content ≡ Some bytes → IfSome content (λ all. IsFileFront FILE_LIMIT all front) → seen ≡ front → GivesHistory seen items → written ≡ items → GivesHistory bytes written
+given_history content bytes front seen items written is read same h wrote =
+    let alike = front_judged bytes seen (subst (IsFileFront FILE_LIMIT bytes) (sym same) (known_front FILE_LIMIT content bytes front is read)) in
+    record { accepted = ap (λ (file : Judged). file.fault) (sym alike) ∙ h.accepted; text_is = wrote ∙ (h.text_is ∙ ap (λ (file : Judged). rows_text (history_of file.good)) alike) }
+
+pub refused_history : (content : Option (List ℕ)) (bytes front seen : List ℕ) (refusal : Refusal) → content ≡ Some bytes → IfSome content (λ all. IsFileFront FILE_LIMIT all front) → seen ≡ front → (judged AnyText seen).fault ≡ Some refusal
+    → (judged AnyText bytes).fault ≡ Some refusal
+refused_history content bytes front seen refusal is read same h =
+    let alike = front_judged bytes seen (subst (IsFileFront FILE_LIMIT bytes) (sym same) (known_front FILE_LIMIT content bytes front is read)) in
+    ap (λ (file : Judged). file.fault) (sym alike) ∙ h
+
+pub opened_front : (content : Option (List ℕ)) (front seen : List ℕ) (r : Result Drawn plans.Refusal) → IfSome content (λ all. IsFileFront longest all front) → seen ≡ front → plan_of seen ≡ r → IfSome content (λ bytes. plan_of bytes ≡ r)
+opened_front None front seen r read same h = tt
+opened_front (Some all) front seen r read same h = plan_of_front all front read ∙ (ap plan_of (sym same) ∙ h)
+
+-- a script of which a front was played
+-- the fault of a plan that was read
+pub fault_found : (bytes : List ℕ) (fault : PlanFault) (kind : PlanKind) (node : ℕ) → fault ≡ plan_fault.Refused kind node → IsFaultOf bytes fault → plan_of bytes ≡ Err (record { kind = kind; node = node })
+fault_found bytes fault kind node is h = subst (IsFaultOf bytes) is h
+
+pub played_known : (content : Option (List ℕ)) (bytes front seen : List ℕ) (nodes : List PlanNode) (shapes : List Shape) → content ≡ Some bytes → IfSome content (λ all. IsFileFront FILE_LIMIT all front) → seen ≡ front → played nodes shapes seen ≡ played nodes shapes bytes
+played_known content bytes front seen nodes shapes is read same = played_of_front nodes shapes bytes seen (subst (IsFileFront FILE_LIMIT bytes) (sym same) (known_front FILE_LIMIT content bytes front is read))

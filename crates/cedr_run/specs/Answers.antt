@@ -1,36 +1,193 @@
--- What a command answers for its file.
-use Rattle.std.specs.Prelude.{ℕ, List, [], Option, None, Some, Result, Ok, Err}
-use Rattle.cedr_text.specs.declared.event_line.EventLine.{EventLine}
+-- What a command writes, and why it is refused, by what the files hold that it reads.
+use Rattle.std.specs.Prelude.{ℕ, ◌≡◌, ◌<◌, Bool, true, false, List, [], ◌∷◌, ◌++◌, length, map, codes, if◌then◌else◌, Option, None, Some, Ok, Err}
+use Rattle.std.specs.Str.{bytes_eq}
 use Rattle.cedr_text.specs.declared.event_line.Shape.TheVariants.{AnyText}
 use Rattle.cedr_text.specs.Texts.{rows_text}
-use Rattle.cedr_guard.specs.declared.refusal.Refusal as events
+use Rattle.cedr_base.specs.Rows.{in_order}
+use Rattle.cedr_guard.specs.declared.refusal.Refusal.{Refusal}
 use Rattle.cedr_guard.specs.History.{history_of}
 use Rattle.cedr_guard.specs.Sources.{judged}
-use Rattle.cedr_plan.specs.Drawn.{Drawn}
-use Rattle.cedr_plan.specs.Plans as plans
+use Rattle.cedr_laws.specs.Lists.{Lists}
+use Rattle.cedr_live.specs.Plays.{IsPlayed, IsPlayedSoFar}
+use Rattle.cedr_make.specs.BuiltIn.{built_in}
+use Rattle.cedr_make.specs.Generator.{made_text}
+use Rattle.cedr_make.specs.Summary.{summary_text}
+use Rattle.cedr_plan.specs.Drawn.{Drawn, node_of}
 use Rattle.cedr_plan.specs.Plans.{plan_of}
 use Rattle.cedr_plan.specs.CheckTexts.{check_text}
-use Rattle.cedr_run.specs.declared.answer.Answer.{Answer}
-use Rattle.cedr_run.specs.declared.answer.Answer.TheVariants.{Lines, Faulty, BadPlan}
+use Rattle.cedr_plan.specs.declared.fault.PlanKind.{PlanKind}
+use Rattle.cedr_plan.specs.declared.plan.PlanNode.{PlanNode}
+use Rattle.cedr_query.specs.Queries.{output_place, query}
+use Rattle.cedr_serial.specs.Queries.{source_nodes, AreAccepted, IsAnswerText, IsStreamText, MayStream}
+use Rattle.cedr_serial.specs.Sources.{source_files, AreTold, AllHaveGiven, faulty_from}
+use Rattle.cedr_table.specs.Operators.{Tables, table_at}
 use Rattle.cedr_run.specs.declared.command.Job.{Job}
-use Rattle.cedr_run.specs.declared.command.Job.TheVariants.{History, Check}
+use Rattle.cedr_run.specs.declared.command.Job.TheVariants.{History, Check, Serial, Run, Stream, Audit, Live, Make}
+use Rattle.cedr_run.specs.Commands.{Command}
+use Rattle.cedr_run.specs.Refusals.{refusal_text}
 
--- the text of the canonical history, where an event file has no fault
-abbrev pub history_answer : List EventLine → Option events.Refusal → Answer
-history_answer lines None = Lines (rows_text (history_of lines))
-history_answer lines (Some refusal) = Faulty refusal
+-- what a file of each name holds
+abbrev pub Contents : Type 0
+Contents = List ℕ → Option (List ℕ)
 
--- a line for each node, where the bytes are a plan
-abbrev pub check_answer : Result Drawn plans.Refusal → Answer
-check_answer (Ok plan) = Lines (check_text plan.nodes)
-check_answer (Err refusal) = BadPlan refusal.kind refusal.node
+-- ---- plans
 
-abbrev pub answer_of : Job → List ℕ → Answer
-answer_of History bytes = history_answer (judged AnyText bytes).good (judged AnyText bytes).fault
-answer_of Check bytes = check_answer (plan_of bytes)
+-- the bytes describe a plan, and it has these nodes
+pub record IsPlanOf (bytes : List ℕ) (nodes : List PlanNode) : Type 0 where
+  pub plan : Drawn
+  pub described : plan_of bytes ≡ Ok plan
+  pub nodes_are : map node_of nodes ≡ plan.nodes
 
--- the text that an answer writes
-abbrev pub answer_text : Answer → List ℕ
-answer_text (Lines text) = text
-answer_text (Faulty refusal) = []
-answer_text (BadPlan kind node) = []
+-- the bytes describe none: this fault of this node comes first
+abbrev pub IsNoPlan : List ℕ → PlanKind → ℕ → Type 0
+IsNoPlan bytes kind node = plan_of bytes ≡ Err (record { kind = kind; node = node })
+
+-- ---- one file
+
+-- the canonical history of a file that is accepted
+pub record GivesHistory (bytes text : List ℕ) : Type 0 where
+  pub accepted : (judged AnyText bytes).fault ≡ None
+  pub text_is : text ≡ rows_text (history_of (judged AnyText bytes).good)
+
+-- a file of this name that isn't accepted, and its first fault
+pub record RefusesFile (name bytes said : List ℕ) : Type 0 where
+  pub fault : Refusal
+  pub first : (judged AnyText bytes).fault ≡ Some fault
+  pub said_is : said ≡ refusal_text name fault
+
+-- a line for each node of a plan
+pub record GivesNodes (bytes text : List ℕ) : Type 0 where
+  pub plan : Drawn
+  pub described : plan_of bytes ≡ Ok plan
+  pub text_is : text ≡ check_text plan.nodes
+
+-- ---- a plan and its sources
+
+-- The sources are accepted, and the text is that of the query over their canonical histories.
+pub record AnswersQuery (always : Bool) (told : List ℕ → List ℕ) (nodes : List PlanNode) (text : List ℕ) : Type 0 where
+  pub sources : Lists
+  pub histories : Tables
+  pub accepted : AreAccepted told (source_nodes nodes) sources histories
+  pub text_is : IsAnswerText always nodes sources histories text
+
+-- the same, of the changes of the answer
+pub record AnswersChanges (told : List ℕ → List ℕ) (nodes : List PlanNode) (text : List ℕ) : Type 0 where
+  pub sources : Lists
+  pub histories : Tables
+  pub accepted : AreAccepted told (source_nodes nodes) sources histories
+  pub text_is : IsStreamText nodes sources text
+
+-- and of a text of whose changes a front is written where writing or memory fails
+pub record BeginsChanges (told : List ℕ → List ℕ) (nodes : List PlanNode) (text : List ℕ) : Type 0 where
+  pub sources : Lists
+  pub histories : Tables
+  pub accepted : AreAccepted told (source_nodes nodes) sources histories
+  pub text_is : MayStream nodes sources text
+
+-- what a command gives of a plan of these nodes and its sources
+abbrev pub GivesPlan : Job → (List ℕ → List ℕ) → List PlanNode → List ℕ → Type 0
+GivesPlan Stream told nodes text = AnswersChanges told nodes text
+GivesPlan Audit told nodes text = AnswersQuery true told nodes text
+GivesPlan job told nodes text = AnswersQuery false told nodes text
+
+-- and of which a front is written where writing or memory fails
+abbrev pub BeginsPlan : Job → (List ℕ → List ℕ) → List PlanNode → List ℕ → Type 0
+BeginsPlan Stream told nodes text = BeginsChanges told nodes text
+BeginsPlan job told nodes text = GivesPlan job told nodes text
+
+-- a line for each node whose source isn't accepted, in the order of the plan, with its first fault
+abbrev pub fault_text : List ℕ → Option Refusal → List ℕ
+fault_text name None = []
+fault_text name (Some refusal) = refusal_text name refusal
+
+abbrev pub faults_text : List PlanNode → List (Option Refusal) → List ℕ
+faults_text [] faults = []
+faults_text (n ∷ nodes) [] = []
+faults_text (n ∷ nodes) (f ∷ faults) = fault_text n.name f ++ faults_text nodes faults
+
+-- some source isn't accepted, and all that aren't are told
+pub record RefusesSources (told : List ℕ → List ℕ) (nodes : List PlanNode) (said : List ℕ) : Type 0 where
+  pub left : Lists
+  pub faults : List (Option Refusal)
+  pub given : AllHaveGiven told nodes left faults
+  pub some : 0 < length (faulty_from 0 faults)
+  pub said_is : said ≡ faults_text nodes faults
+
+-- a plan of these nodes, and what holds of them where it is told what the files of its sources hold
+pub record OfPlan (content : Contents) (told : List ℕ → List ℕ) (file : List ℕ) (holds : List PlanNode → Type 0) : Type 0 where
+  pub nodes : List PlanNode
+  pub plan : IsPlanOf (told file) nodes
+  pub holding : AreTold content told (source_files nodes) → holds nodes
+
+-- ---- a script
+
+-- a plan of these nodes, and what holds of them
+pub record OfPlanAlone (bytes : List ℕ) (holds : List PlanNode → Type 0) : Type 0 where
+  pub nodes : List PlanNode
+  pub plan : IsPlanOf bytes nodes
+  pub holding : holds nodes
+
+-- a script that isn't accepted, and its first fault
+pub record RefusesScript (name bytes : List ℕ) (nodes : List PlanNode) (text said : List ℕ) : Type 0 where
+  pub fault : Refusal
+  pub played : IsPlayed nodes bytes text (Some fault)
+  pub said_is : said ≡ refusal_text name fault
+
+-- ---- the workload
+
+-- the file of a source of a workload, by its name
+abbrev pub made_file : ℕ → List ℕ → List ℕ
+made_file n name = if bytes_eq name (codes "a") then made_text 0 n else made_text 1 n
+
+-- the summary of the query of its plan over the canonical histories of its sources
+pub record GivesSummary (n : ℕ) (text : List ℕ) : Type 0 where
+  pub nodes : List PlanNode
+  pub nodes_are : map node_of nodes ≡ built_in.nodes
+  pub sources : Lists
+  pub histories : Tables
+  pub accepted : AreAccepted (made_file n) (source_nodes nodes) sources histories
+  pub text_is : text ≡ summary_text (in_order (table_at (query histories nodes) (output_place nodes)))
+
+-- ---- each command
+
+-- what a command writes where nothing stands in its way
+abbrev pub Gives : Contents → (List ℕ → List ℕ) → Command → List ℕ → Type 0
+Gives content told command text = gives command.job where
+  gives : Job → Type 0
+  gives History = GivesHistory (told command.file) text
+  gives Check = GivesNodes (told command.file) text
+  gives Serial = OfPlan content told command.file (λ nodes. GivesPlan Serial told nodes text)
+  gives Run = OfPlan content told command.file (λ nodes. GivesPlan Run told nodes text)
+  gives Audit = OfPlan content told command.file (λ nodes. GivesPlan Audit told nodes text)
+  gives Stream = OfPlan content told command.file (λ nodes. GivesPlan Stream told nodes text)
+  gives Live = OfPlanAlone (told command.file) (λ nodes. IsPlayed nodes (told command.script) text None)
+  gives (Make n) = GivesSummary n text
+
+-- what it wrote, and what is said of it, where some line isn't accepted
+abbrev pub Refuses : Contents → (List ℕ → List ℕ) → Command → List ℕ → List ℕ → Type 0
+Refuses content told command text said = refuses command.job where
+  refuses : Job → Type 0
+  refuses History = (text ≡ []) × RefusesFile command.file (told command.file) said
+  refuses Check = ⊥
+  refuses Serial = (text ≡ []) × OfPlan content told command.file (λ nodes. RefusesSources told nodes said)
+  refuses Run = (text ≡ []) × OfPlan content told command.file (λ nodes. RefusesSources told nodes said)
+  refuses Audit = (text ≡ []) × OfPlan content told command.file (λ nodes. RefusesSources told nodes said)
+  refuses Stream = (text ≡ []) × OfPlan content told command.file (λ nodes. RefusesSources told nodes said)
+  refuses Live = OfPlanAlone (told command.file) (λ nodes. RefusesScript command.script (told command.script) nodes text said)
+  refuses (Make n) = ⊥
+
+-- a text of which a front is written where writing or memory fails
+abbrev pub Begins : Contents → (List ℕ → List ℕ) → Command → List ℕ → Type 0
+Begins content told command text = begins command.job where
+  begins : Job → Type 0
+  begins Stream = OfPlan content told command.file (λ nodes. BeginsPlan Stream told nodes text)
+  begins Live = OfPlanAlone (told command.file) (λ nodes. IsPlayedSoFar nodes (told command.script) text)
+  begins job = Gives content told command text
+
+-- its file is no plan, and has this fault first
+abbrev pub RefusesPlan : (List ℕ → List ℕ) → Command → PlanKind → ℕ → Type 0
+RefusesPlan told command kind node = refuses command.job where
+  refuses : Job → Type 0
+  refuses History = ⊥
+  refuses (Make n) = ⊥
+  refuses job = IsNoPlan (told command.file) kind node

@@ -1,5 +1,6 @@
 -- What `history` keeps of the lines of a file.
-use Rattle.std.specs.Prelude.{ℕ, ◌≡◌, ◌+◌, Bool, true, false, List, [], ◌∷◌, length, map, nat_lt, if◌then◌else◌, None, Some, Result, Ok, Err}
+use Rattle.std.specs.Prelude.{ℕ, ◌≡◌, ◌+◌, Bool, true, false, List, [], ◌∷◌, length, map, nat_lt, if◌then◌else◌, None, Some, Result, Ok, Err, Vec}
+use Rattle.std.specs.Global.{Global}
 use Rattle.cedr_base.specs.declared.row.Row.{Row}
 use Rattle.cedr_base.specs.declared.field.Field.{Field}
 use Rattle.cedr_text.specs.declared.event_line.EventLine.{EventLine}
@@ -9,8 +10,9 @@ use Rattle.cedr_guard.specs.declared.fault.GuardFault.{GuardFault}
 use Rattle.cedr_guard.specs.declared.fault.GuardFault.TheVariants as guard_fault
 use Rattle.cedr_guard.specs.declared.judge.Interval.{Interval}
 use Rattle.cedr_guard.specs.History.{rows_among}
-use Rattle.cedr_guard.specs.Sources.{Judged, judged_behind, whole_lines, unfinished_line, first_fault, limit_fault}
+use Rattle.cedr_guard.specs.Sources.{judged, Judged, judged_behind, whole_lines, unfinished_line, first_fault, limit_fault}
 use Rattle.cedr_guard.specs.Standing.{StandsFor, payload_of}
+use Rattle.cedr_run.specs.Answers.{GivesHistory}
 use Rattle.cedr_run.specs.declared.events.Events.{Events}
 use Rattle.cedr_run.specs.declared.refusal.JudgeFault.{JudgeFault}
 use Rattle.cedr_run.specs.declared.refusal.JudgeFault.TheVariants as judge_fault
@@ -48,3 +50,9 @@ parts_behind true count before parts = record {
   good = (judged_behind AnyText count before (whole_lines parts)).good;
   fault = Some (first_fault (judged_behind AnyText count before (whole_lines parts)).fault (record { line = count + length (whole_lines parts) + 1; fault = limit_fault (unfinished_line parts) }));
 }
+
+-- the text of the canonical history of a file, or its first fault
+abbrev pub AnswersHistory : Result (Vec ℕ Global) JudgeFault → List ℕ → Type 0
+AnswersHistory (Ok text) bytes = GivesHistory bytes text.items
+AnswersHistory (Err (judge_fault.Refused refusal)) bytes = (judged AnyText bytes).fault ≡ Some refusal
+AnswersHistory (Err judge_fault.OutOfMemory) bytes = Unit {0}

@@ -1,9 +1,10 @@
 pub mod Refusals
-pub mod Events
 pub mod Commands
-pub mod Answers
 pub mod Files
 pub mod Seen
+pub mod Answers
+pub mod Events
 pub mod Outcomes
+pub mod Steps
 pub mod Ending
 pub mod Codes

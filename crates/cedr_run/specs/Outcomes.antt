@@ -1,17 +1,20 @@
--- The parts of the top call: how a command went, and what is said of it.
-use Rattle.std.specs.Prelude.{ℕ, ◌≡◌, ◌<◌, ◌⊎◌, List, [], ◌∷◌, ◌++◌, codes, Option, IfSome}
-use Rattle.std.specs.Io.KnownBytes.{Keeps}
+-- How a command went, and what is said of it.
+use Rattle.std.specs.Prelude.{ℕ, ◌≢◌, ◌<◌, ◌⊎◌, List, [], ◌∷◌, ◌++◌, codes}
+use Rattle.std.specs.Io.KnownBytes.{Appends, Keeps}
 use Rattle.cedr_io.specs.Asked.{AppendsFront}
-use Rattle.cedr_run.specs.declared.answer.Answer.{Answer}
-use Rattle.cedr_run.specs.declared.answer.Answer.TheVariants.{Faulty, BadPlan}
+use Rattle.cedr_plan.specs.declared.plan.PlanNode.{PlanNode}
+use Rattle.cedr_serial.specs.Sources.{AsksFirst, AreTold, source_files}
+use Rattle.cedr_text.specs.Texts.{line_feed}
+use Rattle.cedr_run.specs.declared.command.Job.{Job}
+use Rattle.cedr_run.specs.declared.command.Job.TheVariants.{Serial, Run, Stream, Audit, Live}
 use Rattle.cedr_run.specs.declared.outcome.Outcome.{Outcome}
 use Rattle.cedr_run.specs.declared.outcome.Outcome.TheVariants as outcome
 use Rattle.cedr_run.specs.declared.status.Status.{Status}
 use Rattle.cedr_run.specs.declared.status.Status.TheVariants as status
-use Rattle.cedr_run.specs.Answers.{answer_text}
-use Rattle.cedr_run.specs.Refusals.{refusal_text, plan_fault_text}
-use Rattle.cedr_run.specs.Seen.{FilesSeen, SinkSeen, NoneRose, Writes, BreaksOff}
-use Rattle.cedr_text.specs.Texts.{line_feed}
+use Rattle.cedr_run.specs.Answers.{IsPlanOf, Gives, Refuses, Begins, RefusesPlan}
+use Rattle.cedr_run.specs.Commands.{Command, named_files}
+use Rattle.cedr_run.specs.Refusals.{plan_fault_text}
+use Rattle.cedr_run.specs.Seen.{FilesSeen, SinkSeen, NoneRose, BreaksOff}
 
 -- ---- texts on standard error
 
@@ -27,37 +30,72 @@ write_text = codes "write fault" ++ line_feed ∷ []
 abbrev pub memory_text : List ℕ
 memory_text = codes "out of memory" ++ line_feed ∷ []
 
--- ---- how a command went
+-- what standard error is told
+abbrev pub told_text : Outcome → List ℕ
+told_text outcome.Done = []
+told_text outcome.Usage = usage_text
+told_text (outcome.Events said) = said.items
+told_text (outcome.BadPlan kind node) = plan_fault_text kind node
+told_text outcome.Read = read_text
+told_text outcome.Write = write_text
+told_text outcome.OutOfMemory = memory_text
 
 abbrev pub status_of : Outcome → Status
 status_of outcome.Done = status.Done
 status_of outcome.Usage = status.Usage
-status_of (outcome.Faulty refusal) = status.Events
+status_of (outcome.Events said) = status.Events
 status_of (outcome.BadPlan kind node) = status.Plan
 status_of outcome.Read = status.Read
 status_of outcome.Write = status.Write
 status_of outcome.OutOfMemory = status.OutOfMemory
 
--- what standard error is told
-abbrev pub told_text : Outcome → List ℕ → List ℕ
-told_text outcome.Done file = []
-told_text outcome.Usage file = usage_text
-told_text (outcome.Faulty refusal) file = refusal_text file refusal
-told_text (outcome.BadPlan kind node) file = plan_fault_text kind node
-told_text outcome.Read file = read_text
-told_text outcome.Write file = write_text
-told_text outcome.OutOfMemory file = memory_text
-
 -- where memory ran out: err gained a front of the words for that, or lacked memory itself behind a front of this text
 abbrev pub TellsLack : SinkSeen → SinkSeen → List ℕ → Type 0
 TellsLack err err' text = AppendsFront err.written err'.written memory_text ⊎ BreaksOff err err' text
 
--- a command whose answer is known or not: which counts rose, and what out gained
-abbrev pub CommandEnds : Option Answer → FilesSeen → FilesSeen → SinkSeen → SinkSeen → Outcome → Type 0
-CommandEnds answer files files' out out' outcome.Done = NoneRose files files' out out' × IfSome answer (Writes out.written out'.written)
-CommandEnds answer files files' out out' outcome.Usage = ⊥
-CommandEnds answer files files' out out' (outcome.Faulty refusal) = NoneRose files files' out out' × Keeps out.written out'.written × IfSome answer (λ a. a ≡ Faulty refusal)
-CommandEnds answer files files' out out' (outcome.BadPlan kind node) = NoneRose files files' out out' × Keeps out.written out'.written × IfSome answer (λ a. a ≡ BadPlan kind node)
-CommandEnds answer files files' out out' outcome.Read = (files.faults < files'.faults) × Keeps out.written out'.written
-CommandEnds answer files files' out out' outcome.Write = (out.faults < out'.faults) × IfSome answer (λ a. AppendsFront out.written out'.written (answer_text a))
-CommandEnds answer files files' out out' outcome.OutOfMemory = IfSome answer (λ a. AppendsFront out.written out'.written (answer_text a))
+-- ---- how a command went
+
+-- Where it is told what the named files hold: out gained a text of which this holds.
+abbrev pub Wrote : FilesSeen → Command → SinkSeen → SinkSeen → ((List ℕ → List ℕ) → List ℕ → Type 0) → Type 0
+Wrote files command out out' holds = (told : List ℕ → List ℕ) → AreTold files.content told (named_files command) → (text : List ℕ) × holds told text × Appends out.written out'.written text
+
+-- and a front of such a text
+abbrev pub WroteFront : FilesSeen → Command → SinkSeen → SinkSeen → ((List ℕ → List ℕ) → List ℕ → Type 0) → Type 0
+WroteFront files command out out' holds = (told : List ℕ → List ℕ) → AreTold files.content told (named_files command) → (text : List ℕ) × holds told text × AppendsFront out.written out'.written text
+
+-- nothing was written, unless this command writes as it goes
+abbrev pub IsSilent : Command → SinkSeen → SinkSeen → Type 0
+IsSilent command out out' = command.job ≢ Live → Keeps out.written out'.written
+
+-- Which counts rose, and what out gained:
+-- `Done`: nothing refused, and out gained what the command gives.
+-- `Events`: nothing refused, and some line that the command read isn't accepted, which is what is said.
+-- `BadPlan`: nothing refused or was written, and the file is no plan.
+-- `Read` and `Write`: a count rose.
+-- At `Write` and at want of memory out gained nothing, or a front of what the command gives.
+abbrev pub CommandEnds : Command → FilesSeen → FilesSeen → SinkSeen → SinkSeen → Outcome → Type 0
+CommandEnds command files files' out out' outcome.Done = NoneRose files files' out out' × Wrote files command out out' (λ told text. Gives files.content told command text)
+CommandEnds command files files' out out' outcome.Usage = ⊥
+CommandEnds command files files' out out' (outcome.Events said) = NoneRose files files' out out' × IsSilent command out out' × Wrote files command out out' (λ told text. Refuses files.content told command text said.items)
+CommandEnds command files files' out out' (outcome.BadPlan kind node) = NoneRose files files' out out' × Keeps out.written out'.written × ((told : List ℕ → List ℕ) → AreTold files.content told (command.file ∷ []) → RefusesPlan told command kind node)
+CommandEnds command files files' out out' outcome.Read = (files.faults < files'.faults) × Keeps out.written out'.written
+CommandEnds command files files' out out' outcome.Write = (out.faults < out'.faults) × WroteFront files command out out' (λ told text. Begins files.content told command text)
+CommandEnds command files files' out out' outcome.OutOfMemory = Keeps out.written out'.written ⊎ WroteFront files command out out' (λ told text. Begins files.content told command text)
+
+-- ---- which files were asked for
+
+-- of a plan and the files of its sources the first ones, each once and in this order
+pub record AsksPlan (files files' : FilesSeen) (file : List ℕ) : Type 0 where
+  pub nodes : List PlanNode
+  pub plan : (told : List ℕ → List ℕ) → AreTold files.content told (file ∷ []) → IsPlanOf (told file) nodes
+  pub asked : AsksFirst files.asked files'.asked (file ∷ source_files nodes)
+
+-- the named files alone, or where the command reads the sources of a plan those too
+abbrev pub AsksOnly : Command → FilesSeen → FilesSeen → Type 0
+AsksOnly command files files' = asks command.job where
+  asks : Job → Type 0
+  asks Serial = AsksFirst files.asked files'.asked (named_files command) ⊎ AsksPlan files files' command.file
+  asks Run = AsksFirst files.asked files'.asked (named_files command) ⊎ AsksPlan files files' command.file
+  asks Audit = AsksFirst files.asked files'.asked (named_files command) ⊎ AsksPlan files files' command.file
+  asks Stream = AsksFirst files.asked files'.asked (named_files command) ⊎ AsksPlan files files' command.file
+  asks job = AsksFirst files.asked files'.asked (named_files command)

@@ -3,8 +3,6 @@ use Rattle.std.specs.Prelude.{ℕ, ◌≡◌, ◌⊎◌, List, Option}
 use Rattle.std.specs.Io.KnownBytes.{Appends}
 use Rattle.cedr_io.specs.Counts.{Rose}
 use Rattle.cedr_io.specs.Asked.{AppendsFront}
-use Rattle.cedr_run.specs.declared.answer.Answer.{Answer}
-use Rattle.cedr_run.specs.declared.answer.Answer.TheVariants.{Lines, Faulty, BadPlan}
 
 pub record FilesSeen : Type 0 where
   pub content : List ℕ → Option (List ℕ)
@@ -25,12 +23,6 @@ seen_sink written faults sink = record { written = written sink; faults = faults
 pub record NoneRose (files files' : FilesSeen) (out out' : SinkSeen) : Type 0 where
   pub files_count : files'.faults ≡ files.faults
   pub out_count : out'.faults ≡ out.faults
-
--- out gained this answer's text
-abbrev pub Writes : Option (List ℕ) → Option (List ℕ) → Answer → Type 0
-Writes old new (Lines text) = Appends old new text
-Writes old new (Faulty refusal) = ⊥
-Writes old new (BadPlan kind node) = ⊥
 
 -- a sink took the text, or only a front of it and its count rose
 abbrev pub Tells : SinkSeen → SinkSeen → List ℕ → Type 0

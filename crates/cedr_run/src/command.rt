@@ -1,48 +1,102 @@
-ghost use Rattle.std.specs.Prelude.{◌≡◌, None, List, ℕ, option_map, map, MatchBool};
+ghost use Rattle.std.specs.Prelude.{◌≡◌, ◌<◌, ◌≤◌, ◌+◌, ◌-◌, ◌*◌, ◌^◌, IfSome, option_map, map};
+ghost use Rattle.std.specs.Int.{IsInRange};
+ghost use Rattle.std.specs.Option.{SomeIff};
 ghost use Rattle.std.specs.String.{string_bytes};
-ghost use Rattle.cedr_run.specs.Commands.{command_of, limit_of, IsAlone};
+ghost use Rattle.cedr_text.specs.Numbers.{whole_number};
+ghost use Rattle.cedr_run.specs.Commands.{Command, job_of, events_of, command_of, IsMakeable};
 
-use cedr_guard::FILE_LIMIT;
-use cedr_plan::PLAN_LIMIT;
-
-/// What a command does with its one file.
+/// What a command does.
 #[derive(Clone, Copy, PartialEq, Eq, Debug)]
 pub(crate) enum Job {
     /// Writes the canonical history of an event file.
     History,
     /// Writes the nodes of a plan and their types.
     Check,
+    /// Writes the answer of a plan, on one thread.
+    Serial,
+    /// Writes the answer of a plan.
+    Run,
+    /// Writes the changes of a plan's answer as they come.
+    Stream,
+    /// Writes the answer of a plan and what its ports forgot.
+    Audit,
+    /// Plays a script over a plan.
+    Live,
+    /// Writes the summary of the answer to a workload of so many events a source.
+    Make(u64),
 }
 
-impl Job {
-    /// How many bytes the file may have.
-    pub(crate) fn limit(self) -> usize
-        ensures { result ≡ limit_of self }
-    {
-        match self {
-            Job::History => FILE_LIMIT,
-            Job::Check => PLAN_LIMIT,
-        }
-    }
-}
-
-/// The command that the words name, and its file.
-pub(crate) fn command(words: &[String]) -> Option<(Job, &str)>
-    ensures { option_map (λ named. (named.0, named.1.now)) result ≡ command_of (map string_bytes words.now) }
+/// The command of a word, which takes one file.
+fn named_job(word: &str) -> Option<Job>
+    ensures { result ≡ job_of word.now }
 {
-    match words {
-        [command, file] if command.as_str() == "history" => Some((Job::History, file.as_str())),
-        [command, file] if command.as_str() == "check" => Some((Job::Check, file.as_str())),
+    match word {
+        "history" => Some(Job::History),
+        "check" => Some(Job::Check),
+        "serial" => Some(Job::Serial),
+        "run" => Some(Job::Run),
+        "stream" => Some(Job::Stream),
+        "audit" => Some(Job::Audit),
         _ => None,
     }
 }
 
-/// Whether the words match neither `run PLAN` nor `stream PLAN`.
-pub(crate) fn is_alone(words: &[String]) -> bool
-    ensures { MatchBool result (IsAlone (map string_bytes words.now)) (command_of (map string_bytes words.now) ≡ None) }
+/// The number that digits spell, up to 100,000. Leading zeros are accepted.
+fn number(digits: &[u8]) -> Option<u64>
+    ensures value { result ≡ whole_number 100000 digits.now }
+    ensures most { IfSome result (λ value. value ≤ 100000) }
+{
+    if digits.is_empty() {
+        return None;
+    }
+    let mut value = 0u64;
+    for digit in digits {
+        if !digit.is_ascii_digit() {
+            return None;
+        }
+        value = push_digit(value, *digit)?;
+    }
+    if value <= 100_000 { Some(value) } else { None }
+}
+
+/// The number with one more digit, where it fits 64 bits.
+fn push_digit(value: u64, digit: u8) -> Option<u64>
+    requires { IsInRange 48 57 digit }
+    ensures { SomeIff result (value * 10 + (digit - 48) < 2 ^ 64) (value * 10 + (digit - 48)) }
+{
+    value.checked_mul(10)?.checked_add(u64::from(digit - b'0'))
+}
+
+/// A number of events from 1 to 100,000, of one to six digits.
+fn events(word: &[u8]) -> Option<u64>
+    ensures value { result ≡ events_of word.now }
+    ensures least { IfSome result (λ events. 0 < events) }
+    ensures most { IfSome result (λ events. events ≤ 100000) }
+{
+    if word.len() > 6 {
+        return None;
+    }
+    let events = number(word)?;
+    if events > 0 { Some(events) } else { None }
+}
+
+/// The command that the words name, its file and its script.
+pub(crate) fn command(words: &[String]) -> Option<(Job, &str, &str)>
+    ensures named { option_map (λ named. record { job = named.0; file = named.1.now; script = named.2.now }) result ≡ command_of (map string_bytes words.now) }
+    ensures makeable { IfSome result (λ named. IsMakeable named.0) }
 {
     match words {
-        [command, _] => command.as_str() != "run" && command.as_str() != "stream",
-        _ => true,
+        [word, count] if word.as_str() == "make" => {
+            let events = events(count.as_bytes())?;
+            Some((Job::Make(events), "", ""))
+        }
+        [word, file] => {
+            let job = named_job(word.as_str())?;
+            Some((job, file.as_str(), ""))
+        }
+        [word, plan, script] if word.as_str() == "live" => {
+            Some((Job::Live, plan.as_str(), script.as_str()))
+        }
+        _ => None,
     }
 }

@@ -1,28 +1,27 @@
-ghost use Rattle.std.specs.Prelude.{◌≡◌, ◌<◌, ◌≤◌, ◌+◌, ◌∷◌, [], length, ℕ, List, IfOk, IfSome, option_map};
+ghost use Rattle.std.specs.Prelude.{◌≡◌, ◌<◌, ◌≤◌, ◌+◌, length, ℕ, List, IfOk, IfSome};
 ghost use Rattle.cedr_io.specs.Counts.{Counts, last_count};
-ghost use Rattle.cedr_run.specs.Answers.{answer_of};
 ghost use Rattle.cedr_guard.specs.declared.refusal.TheConstants.{FILE_LIMIT};
-ghost use Rattle.cedr_run.specs.Files.{IsFileFront, AsksFirst};
+ghost use Rattle.cedr_run.specs.Files.{IsFileFront, AsksFile};
 
-use crate::command::Job;
 use cedr_io::{Files, OutsideFault, Source};
 use std::alloc::Global;
 
-/// The bytes of a command's file, or its first ones where these pass the limit, which have the same answer.
+/// The bytes of a file, or its first ones where these pass the limit.
 pub(crate) fn read_file<F: Files>(
     alloc: Global,
-    job: Job,
+    limit: usize,
     files: &mut F,
     name: &[u8],
 ) -> Result<Vec<u8>, OutsideFault>
-    requires { F.faults files.old < last_count }
-    ensures bytes { IfOk result (λ bytes. IfSome (option_map (answer_of job) (F.content files.old name.now)) (λ answer. answer ≡ answer_of job bytes.items)) }
+    requires limit { limit ≤ FILE_LIMIT }
+    requires counts { F.faults files.old < last_count }
+    ensures bytes { IfOk result (λ bytes. IfSome (F.content files.old name.now) (λ all. IsFileFront limit all bytes.items)) }
     ensures counted { Counts result (F.faults files.old) (F.faults files.new) }
-    ensures asked { AsksFirst (F.asked files.old) (F.asked files.new) (name.now ∷ []) }
+    ensures asked { AsksFile result (F.asked files.old) (F.asked files.new) name.now }
     ensures contents { (n : List ℕ) → F.content files.new n ≡ F.content files.old n }
 {
     let mut source = files.find(name)?;
-    let bytes = read_all(alloc, job.limit(), &mut source);
+    let bytes = read_all(alloc, limit, &mut source);
     files.give_back(source);
     bytes
 }

@@ -7,13 +7,18 @@
 //! `cedr_plan` defines them.
 #![tactic(auto)]
 
-mod answer;
 mod carry_out;
 mod command;
 mod events;
 mod file;
+mod history;
+mod make;
 mod outcome;
+mod plan;
 mod refusal;
+mod saying;
+mod script;
+mod sources;
 mod status;
 mod top;
 
@@ -22,5 +27,7 @@ pub use top::{run, run_alone};
 
 #[cfg(test)]
 mod check_tests;
+#[cfg(test)]
+mod plan_tests;
 #[cfg(test)]
 mod tests;

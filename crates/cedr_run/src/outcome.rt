@@ -3,23 +3,22 @@ ghost use Rattle.cedr_run.specs.declared.status.Status.TheVariants as status;
 ghost use Rattle.cedr_run.specs.Seen.{Tells, seen_sink};
 ghost use Rattle.cedr_run.specs.Outcomes.{status_of, told_text, TellsLack};
 
-use crate::refusal::{write_plan_fault, write_refusal};
+use crate::refusal::write_plan_fault;
 use crate::status::Status;
 use cedr_base::OutOfMemory;
-use cedr_guard::Refusal;
 use cedr_io::{OutsideFault, Sink, write_all};
 use cedr_plan::PlanKind;
 use std::alloc::Global;
 
 /// How a command went.
-#[derive(Clone, Copy)]
+#[derive(Drop)]
 pub(crate) enum Outcome {
     Done,
     /// The words match no command.
     Usage,
-    /// Some line of the file has a fault, or the file is too large.
-    Faulty(Refusal),
-    /// The plan is refused, for a fault of the node of this number.
+    /// Some line isn't accepted. This is said of it.
+    Events(Vec<u8>),
+    /// The plan is refused, for a fault of the node of this number, or of the document at 0.
     BadPlan(PlanKind, usize),
     Read,
     Write,
@@ -27,13 +26,13 @@ pub(crate) enum Outcome {
 }
 
 impl Outcome {
-    fn status(self) -> Status
-        ensures { result ≡ status_of self }
+    fn status(&self) -> Status
+        ensures { result ≡ status_of self.now }
     {
         match self {
             Outcome::Done => Status::Done,
             Outcome::Usage => Status::Usage,
-            Outcome::Faulty(_) => Status::Events,
+            Outcome::Events(_) => Status::Events,
             Outcome::BadPlan(_, _) => Status::Plan,
             Outcome::Read => Status::Read,
             Outcome::Write => Status::Write,
@@ -42,8 +41,8 @@ impl Outcome {
     }
 
     /// What standard error is told of it.
-    fn text(self, alloc: Global, file: &[u8]) -> Result<Vec<u8>, OutOfMemory>
-        ensures { IfOk result (λ text. text.items ≡ told_text self file.now) }
+    fn text(self, alloc: Global) -> Result<Vec<u8>, OutOfMemory>
+        ensures { IfOk result (λ text. text.items ≡ told_text self) }
     {
         let mut text = Vec::new(alloc);
         match self {
@@ -51,7 +50,7 @@ impl Outcome {
             Outcome::Usage => text.extend_from_slice(
                 b"usage: cedr history FILE | check PLAN | serial PLAN | run PLAN | stream PLAN | audit PLAN | live PLAN SCRIPT | make N\n",
             )?,
-            Outcome::Faulty(refusal) => write_refusal(file, &refusal, &mut text)?,
+            Outcome::Events(said) => return Ok(said),
             Outcome::BadPlan(kind, node) => write_plan_fault(kind, node, &mut text)?,
             Outcome::Read => text.extend_from_slice(b"read fault\n")?,
             Outcome::Write => text.extend_from_slice(b"write fault\n")?,
@@ -61,20 +60,21 @@ impl Outcome {
     }
 
     /// Tells standard error of it, and answers its status, or want of memory where the text found none.
-    pub(crate) fn report<E: Sink>(self, alloc: Global, file: &[u8], err: &mut E) -> Status
+    pub(crate) fn report<E: Sink>(self, alloc: Global, err: &mut E) -> Status
         ensures status { (result ≡ status_of self) ⊎ (result ≡ status.OutOfMemory) }
         ensures told { result ≢ status.OutOfMemory
-            → Tells (seen_sink E.written E.faults err.old) (seen_sink E.written E.faults err.new) (told_text self file.now) }
+            → Tells (seen_sink E.written E.faults err.old) (seen_sink E.written E.faults err.new) (told_text self) }
         ensures lacking { result ≡ status.OutOfMemory
-            → TellsLack (seen_sink E.written E.faults err.old) (seen_sink E.written E.faults err.new) (told_text self file.now) }
+            → TellsLack (seen_sink E.written E.faults err.old) (seen_sink E.written E.faults err.new) (told_text self) }
     {
-        let Ok(text) = self.text(alloc, file) else {
+        let status = self.status();
+        let Ok(text) = self.text(alloc) else {
             let _ = write_all(err, b"out of memory\n");
             return Status::OutOfMemory;
         };
         match write_all(err, &text) {
             Err(OutsideFault::OutOfMemory) => Status::OutOfMemory,
-            Ok(()) | Err(OutsideFault::Failed) => self.status(),
+            Ok(()) | Err(OutsideFault::Failed) => status,
         }
     }
 }

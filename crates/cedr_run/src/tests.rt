@@ -1,5 +1,4 @@
 use super::*;
-use crate::command::is_alone;
 use cedr_base::OutOfMemory;
 use cedr_io::{MemFiles, MemSink, OpenGate};
 use std::alloc::Global;
@@ -10,7 +9,7 @@ const USAGE: &str =
 
 const EVENTS: &[u8] = b"+,1,1,10,a\n-,1,5\n+,2,3,inf,b\n=,4\n";
 
-fn words(alloc: Global, texts: &[&str]) -> Result<Vec<String>, OutOfMemory> {
+pub(crate) fn words(alloc: Global, texts: &[&str]) -> Result<Vec<String>, OutOfMemory> {
     let mut words = Vec::new(alloc);
     for text in texts {
         words.push(String::from_str(alloc, text)?)?;
@@ -33,9 +32,19 @@ pub(crate) fn answer(
     let alloc = rt.alloc();
     let mut files = MemFiles::new(alloc);
     files.add(file, bytes)?;
-    let (mut out, mut err) = (MemSink::new(alloc), MemSink::new(alloc));
     let words = words(alloc, &[command, file])?;
-    let status = run(rt, alloc, &words, &mut files, &mut out, &mut err, &OpenGate);
+    ended(rt, &words, &mut files)
+}
+
+/// The status, and what out and err are told, where these words are carried out.
+pub(crate) fn ended(
+    rt: &HostRuntime,
+    words: &[String],
+    files: &mut MemFiles,
+) -> Result<(u8, Vec<u8>, Vec<u8>), OutOfMemory> {
+    let alloc = rt.alloc();
+    let (mut out, mut err) = (MemSink::new(alloc), MemSink::new(alloc));
+    let status = run(rt, alloc, words, files, &mut out, &mut err, &OpenGate);
     let written = Vec::from_slice(alloc, out.written())?;
     Ok((
         status.code(),
@@ -204,13 +213,18 @@ fn words_that_match_no_command_are_told_the_usage(rt: HostRuntime) -> Result<(),
         &["history"],
         &["history", "a", "b"],
         &["History", "a"],
-        &["run", "p.json"],
-        &["stream", "p.json"],
+        &["run"],
+        &["stream", "p.json", "q.json"],
         &["check"],
         &["check", "p.json", "q.json"],
         &["Check", "p.json"],
-        &["serial", "p.json"],
-        &["make", "1"],
+        &["live", "p.json"],
+        &["make"],
+        &["make", "0"],
+        &["make", "100001"],
+        &["make", "0000001"],
+        &["make", "+1"],
+        &["make", "1.0"],
     ] {
         let mut files = MemFiles::new(alloc);
         let (mut out, mut err) = (MemSink::new(alloc), MemSink::new(alloc));
@@ -233,7 +247,6 @@ fn run_alone_answers_as_run_does(rt: HostRuntime) -> Result<(), Fail> {
         files.add("e.csv", EVENTS)?;
         let (mut out, mut err) = (MemSink::new(alloc), MemSink::new(alloc));
         let words = words(alloc, &["history", file])?;
-        assert!(rt; is_alone(&words));
         let ended = run_alone(alloc, &words, &mut files, &mut out, &mut err);
         assert_eq!(rt; ended, status);
     }

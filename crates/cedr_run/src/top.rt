@@ -6,7 +6,7 @@ ghost use Rattle.cedr_run.specs.Seen.{seen_files, seen_sink};
 ghost use Rattle.cedr_run.specs.Ending.{Ends};
 
 use crate::carry_out::carry_out;
-use crate::command::{command, is_alone};
+use crate::command::command;
 use crate::outcome::Outcome;
 use crate::status::Status;
 use cedr_io::{Files, Gate, Sink};
@@ -30,11 +30,7 @@ pub fn run<R, F: Files, K: Sink, E: Sink, G: Gate>(
         (seen_sink K.written K.faults out.old) (seen_sink K.written K.faults out.new)
         (seen_sink E.written E.faults err.old) (seen_sink E.written E.faults err.new) result }
 {
-    if is_alone(words) {
-        run_alone(alloc, words, files, out, err)
-    } else {
-        Outcome::Usage.report(alloc, b"", err)
-    }
+    call(alloc, words, files, out, err)
 }
 
 /// The same for all words but `run PLAN` and `stream PLAN`: it starts no thread and waits for nobody.
@@ -53,9 +49,28 @@ pub fn run_alone<F: Files, K: Sink, E: Sink>(
         (seen_sink K.written K.faults out.old) (seen_sink K.written K.faults out.new)
         (seen_sink E.written E.faults err.old) (seen_sink E.written E.faults err.new) result }
 {
-    let Some((job, file)) = command(words) else {
-        return Outcome::Usage.report(alloc, b"", err);
-    };
-    let file = file.as_bytes();
-    carry_out(alloc, job, file, files, out).report(alloc, file, err)
+    call(alloc, words, files, out, err)
+}
+
+fn call<F: Files, K: Sink, E: Sink>(
+    alloc: Global,
+    words: &[String],
+    files: &mut F,
+    out: &mut K,
+    err: &mut E,
+) -> Status
+    requires files_count { F.faults files.old < last_count }
+    requires out_counts { K.faults out.old < last_count }
+    ensures { Ends (command_of (map string_bytes words.now))
+        (seen_files F.content F.faults F.asked files.old) (seen_files F.content F.faults F.asked files.new)
+        (seen_sink K.written K.faults out.old) (seen_sink K.written K.faults out.new)
+        (seen_sink E.written E.faults err.old) (seen_sink E.written E.faults err.new) result }
+{
+    match command(words) {
+        None => Outcome::Usage.report(alloc, err),
+        Some((job, file, script)) => {
+            let outcome = carry_out(alloc, job, file.as_bytes(), script.as_bytes(), files, out);
+            outcome.report(alloc, err)
+        }
+    }
 }

@@ -2,18 +2,20 @@
 use Rattle.std.specs.Prelude.{◌||◌, map}
 use Rattle.std.proofs.lemmas.Bool.{cases_lt}
 use Rattle.std.proofs.Common.{◌≡◌, ◌≢◌, ◌⊎◌, ◌≤◌, ◌+◌, ℕ, zero, suc, ◌<◌, inl, inr, Bool, true, false, refl, List, [], ◌∷◌, ◌++◌, length, set, get_or, ap, sym, ◌∙◌, subst, arith, append_assoc, get_or-set_other}
-use Rattle.std.proofs.lemmas.List.{length-set, length-append, set-get_or}
+use Rattle.std.proofs.lemmas.List.{length-set, length-append, set-get_or, append-nil}
 use Rattle.cedr_base.specs.declared.change.Message.{Message}
 use Rattle.cedr_base.specs.Messages.{IsLegal, MayCome}
 use Rattle.cedr_laws.specs.Lists.{Lists, list_at, with_more}
 use Rattle.cedr_plan.specs.declared.plan.PlanNode.{PlanNode}
 use Rattle.cedr_net.specs.Flows.{IsSourceAt}
+use Rattle.cedr_net.specs.declared.net.SerialNet.{SerialNet}
+use Rattle.cedr_net.specs.Networks.{AllGrow, IsSettled}
 use Rattle.cedr_net.proofs.ListLemmas.{at_more, at_more_other, may_come_in}
 use Rattle.cedr_net.proofs.FlowLemmas.{same_or_not}
-use Rattle.cedr_net.proofs.SettleLemmas.{fewer}
+use Rattle.cedr_net.proofs.SettleLemmas.{fewer, grow_along}
 use Rattle.cedr_net.proofs.FedLemmas.{source_here}
 use Rattle.op_planned.specs.Ready.{is_source}
-use Rattle.cedr_serial.specs.Feeding.{AreFed, behind_first, left_count}
+use Rattle.cedr_serial.specs.Feeding.{AreFed, FeedsOn, behind_first, left_count}
 
 -- the next message of a source
 module _ (nodes : List PlanNode) (given left left' whole : Lists) (place : ℕ) (m : Message) (h : AreFed nodes given left whole) (within : place < length nodes)
@@ -61,6 +63,13 @@ module _ (nodes : List PlanNode) (given left left' whole : Lists) (place : ℕ) 
   pub fewer_left : left_count left' < left_count left
   fewer_left = omega (arith, ap left_count rest, fewer left place m (list_at left' place) front)
 
+-- lists with more messages go on
+pub grow_more : (given : Lists) (place : ℕ) (ms : List Message) → place < length given → AllGrow given (with_more given place ms)
+grow_more given place ms within = record { grows = λ k. at k (same_or_not k place) } where
+  at : (k : ℕ) → (k ≡ place) ⊎ (k ≢ place) → (more : List Message) × (list_at (with_more given place ms) k ≡ list_at given k ++ more)
+  at k (inl e) = (ms, ap (list_at (with_more given place ms)) e ∙ (at_more given place ms within ∙ ap (λ (j : ℕ). list_at given j ++ ms) (sym e)))
+  at k (inr ne) = ([], at_more_other given place k ms ne ∙ sym (append-nil (list_at given k)))
+
 -- a network that went on without its sources
 pub fed_settled : (nodes : List PlanNode) (given given' left whole : Lists) → AreFed nodes given left whole → ((k : ℕ) → IsSourceAt nodes k → list_at given' k ≡ list_at given k) → AreFed nodes given' left whole
 fed_settled nodes given given' left whole h same = record {
@@ -68,6 +77,13 @@ fed_settled nodes given given' left whole h same = record {
   lists = λ k inside source. ap (λ (ms : List Message). ms ++ list_at left k) (same k source) ∙ h.lists k inside source;
   legal = h.legal;
   others = h.others;
+}
+
+-- and goes on
+pub feeds_settled : (nodes : List PlanNode) (net : SerialNet) (left whole before given : Lists) → AreFed nodes given left whole → AllGrow before given → IsSettled nodes net given → FeedsOn nodes net left whole before
+feeds_settled nodes net left whole before given fed grow s = record {
+  feeds = record { ports = s.ports; given = s.given'; stands = s.stands; fed = fed_settled nodes given s.given' left whole fed s.sources };
+  grow = grow_along before given s.given' grow s.grow;
 }
 
 -- two nodes may have had a message, one after the other

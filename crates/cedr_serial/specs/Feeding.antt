@@ -8,7 +8,7 @@ use Rattle.cedr_runs.specs.Runs.{sources_in, IsRun}
 use Rattle.cedr_net.specs.declared.net.SerialNet.{SerialNet}
 use Rattle.cedr_net.specs.Edges.{NothingWaits}
 use Rattle.cedr_net.specs.Flows.{IsSourceAt}
-use Rattle.cedr_net.specs.Networks.{NetStands, waiting_at}
+use Rattle.cedr_net.specs.Networks.{NetStands, AllGrow, waiting_at}
 
 -- The list of each source, by its place in the plan, is what it gave and what it has still to give. It is legal. The
 -- other nodes have nothing to give.
@@ -43,6 +43,11 @@ pub record FeedStands (nodes : List PlanNode) (net : SerialNet) (left whole : Li
   pub given : Lists
   pub stands : NetStands nodes net ports given
   pub fed : AreFed nodes given left whole
+
+-- such a network whose lists go on from these ones
+pub record FeedsOn (nodes : List PlanNode) (net : SerialNet) (left whole before : Lists) : Type 0 where
+  pub feeds : FeedStands nodes net left whole
+  pub grow : AllGrow before feeds.given
 
 -- The run of a plan over whole sources: what went over the network are the lists of a run, and each source gave its list.
 pub record IsWholeRun (nodes : List PlanNode) (net : SerialNet) (whole : Lists) : Type 0 where

@@ -1,3 +1,5 @@
 pub mod Feeding
 pub mod Answers
 pub mod Sources
+pub mod Queries
+pub mod Streaming

@@ -86,7 +86,11 @@ fn write_node(
 }
 
 /// A line `--`, and the lines of what each port of each node forgot.
-fn write_tail(nodes: &[PlanNode], net: &SerialNet, out: &mut Vec<u8>) -> Result<(), OutOfMemory>
+pub(crate) fn write_tail(
+    nodes: &[PlanNode],
+    net: &SerialNet,
+    out: &mut Vec<u8>,
+) -> Result<(), OutOfMemory>
     requires { (ports : List Lists) × (given : Lists) × NetStands nodes.now net.now ports given }
     ensures { OnOk result ((ports : List Lists) (given : Lists) → NetStands nodes.now net.now ports given → out.new.items ≡ out.old.items ++ tail_text nodes.now (forgot_in nodes.now ports)) }
 {

@@ -1,7 +1,7 @@
 ghost use Rattle.std.specs.Prelude.{ℕ, ◌≡◌, ◌<◌, ◌∷◌, [], List, true, false, OnOk, IfOk, IfSome, IfNone, length, map, slice_set};
 ghost use Rattle.cedr_laws.specs.Lists.{Lists, list_at};
 ghost use Rattle.cedr_plan.specs.declared.plan.PlanNode.{PlanNode};
-ghost use Rattle.cedr_serial.specs.Feeding.{FeedStands, IsSettledAt, behind_first, left_count};
+ghost use Rattle.cedr_serial.specs.Feeding.{FeedStands, FeedsOn, IsSettledAt, behind_first, left_count};
 
 use cedr_base::{Message, OutOfMemory};
 use cedr_net::SerialNet;
@@ -59,7 +59,7 @@ fn feed_one(
     place: usize,
 ) -> Result<bool, OutOfMemory>
     requires { (nodes : List PlanNode) × (whole : Lists) × FeedStands nodes net.old remaining.old.items whole × (place < length nodes) }
-    ensures stands { OnOk result ((nodes : List PlanNode) (whole : Lists) → FeedStands nodes net.old remaining.old.items whole → place < length nodes → FeedStands nodes net.new remaining.new.items whole) }
+    ensures stands { OnOk result ((nodes : List PlanNode) (whole : Lists) (f : FeedStands nodes net.old remaining.old.items whole) → place < length nodes → FeedsOn nodes net.new remaining.new.items whole f.given) }
     ensures fed { IfOk result (λ fed. fed ≡ true → left_count remaining.new.items < left_count remaining.old.items) }
     ensures none { IfOk result (λ fed. fed ≡ false → (list_at remaining.old.items place ≡ []) × (remaining.new.items ≡ remaining.old.items)) }
     ensures taken { OnOk result (remaining.new.items ≡ slice_set remaining.old.items place (behind_first (list_at remaining.old.items place))) }
@@ -80,7 +80,7 @@ fn feed_each(
     remaining: &mut Vec<Remaining>,
 ) -> Result<bool, OutOfMemory>
     requires { (nodes : List PlanNode) × (whole : Lists) × FeedStands nodes net.old remaining.old.items whole }
-    ensures stands { OnOk result ((nodes : List PlanNode) (whole : Lists) → FeedStands nodes net.old remaining.old.items whole → FeedStands nodes net.new remaining.new.items whole) }
+    ensures stands { OnOk result ((nodes : List PlanNode) (whole : Lists) (f : FeedStands nodes net.old remaining.old.items whole) → FeedsOn nodes net.new remaining.new.items whole f.given) }
     ensures fed { IfOk result (λ fed. fed ≡ true → left_count remaining.new.items < left_count remaining.old.items) }
     ensures none { IfOk result (λ fed. fed ≡ false → (k : ℕ) → list_at remaining.new.items k ≡ []) }
     ensures taken { OnOk result (remaining.new.items ≡ map behind_first remaining.old.items) }
@@ -101,6 +101,7 @@ pub fn feed_round(
 ) -> Result<bool, OutOfMemory>
     requires { (nodes : List PlanNode) × (whole : Lists) × FeedStands nodes net.old remaining.old.items whole }
     ensures stands { OnOk result ((nodes : List PlanNode) (whole : Lists) → FeedStands nodes net.old remaining.old.items whole → FeedStands nodes net.new remaining.new.items whole × IsSettledAt nodes net.new) }
+    ensures grows { OnOk result ((nodes : List PlanNode) (whole : Lists) (f : FeedStands nodes net.old remaining.old.items whole) → FeedsOn nodes net.new remaining.new.items whole f.given) }
     ensures fed { IfOk result (λ fed. fed ≡ true → left_count remaining.new.items < left_count remaining.old.items) }
     ensures none { IfOk result (λ fed. fed ≡ false → (k : ℕ) → list_at remaining.new.items k ≡ []) }
     ensures taken { OnOk result (remaining.new.items ≡ map behind_first remaining.old.items) }

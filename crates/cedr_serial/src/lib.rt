@@ -3,17 +3,22 @@
 //! `read_sources` reads all sources of a plan. Their messages are fed to the plan's network in rounds, one of each source,
 //! and it settles behind each round (`feed_round`, `feed_all`). `write_answer` writes the rows, and what ports forgot.
 //! `fed_sources` says that the lists that went over the network are then a run of the plan over the whole sources.
+//! `answer_sources` and `answer_rows` do all this, and `stream_sources` writes the changes of the answer as they come.
 #![tactic(auto)]
 
 mod answer;
 mod feeding;
 mod law;
+mod query;
 mod sources;
+mod stream;
 
 pub use answer::{has_memory, write_answer};
 pub use feeding::{Remaining, feed_all, feed_round};
-pub use law::fed_sources;
+pub use law::{accepted_sources, fed_sources};
+pub use query::{answer_rows, answer_sources};
 pub use sources::{FaultySource, SourcesFault, read_sources};
+pub use stream::stream_sources;
 
 #[cfg(test)]
 mod tests;

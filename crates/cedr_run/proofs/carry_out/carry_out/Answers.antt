@@ -1,54 +1,29 @@
-use Rattle.std.proofs.Common.{◌≡◌, option_map, ap, sym, ◌∙◌, subst, rules, tests}
-use Rattle.std.specs.Io.KnownBytes.{Appends}
-use Rattle.cedr_io.specs.Asked.{AppendsFront}
-use Rattle.cedr_run.specs.declared.answer.Answer.TheVariants.{Lines, Faulty, BadPlan}
-use Rattle.cedr_run.specs.Answers.{answer_of, answer_text}
-use Rattle.cedr_run.specs.Seen.{Writes}
-use Rattle.cedr_run.proofs.EndingLemmas.{kept_itself, wrote_nothing, found_answer}
+use Rattle.std.proofs.Common.{sym, subst}
+use Rattle.cedr_run.specs.declared.command.Job.{Job}
+use Rattle.cedr_run.specs.Outcomes.{CommandEnds, AsksOnly}
+use Rattle.cedr_run.specs.Seen.{seen_files, seen_sink}
 use Rattle.cedr_run.proofs.carry_out.carry_out.Goals as goal
 
-pub returns-in_default-clause-ends : goal.returns-in_default-clause-ends
-returns-in_default-clause-ends g c = wrote_nothing (g.K.Sink.written c.args.out.now) (option_map (answer_of c.args.job) (g.F.Files.content c.args.files.now c.args.file.now))
+pub returns-in-History-clause-ends : goal.returns-in-History-clause-ends
+returns-in-History-clause-ends g c = subst (λ (job : Job). CommandEnds (record { job = job; file = c.args.file.now; script = c.args.script.now }) (seen_files g.F.Files.content g.F.Files.faults g.F.Files.asked c.args.files.now) (seen_files g.F.Files.content g.F.Files.faults g.F.Files.asked c.history.new.files) (seen_sink g.K.Sink.written g.K.Sink.faults c.args.out.now) (seen_sink g.K.Sink.written g.K.Sink.faults c.history.new.out) c.history.result) (sym c.in-History.is) (c.history.ensures.ends c.args.script.now)
 
-pub returns-in-Faulty-clause-ends : goal.returns-in-Faulty-clause-ends
-returns-in-Faulty-clause-ends g c =
-    let known = option_map (answer_of c.args.job) (g.F.Files.content c.args.files.now c.args.file.now) in
-    let found = sym (ap (answer_of c.args.job) c.deref.ensures.value) ∙ sym c.in-Ok-answer_file.ensures ∙ c.in-Faulty.is in (
-      search (rules, tests),
-      kept_itself (g.K.Sink.written c.args.out.now),
-      found_answer (λ a. a ≡ Faulty c.in-Faulty.refusal) known (answer_of c.args.job c.in-Ok.bytes.items) (Faulty c.in-Faulty.refusal) c.in-Ok.ensures.bytes found (λ i. Faulty c.in-Faulty.refusal),
-    )
+pub returns-in-History-clause-asked : goal.returns-in-History-clause-asked
+returns-in-History-clause-asked g c = subst (λ (job : Job). AsksOnly (record { job = job; file = c.args.file.now; script = c.args.script.now }) (seen_files g.F.Files.content g.F.Files.faults g.F.Files.asked c.args.files.now) (seen_files g.F.Files.content g.F.Files.faults g.F.Files.asked c.history.new.files)) (sym c.in-History.is) (c.history.ensures.asked c.args.script.now)
 
-pub returns-in-BadPlan-clause-ends : goal.returns-in-BadPlan-clause-ends
-returns-in-BadPlan-clause-ends g c =
-    let known = option_map (answer_of c.args.job) (g.F.Files.content c.args.files.now c.args.file.now) in
-    let found = sym (ap (answer_of c.args.job) c.deref.ensures.value) ∙ sym c.in-Ok-answer_file.ensures ∙ c.in-BadPlan.is in (
-      search (rules, tests),
-      kept_itself (g.K.Sink.written c.args.out.now),
-      found_answer (λ a. a ≡ BadPlan c.in-BadPlan.kind c.in-BadPlan.node) known (answer_of c.args.job c.in-Ok.bytes.items) (BadPlan c.in-BadPlan.kind c.in-BadPlan.node) c.in-Ok.ensures.bytes found (λ i. BadPlan c.in-BadPlan.kind c.in-BadPlan.node),
-    )
+pub returns-in-Check-clause-ends : goal.returns-in-Check-clause-ends
+returns-in-Check-clause-ends g c = subst (λ (job : Job). CommandEnds (record { job = job; file = c.args.file.now; script = c.args.script.now }) (seen_files g.F.Files.content g.F.Files.faults g.F.Files.asked c.args.files.now) (seen_files g.F.Files.content g.F.Files.faults g.F.Files.asked c.check.new.files) (seen_sink g.K.Sink.written g.K.Sink.faults c.args.out.now) (seen_sink g.K.Sink.written g.K.Sink.faults c.check.new.out) c.check.result) (sym c.in-Check.is) (c.check.ensures.ends c.args.script.now)
 
-pub returns-in-Ok-write_all-clause-ends : goal.returns-in-Ok-write_all-clause-ends
-returns-in-Ok-write_all-clause-ends g c =
-    let known = option_map (answer_of c.args.job) (g.F.Files.content c.args.files.now c.args.file.now) in
-    let found = sym (ap (answer_of c.args.job) c.deref.ensures.value) ∙ sym c.in-Ok-answer_file.ensures ∙ c.in-Lines.is in
-    let wrote = subst (Appends (g.K.Sink.written c.args.out.now) (g.K.Sink.written c.write_all.new.sink)) c.bytes.ensures c.in-Ok-write_all.ensures.ok in (
-      search (rules, tests),
-      found_answer (Writes (g.K.Sink.written c.args.out.now) (g.K.Sink.written c.write_all.new.sink)) known (answer_of c.args.job c.in-Ok.bytes.items) (Lines c.in-Lines.text) c.in-Ok.ensures.bytes found wrote,
-    )
+pub returns-in-Check-clause-asked : goal.returns-in-Check-clause-asked
+returns-in-Check-clause-asked g c = subst (λ (job : Job). AsksOnly (record { job = job; file = c.args.file.now; script = c.args.script.now }) (seen_files g.F.Files.content g.F.Files.faults g.F.Files.asked c.args.files.now) (seen_files g.F.Files.content g.F.Files.faults g.F.Files.asked c.check.new.files)) (sym c.in-Check.is) (c.check.ensures.asked c.args.script.now)
 
-pub returns-in-Err-Failed-write_all-clause-ends : goal.returns-in-Err-Failed-write_all-clause-ends
-returns-in-Err-Failed-write_all-clause-ends g c =
-    let known = option_map (answer_of c.args.job) (g.F.Files.content c.args.files.now c.args.file.now) in
-    let found = sym (ap (answer_of c.args.job) c.deref.ensures.value) ∙ sym c.in-Ok-answer_file.ensures ∙ c.in-Lines.is in
-    let wrote = subst (AppendsFront (g.K.Sink.written c.args.out.now) (g.K.Sink.written c.write_all.new.sink)) c.bytes.ensures c.in-Err-Failed-write_all.ensures.err in (
-      search (rules, tests),
-      found_answer (λ a. AppendsFront (g.K.Sink.written c.args.out.now) (g.K.Sink.written c.write_all.new.sink) (answer_text a)) known (answer_of c.args.job c.in-Ok.bytes.items) (Lines c.in-Lines.text) c.in-Ok.ensures.bytes found wrote,
-    )
+pub returns-in-Serial-clause-ends : goal.returns-in-Serial-clause-ends
+returns-in-Serial-clause-ends g c = c.on_sources.ensures.ends c.args.script.now
 
-pub returns-clause-ends : goal.returns-clause-ends
-returns-clause-ends g c =
-    let known = option_map (answer_of c.args.job) (g.F.Files.content c.args.files.now c.args.file.now) in
-    let found = sym (ap (answer_of c.args.job) c.deref.ensures.value) ∙ sym c.in-Ok-answer_file.ensures ∙ c.in-Lines.is in
-    let wrote = subst (AppendsFront (g.K.Sink.written c.args.out.now) (g.K.Sink.written c.write_all.new.sink)) c.bytes.ensures c.in-Err-OutOfMemory-write_all.ensures.err in
-    found_answer (λ a. AppendsFront (g.K.Sink.written c.args.out.now) (g.K.Sink.written c.write_all.new.sink) (answer_text a)) known (answer_of c.args.job c.in-Ok.bytes.items) (Lines c.in-Lines.text) c.in-Ok.ensures.bytes found wrote
+pub returns-in-Serial-clause-asked : goal.returns-in-Serial-clause-asked
+returns-in-Serial-clause-asked g c = c.on_sources.ensures.asked c.args.script.now
+
+pub returns-in-Live-clause-ends : goal.returns-in-Live-clause-ends
+returns-in-Live-clause-ends g c = subst (λ (job : Job). CommandEnds (record { job = job; file = c.args.file.now; script = c.args.script.now }) (seen_files g.F.Files.content g.F.Files.faults g.F.Files.asked c.args.files.now) (seen_files g.F.Files.content g.F.Files.faults g.F.Files.asked c.live.new.files) (seen_sink g.K.Sink.written g.K.Sink.faults c.args.out.now) (seen_sink g.K.Sink.written g.K.Sink.faults c.live.new.out) c.live.result) (sym c.in-Live.is) c.live.ensures.ends
+
+pub returns-in-Make-clause-ends : goal.returns-in-Make-clause-ends
+returns-in-Make-clause-ends g c = subst (λ (job : Job). CommandEnds (record { job = job; file = c.args.file.now; script = c.args.script.now }) (seen_files g.F.Files.content g.F.Files.faults g.F.Files.asked c.args.files.now) (seen_files g.F.Files.content g.F.Files.faults g.F.Files.asked c.args.files.now) (seen_sink g.K.Sink.written g.K.Sink.faults c.args.out.now) (seen_sink g.K.Sink.written g.K.Sink.faults c.make.new.out) c.make.result) (sym c.in-Make.is) (c.make.ensures (seen_files g.F.Files.content g.F.Files.faults g.F.Files.asked c.args.files.now) c.args.file.now c.args.script.now)

@@ -1,11 +1,12 @@
 use Rattle.std.proofs.Common.{refl, length, ap, arith}
 use Rattle.cedr_laws.specs.Lists.{Lists}
+use Rattle.cedr_net.proofs.SettleLemmas.{grow_none, grow_along}
 use Rattle.cedr_serial.proofs.FeedLemmas.{fed_either, none_either, none_left, taken_none, taken_more, taken_all}
 use Rattle.cedr_serial.proofs.feeding.feed_each.Goals as goal
 
 pub loop-place-init : goal.loop-place-init
 loop-place-init c = record {
-  stands = λ nodes whole f. f;
+  stands = λ nodes whole f. record { feeds = f; grow = grow_none f.given };
   fed = λ is. absurd (let e = is in cc);
   none = λ isnt. (refl, λ k within. absurd (omega arith));
   taken = taken_none c.args.remaining.now.items;
@@ -14,7 +15,7 @@ loop-place-init c = record {
 pub feed_one-requires : goal.feed_one-requires
 feed_one-requires c =
     let r = c.requires in
-    (r.0, r.1, c.loop-place.invariant.stands r.0 r.1 r.2, omega (arith, r.2.fed.count, c.loop-place-test.true, c.len-place-end.ensures))
+    (r.0, r.1, (c.loop-place.invariant.stands r.0 r.1 r.2).feeds, omega (arith, r.2.fed.count, c.loop-place-test.true, c.len-place-end.ensures))
 
 pub loop-place-preserved : goal.loop-place-preserved
 loop-place-preserved c =
@@ -24,7 +25,10 @@ loop-place-preserved c =
     let old = c.loop-place.remaining.items in
     let new = c.feed_one.new.remaining.items in
     record {
-      stands = λ nodes whole f. now.stands nodes whole (inv.stands nodes whole f) (omega (arith, f.fed.count, c.loop-place-test.true, c.len-place-end.ensures));
+      stands = λ nodes whole f.
+          let on = inv.stands nodes whole f in
+          let next = now.stands nodes whole on.feeds (omega (arith, f.fed.count, c.loop-place-test.true, c.len-place-end.ensures)) in
+          record { feeds = next.feeds; grow = grow_along f.given on.feeds.given next.feeds.given on.grow next.grow };
       fed = fed_either c.loop-place.fed c.in_ok-fed.field-0 first old new inv.fed (λ isnt. (inv.none isnt).0) now.fed (λ isnt. (now.none isnt).1);
       taken = taken_more c.loop-place.place first old new inv.taken now.taken;
       none = none_either c.loop-place.fed c.in_ok-fed.field-0 first old new c.loop-place.place inv.none now.none;

@@ -1,6 +1,8 @@
-use Rattle.std.proofs.Common.{[], ◌∷◌}
-use Rattle.cedr_laws.specs.Lists.{with_more}
-use Rattle.cedr_serial.proofs.FeedLemmas.{next_source, next_may_come, fed_on, one_behind, none_behind}
+use Rattle.std.proofs.Common.{[], ◌∷◌, sym, subst, arith}
+use Rattle.cedr_laws.specs.Lists.{Lists, with_more}
+use Rattle.cedr_net.proofs.SettleLemmas.{grow_none}
+use Rattle.cedr_serial.specs.Feeding.{FeedsOn}
+use Rattle.cedr_serial.proofs.FeedLemmas.{next_source, next_may_come, fed_on, grow_more, one_behind, none_behind}
 use Rattle.cedr_serial.proofs.feeding.feed_one.Goals as goal
 
 pub feed-requires : goal.feed-requires
@@ -20,6 +22,10 @@ feed-requires c = λ usable.
       next_may_come r.0 f.given left now r.1 c.args.place m f.fed r.3 some.0 some.1,
     )
 
+pub returns-in-None-clause-stands : goal.returns-in-None-clause-stands
+returns-in-None-clause-stands c = λ nodes whole f within.
+    subst (λ (left : Lists). FeedsOn nodes c.args.net.now left whole f.given) (sym c.in-None.ensures.none.1) (record { feeds = f; grow = grow_none f.given })
+
 pub returns-in-Ok-clause-stands : goal.returns-in-Ok-clause-stands
 returns-in-Ok-clause-stands c = λ nodes whole f within.
     let left = c.args.remaining.now.items in
@@ -28,11 +34,14 @@ returns-in-Ok-clause-stands c = λ nodes whole f within.
     let place = c.args.place in
     let some = c.in-Some.ensures.some in
     record {
-      ports = f.ports;
-      given = with_more f.given place (m ∷ []);
-      stands = c.in-Ok.ensures.fed nodes f.ports f.given f.stands within
-          (next_source nodes f.given left now whole place m f.fed within some.0 some.1) (next_may_come nodes f.given left now whole place m f.fed within some.0 some.1);
-      fed = fed_on nodes f.given left now whole place m f.fed within some.0 some.1 f.stands.stands.flows.given_count;
+      feeds = record {
+        ports = f.ports;
+        given = with_more f.given place (m ∷ []);
+        stands = c.in-Ok.ensures.fed nodes f.ports f.given f.stands within
+            (next_source nodes f.given left now whole place m f.fed within some.0 some.1) (next_may_come nodes f.given left now whole place m f.fed within some.0 some.1);
+        fed = fed_on nodes f.given left now whole place m f.fed within some.0 some.1 f.stands.stands.flows.given_count;
+      };
+      grow = grow_more f.given place (m ∷ []) (omega (arith, within, f.stands.stands.flows.given_count));
     }
 
 pub returns-in-None-clause-taken : goal.returns-in-None-clause-taken

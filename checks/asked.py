@@ -1,0 +1,77 @@
+"""What a command line and its files ask for, or with which status and text they are refused."""
+from typing import NamedTuple
+
+import made
+import nodes
+import plan_reference
+import reference
+from program import USAGE
+
+READ_FAULT = b"read fault\n"
+ON_SOURCES = ("serial", "run", "audit", "stream")
+
+
+class Asked(NamedTuple):
+    """The status and standard error, and where the plan is accepted its nodes and what is fed to them.
+
+    What is fed is for each source its list of messages by line, with none for a line that has none. For `live` it is
+    the list of the script's steps, each `?` or a source with the message of its line.
+    """
+
+    command: str
+    status: int
+    err: bytes
+    plan: list = []
+    fed: list = []
+
+
+def read(words: list, find) -> Asked:
+    """What these words ask for. `find` answers the bytes of a file, or none where it can't be read."""
+    command, *operands = words or [""]
+    if command == "make" and len(operands) == 1 and made.is_size(operands[0]):
+        return Asked(command, 0, b"", made.plan(), [made.lines(int(operands[0]), source) for source in (0, 1)])
+    if len(operands) != {"live": 2, **dict.fromkeys(ON_SOURCES, 1)}.get(command):
+        return Asked(command, 1, USAGE)
+    data = find(operands[0])
+    if data is None:
+        return Asked(command, 4, READ_FAULT)
+    status, _, err = plan_reference.check(data)
+    if status:
+        return Asked(command, status, err)
+    plan = nodes.read_nodes(data)
+    return read_script(plan, operands[1], find) if command == "live" else read_sources(command, plan, find)
+
+
+def sources_of(plan: list) -> list:
+    return [node for node in plan if node.op == "source"]
+
+
+def read_sources(command: str, plan: list, find) -> Asked:
+    sources = sources_of(plan)
+    contents = [find(node.members["file"]) for node in sources]
+    judged = [reference.judged(data or b"", reference.Judge(node.types).take) for node, data in zip(sources, contents)]
+    err = "".join(f"events {node.name} {told}\n" for node, (_, told) in zip(sources, judged) if told).encode()
+    status, err = (4, READ_FAULT) if None in contents else (3 if err else 0, err)
+    return Asked(command, status, err, plan, [answers for answers, _ in judged])
+
+
+def read_script(plan: list, name: str, find) -> Asked:
+    data = find(name)
+    if data is None:
+        return Asked("live", 4, READ_FAULT, plan)
+    judges = {node.name.encode(): (place, reference.Judge(node.types)) for place, node in enumerate(sources_of(plan))}
+    steps, told = reference.judged(data, lambda line: script_step(line, judges))
+    steps = [step for step in steps if step]
+    return Asked("live", 3 if told else 0, f"events {name} {told}\n".encode() if told else b"", plan, steps)
+
+
+def script_step(line: bytes, judges: dict):
+    """A source and its message, or `?`, or none for an empty line. Raises the line's fault."""
+    line = reference.without_return(line)
+    if line in (b"", b"?"):
+        return line.decode()
+    name, _, event = line.partition(reference.COMMA)
+    if name not in judges or not event:
+        raise reference.Fault(2)
+    source, judge = judges[name]
+    return source, judge.take_event(event)

@@ -1,0 +1,230 @@
+#!/usr/bin/env python3
+"""Shows that networks.py can fail, and that it doesn't where nothing is wrong. It looks at a stand-in for the program
+that answers by a run of the reference. Where that is wrong in one way it must find a difference, and in the other runs
+that the definitions allow none. Status 1 where that isn't so.
+
+usage: checks/wrong_networks.py
+"""
+import contextlib
+import random
+import sys
+import tempfile
+from pathlib import Path
+from unittest import mock
+
+sys.dont_write_bytecode = True
+
+import asked
+import made
+import network_cases
+import network_texts
+import networks
+import nodes
+import reference
+from aligner import Aligner
+from messages import Add, Cut, End, Mark, later, sync
+from network import Network, WorkingNode
+
+SEEDS = range(60), range(60), range(20), range(20), range(1)
+
+
+class Found(Exception):
+    """The name of the case that shows a difference."""
+
+
+class StandIn(networks.NetworkCheck):
+    """Answers by a run of the reference in which one thing is other than it should be."""
+
+    def __init__(self, folder: Path, wrong) -> None:
+        super().__init__(Path(), folder, "")
+        self.wrong = wrong
+
+    def run(self, words: list, out=None, set_up=None) -> tuple[int, bytes, bytes]:
+        with self.wrong():
+            status, text, err = network_texts.answer(words, self.find)
+        return (5, b"", b"write fault\n") if out and text else (status, text, err)
+
+    def compare(self, name: str, data, expected: tuple, came: tuple) -> None:
+        if expected != came:
+            raise Found(name)
+
+    def find(self, name: str):
+        place = self.folder / name
+        return place.read_bytes() if place.is_file() else None
+
+
+def instead(owner, name: str, wrong):
+    return lambda: mock.patch.object(owner, name, wrong)
+
+
+def operator(op: str, wrong):
+    return lambda: mock.patch.dict(nodes.RESULTS, {op: wrong})
+
+
+def late_at_once(self, change) -> str:
+    if sync(change) + self.memory <= self.high:
+        return "late"
+    return "orphan" if isinstance(change, Cut) and not self.kept[change.row] else ""
+
+
+def all_late(self, change) -> str:
+    orphan = isinstance(change, Cut) and not self.kept[change.row]
+    return "late" if orphan or sync(change) + self.memory < self.high else ""
+
+
+def released_at_the_mark(self, row) -> bool:
+    return not self.ended and row.end > self.mark and row.begin + self.block > self.high
+
+
+def held_one_longer(self, row) -> bool:
+    return not self.ended and row.end >= self.mark and row.begin + self.block >= self.high
+
+
+def front_is_the_mark(self) -> list:
+    rose, self.front = self.mark > self.front, self.mark
+    return [Mark(self.front)] if rose else []
+
+
+def one_copy_joined(members: dict, left, right):
+    return ((*row[:3], 1) for row in nodes.joined(members, left, right))
+
+
+def ties_in_sequence(members: dict, *tables):
+    yield from nodes.sequenced(members, *tables)
+    first, second = tables[:2]
+    for one, other in ((one, other) for one in first for other in second if len(tables) == 2):
+        if one.begin == other.begin and nodes.passes(members, one.payload + other.payload):
+            yield one.begin, later(one.begin, members["scope"]), one.payload + other.payload, 1
+
+
+def scope_end_blocks(members: dict, table, blockers):
+    wider = {**members, "scope": members["scope"] + 1}
+    for row in nodes.unblocked(wider, table, blockers):
+        yield row[0] - 1, row[1] - 1, row[2], row[3]
+
+
+def hop_from_the_begin(members: dict, table):
+    return nodes.windowed(members, nodes.result(nodes.Node("", "starts", [], 0, 0, [], members), [table]))
+
+
+def first_fault_alone(command: str, plan: list, find) -> asked.Asked:
+    read = READ_SOURCES(command, plan, find)
+    return read._replace(err=read.err[: read.err.find(b"\n") + 1])
+
+
+def events_before_reads(command: str, plan: list, find) -> asked.Asked:
+    read = READ_SOURCES(command, plan, lambda name: find(name) or b"")
+    return read if read.status else READ_SOURCES(command, plan, find)
+
+
+def quiet_inner_ports(self) -> list:
+    sources = [place for place, node in enumerate(self.plan) if node.op == "source"]
+    return [one for one in FORGOTTEN(self) if self.plan[one[0]].inputs[one[1]] in sources]
+
+
+def rows_at_the_end(network: Network) -> bytes:
+    rows = b"".join(b"+," + reference.row_text(row) for row in network.answer())
+    return rows + network_texts.stream(network).removeprefix(b"".join(map(reference.change_text, network.changes)))
+
+
+def never_quoted(field) -> bytes:
+    return str(field).encode() if isinstance(field, int) else field
+
+
+def silent_at_a_fault(words: list, find) -> tuple[int, bytes, bytes]:
+    status, out, err = ANSWER(words, find)
+    return status, b"" if status else out, err
+
+
+READ_SOURCES, FORGOTTEN, ANSWER, MIXED = asked.read_sources, Network.forgotten, network_texts.answer, made.mixed
+
+WAYS = {
+    "a change is late one too early": instead(Aligner, "cause", late_at_once),
+    "an orphan is called late": instead(Aligner, "cause", all_late),
+    "a row that ends at the mark is released": instead(Aligner, "is_held", released_at_the_mark),
+    "a row waits one longer for its block": instead(Aligner, "is_held", held_one_longer),
+    "the front jumps over what is held": instead(Aligner, "raise_front", front_is_the_mark),
+    "a group hands its guarantee on": instead(nodes, "open_begins", lambda *_: []),
+    "a join makes one copy": operator("join", one_copy_joined),
+    "a tie is in sequence": operator("sequence", ties_in_sequence),
+    "the end of the scope blocks": operator("unless", scope_end_blocks),
+    "a hop begins with its row": operator("hop", hop_from_the_begin),
+    "sums have 64 bits": instead(nodes, "wrapped", lambda number: (number + 2**63) % 2**64 - 2**63),
+    "the first faulty source alone is told": instead(asked, "read_sources", first_fault_alone),
+    "faults are told before reads that fail": instead(asked, "read_sources", events_before_reads),
+    "a port behind an operator forgets and doesn't tell": instead(Network, "forgotten", quiet_inner_ports),
+    "the list is turned round": instead(Network, "forgotten", lambda self: FORGOTTEN(self)[::-1]),
+    "rows are sorted by their begin": instead(Network, "answer", lambda self: sorted(
+        self.working[self.output].table.elements(), key=lambda row: row[1:])),
+    "a stream waits for the end": lambda: mock.patch.dict(network_texts.TEXTS, stream=rows_at_the_end),
+    "a field isn't quoted": instead(reference, "field_text", never_quoted),
+    "what a script showed before its fault is lost": instead(network_texts, "answer", silent_at_a_fault),
+    "a guarantee of live is that of the sources": instead(Network, "reach", lambda self: 0),
+    "made numbers are others": instead(made, "mixed", lambda number: MIXED(number + 1)),
+}
+
+
+def any_waiting(self) -> tuple:
+    """The first message of some port, whichever."""
+    firsts = {}
+    for place, waiting in enumerate(self.waiting):
+        firsts.setdefault(waiting[:2], place)
+    place = CHOICE.choice(list(firsts.values()))
+    waiting = self.waiting[place]
+    del self.waiting[place]
+    return waiting
+
+
+def withdrawn_repairs(self, table) -> list:
+    """A row that gets an earlier end is withdrawn and added anew, where its begin isn't below what was guaranteed."""
+    halves = [half for change in REPAIRS(self, table) for half in in_two(change, self.mark)]
+    return sorted(halves, key=lambda change: isinstance(change, Add))
+
+
+def in_two(change, mark: int) -> list:
+    if isinstance(change, Cut) and mark <= change.row.begin < change.end:
+        return [Cut(change.row, change.row.begin), Add(change.row._replace(end=change.end))]
+    return [change]
+
+
+def fed_one_after_the_other(plan: list, lists: list) -> Network:
+    network = Network(plan)
+    for source, messages in reversed(list(enumerate(lists))):
+        for message in messages + [End()]:
+            if message is not None:
+                network.feed(source, message)
+    return network
+
+
+CHOICE, REPAIRS = random.Random(1), WorkingNode.repairs
+
+LAWFUL = {
+    "nothing is other": contextlib.nullcontext,
+    "nodes take in any order": instead(Network, "next_waiting", any_waiting),
+    "rows are withdrawn, not cut": instead(WorkingNode, "repairs", withdrawn_repairs),
+    "sources come one after the other": instead(network_texts, "fed_in_turn", fed_one_after_the_other),
+}
+
+
+def first_difference(wrong) -> str:
+    with tempfile.TemporaryDirectory(prefix="cedr-check-") as folder:
+        check = StandIn(Path(folder), wrong)
+        try:
+            networks.check_seeds(check, *SEEDS)
+            networks.check_made(check)
+            networks.check_by_hand(check, network_cases.all_cases())
+            networks.check_full_device(check)
+        except Found as found:
+            return str(found)
+    return ""
+
+
+def main() -> int:
+    found = {way: first_difference(wrong) for way, wrong in WAYS.items()}
+    lawful = {way: first_difference(right) for way, right in LAWFUL.items()}
+    for way, name in (found | lawful).items():
+        print(f"{way}: {name or 'no difference'}")
+    return 1 if "" in found.values() or any(lawful.values()) else 0
+
+
+sys.exit(main())

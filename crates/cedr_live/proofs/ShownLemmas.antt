@@ -1,0 +1,117 @@
+-- What is shown of a network, and what was written of it.
+use Rattle.std.proofs.Common.{◌≡◌, ℕ, zero, suc, ◌+◌, ◌<◌, List, [], ◌∷◌, ◌++◌, Bool, true, false, cond, length, get_or, take, Option, None, Some, refl, ap, sym, ◌∙◌, subst, arith, append_assoc, append-nil}
+use Rattle.std.specs.Prelude.{Result, Ok, Err, OnOk, OnErr}
+use Rattle.std.specs.Io.KnownBytes.{Appends}
+use Rattle.std.proofs.Math.Seq.{take-append-add}
+use Rattle.cedr_base.specs.declared.change.Message.{Message}
+use Rattle.cedr_guard.specs.Messages.{messages_behind}
+use Rattle.cedr_io.specs.Asked.{AppendsFront}
+use Rattle.cedr_io.specs.declared.fault.OutsideFault.{OutsideFault}
+use Rattle.cedr_laws.specs.Lists.{Lists, list_at}
+use Rattle.cedr_net.specs.Flows.{reads_of}
+use Rattle.cedr_net.proofs.EdgeLemmas.{any_default}
+use Rattle.cedr_net.proofs.FedLemmas.{source_here}
+use Rattle.cedr_net.proofs.RunLemmas.{settled_run}
+use Rattle.cedr_net.proofs.SettleLemmas.{grow_none}
+use Rattle.cedr_plan.specs.declared.plan.PlanNode.{PlanNode}
+use Rattle.cedr_runs.specs.Runs.{sources_in, IsRun}
+use Rattle.op_planned.specs.Ready.{is_source}
+use Rattle.cedr_live.specs.declared.player.Player.{Player}
+use Rattle.cedr_live.specs.Scripts.{Accepted, lines_at, messages_so_far}
+use Rattle.cedr_live.specs.Shown.{IsShown}
+use Rattle.cedr_live.specs.Playing.{IsShownText, PlaysStand, Shows}
+
+-- ---- what is written
+
+pub appends_none : (old : Option (List ℕ)) → Appends old old []
+appends_none None = tt
+appends_none (Some xs) = sym (append-nil xs)
+
+pub appends_along : (first old new : Option (List ℕ)) (s t : List ℕ) → Appends first old s → Appends old new t → Appends first new (s ++ t)
+appends_along None old new s t before then = tt
+appends_along (Some xs) None new s t before then = absurd before
+appends_along (Some xs) (Some ys) None s t before then = absurd then
+appends_along (Some xs) (Some ys) (Some zs) s t before then = then ∙ (ap (λ (bs : List ℕ). bs ++ t) before ∙ append_assoc xs s t)
+
+pub front_along : (first old new : Option (List ℕ)) (s t : List ℕ) → Appends first old s → AppendsFront old new t → AppendsFront first new (s ++ t)
+front_along first old new s t before then = record {
+  count = length s + then.count;
+  grows = subst (Appends first new) (sym (take-append-add s t then.count)) (appends_along first old new s (take then.count t) before then.grows);
+}
+
+-- nothing is a front of each text
+pub front_none : (old : Option (List ℕ)) (text : List ℕ) → AppendsFront old old text
+front_none old text = record { count = 0; grows = appends_none old }
+
+-- and all of it is one
+pub front_all : (old new : Option (List ℕ)) (text : List ℕ) → Appends old new text → AppendsFront old new text
+front_all old new text all = subst (AppendsFront old new) (append-nil text) (front_along old new new text [] all (front_none new []))
+
+-- ---- what is shown
+
+pub messages_at : (before : Accepted) (k : ℕ) → list_at (messages_so_far before) k ≡ messages_behind [] (lines_at before k)
+messages_at [] k = refl
+messages_at (lines ∷ before) zero = refl
+messages_at (lines ∷ before) (suc k) = messages_at before k
+
+pick : (b : Bool) (x y : List Message) (xs ys : Lists) → (b ≡ true → x ≡ y) → xs ≡ ys → cond b (x ∷ xs) xs ≡ cond b (y ∷ ys) ys
+pick true x y xs ys here rest = ap (λ (m : List Message). m ∷ xs) (here refl) ∙ ap (λ (ms : Lists). y ∷ ms) rest
+pick false x y xs ys here rest = rest
+
+same_sources : (nodes : List PlanNode) (given whole : Lists) → ((k : ℕ) (d : PlanNode) → k < length nodes → is_source (get_or nodes k d).kind ≡ true → list_at given k ≡ list_at whole k) → sources_in nodes given ≡ sources_in nodes whole
+same_sources [] given whole h = refl
+same_sources (n ∷ nodes) [] [] h = refl
+same_sources (n ∷ nodes) [] (w ∷ whole) h = pick (is_source n.kind) [] w (sources_in nodes []) (sources_in nodes whole) (λ is. h 0 n (omega arith) is) (same_sources nodes [] whole (λ k d within is. h (suc k) d (omega arith) is))
+same_sources (n ∷ nodes) (g ∷ given) [] h = pick (is_source n.kind) g [] (sources_in nodes given) (sources_in nodes []) (λ is. h 0 n (omega arith) is) (same_sources nodes given [] (λ k d within is. h (suc k) d (omega arith) is))
+same_sources (n ∷ nodes) (g ∷ given) (w ∷ whole) h = pick (is_source n.kind) g w (sources_in nodes given) (sources_in nodes whole) (λ is. h 0 n (omega arith) is) (same_sources nodes given whole (λ k d within is. h (suc k) d (omega arith) is))
+
+-- the sources gave the messages of the accepted lines
+pub sources_so_far : (nodes : List PlanNode) (player : Player) (before : Accepted) (shown : Lists) (p : PlaysStand nodes player before shown) → sources_in nodes p.given ≡ sources_in nodes (messages_so_far before)
+sources_so_far nodes player before shown p = same_sources nodes p.given (messages_so_far before) (λ k d within is.
+    p.sources k within (source_here nodes k (get_or nodes k d) within (any_default nodes k (get_or nodes k d) d within) is) ∙ sym (messages_at before k))
+
+-- what the network's text shows
+pub is_shown : (nodes : List PlanNode) (player : Player) (before : Accepted) (shown : Lists) (text : List ℕ) (p : PlaysStand nodes player before shown) → IsShownText nodes p.settled.ports p.given text → IsShown nodes shown before p.given text
+is_shown nodes player before shown text p t =
+    let net = player.net in
+    let ports = p.settled.ports in
+    record {
+      ports = ports;
+      run = subst (λ (sources : Lists). IsRun nodes sources ports p.given) (sources_so_far nodes player before shown p) (settled_run nodes (reads_of nodes) net.flow.waiting.items net.flow.works.items ports p.given p.settled.stands.stands.flows p.settled.empty);
+      goes_on = p.grow;
+      rows = t.0;
+      table = t.1;
+      text_is = t.2;
+    }
+
+-- there is always something to show
+pub shows_some : (nodes : List PlanNode) (player : Player) (before : Accepted) (shown : Lists) (p : PlaysStand nodes player before shown) → (text : List ℕ) × IsShown nodes shown before p.given text
+shows_some nodes player before shown p =
+    let answer = p.settled.stands.stands.answer in
+    (_, is_shown nodes player before shown _ p (player.net.flow.answer.table, answer.table, refl))
+
+-- behind it the lists go on from what was shown
+pub shown_on : (nodes : List PlanNode) (player : Player) (before : Accepted) (shown : Lists) (p : PlaysStand nodes player before shown) → PlaysStand nodes player before p.given
+shown_on nodes player before shown p = record {
+  lines_count = p.lines_count;
+  guards_count = p.guards_count;
+  guards = p.guards;
+  given = p.given;
+  settled = p.settled;
+  sources = p.sources;
+  grow = grow_none p.given;
+}
+
+-- ---- `?`
+
+-- memory ran out before anything was written
+pub shows_none : (outside : OutsideFault) (nodes : List PlanNode) (player : Player) (before : Accepted) (shown : Lists) (old : Option (List ℕ)) → PlaysStand nodes player before shown → Shows (Err outside) nodes player before shown old old
+shows_none outside nodes player before shown old p =
+    let some = shows_some nodes player before shown p in
+    (p.given, some.0, some.1, front_none old some.0)
+
+-- the text was written, or a front of it
+pub shows_so : (result : Result (Unit {0}) OutsideFault) (nodes : List PlanNode) (player : Player) (before : Accepted) (shown : Lists) (text : List ℕ) (old new : Option (List ℕ)) (p : PlaysStand nodes player before shown)
+    → IsShownText nodes p.settled.ports p.given text → OnOk result (Appends old new text) → OnErr result (AppendsFront old new text) → Shows result nodes player before shown old new
+shows_so (Ok done) nodes player before shown text old new p t all front = (p.given, text, is_shown nodes player before shown text p t, shown_on nodes player before shown p, all)
+shows_so (Err outside) nodes player before shown text old new p t all front = (p.given, text, is_shown nodes player before shown text p t, front)

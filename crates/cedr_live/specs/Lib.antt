@@ -1,0 +1,5 @@
+pub mod Scripts
+pub mod Shown
+pub mod Plays
+pub mod Playing
+pub mod SoFar

@@ -1,0 +1,17 @@
+use Rattle.std.proofs.Common.{◌<◌, List, length, Err, sym, subst}
+use Rattle.cedr_laws.specs.Lists.{Lists}
+use Rattle.cedr_plan.specs.declared.plan.PlanNode.{PlanNode}
+use Rattle.cedr_serial.specs.Sources.{AreTold, AreRead, AnswersSources, source_files}
+use Rattle.cedr_run.proofs.SayingLemmas.{opened_refused}
+use Rattle.cedr_run.proofs.sources.open_sources.Goals as goal
+
+pub returns-in-Err-Events-clause-opened : goal.returns-in-Err-Events-clause-opened
+returns-in-Err-Events-clause-opened g c = λ told is.
+    let nodes = c.args.plan.now.nodes.items in
+    let slice = c.as_slice-nodes.result.now in
+    let same = c.as_slice-nodes.ensures.value in
+    let faulty = c.in-Err-Events.faulty.items in
+    let at = subst (λ (ns : List PlanNode). AreTold (g.F.Files.content c.args.files.now) told (source_files ns)) (sym same) is in
+    let found = subst (λ e. AnswersSources (Err e) told slice) c.in-Err-Events.field-0-is (c.in-Err-Events.ensures.answer told at) in
+    opened_refused told nodes slice faulty c.deref.result.now c.refuse_sources.result c.refuse_sources.ensures same c.deref.ensures.value
+    (subst (λ (ns : List PlanNode). (left : Lists) × AreRead told ns left faulty × (0 < length faulty)) same found)

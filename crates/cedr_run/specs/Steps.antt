@@ -1,0 +1,132 @@
+-- The steps of a command: what each answers, from which it follows how the command went.
+use Rattle.std.specs.Prelude.{ℕ, ◌≡◌, ◌<◌, ◌⊎◌, List, [], ◌∷◌, ◌++◌, Option, None, Some, IfSome, Result, Ok, Err, Vec}
+use Rattle.std.specs.Global.{Global}
+use Rattle.std.specs.List.{slice_get}
+use Rattle.std.specs.Io.KnownBytes.{Appends, Keeps}
+use Rattle.cedr_guard.specs.declared.refusal.Refusal.{Refusal}
+use Rattle.cedr_io.specs.Asked.{AppendsFront}
+use Rattle.cedr_laws.specs.Lists.{Lists}
+use Rattle.cedr_plan.specs.Drawn.{drawn}
+use Rattle.cedr_plan.specs.Plans.{plan_of}
+use Rattle.cedr_plan.specs.declared.plan.Plan.{Plan}
+use Rattle.cedr_plan.specs.declared.plan.PlanNode.{PlanNode}
+use Rattle.cedr_serial.specs.Sources.{AreRead}
+use Rattle.cedr_serial.specs.declared.feeding.Remaining.{Remaining}
+use Rattle.cedr_serial.specs.declared.sources.FaultySource.{FaultySource}
+use Rattle.cedr_run.specs.declared.command.Job.{Job}
+use Rattle.cedr_run.specs.declared.command.Job.TheVariants.{Serial, Run, Stream, Audit}
+use Rattle.cedr_run.specs.declared.outcome.Outcome.{Outcome}
+use Rattle.cedr_run.specs.declared.outcome.Outcome.TheVariants as outcome
+use Rattle.cedr_run.specs.Answers.{IsNoPlan, RefusesSources, GivesPlan, BeginsPlan}
+use Rattle.cedr_run.specs.Refusals.{refusal_text}
+use Rattle.cedr_run.specs.Seen.{SinkSeen}
+
+-- ---- texts
+
+-- the text was written, or a front of it
+abbrev pub WritesText : Outcome → SinkSeen → SinkSeen → List ℕ → Type 0
+WritesText outcome.Done out out' text = (out'.faults ≡ out.faults) × Appends out.written out'.written text
+WritesText outcome.Write out out' text = (out.faults < out'.faults) × AppendsFront out.written out'.written text
+WritesText outcome.OutOfMemory out out' text = AppendsFront out.written out'.written text
+WritesText outcome.Usage out out' text = ⊥
+WritesText (outcome.Events said) out out' text = ⊥
+WritesText (outcome.BadPlan kind node) out out' text = ⊥
+WritesText outcome.Read out out' text = ⊥
+
+-- this is said, unless memory ran out
+abbrev pub Says : Outcome → List ℕ → Type 0
+Says (outcome.Events said) text = said.items ≡ text
+Says outcome.OutOfMemory text = Unit {0}
+Says outcome.Done text = ⊥
+Says outcome.Usage text = ⊥
+Says (outcome.BadPlan kind node) text = ⊥
+Says outcome.Read text = ⊥
+Says outcome.Write text = ⊥
+
+-- a line for a faulty source, by its place
+abbrev pub named_text : Option PlanNode → Refusal → List ℕ
+named_text None refusal = []
+named_text (Some node) refusal = refusal_text node.name refusal
+
+abbrev pub faulty_text : List PlanNode → List FaultySource → List ℕ
+faulty_text nodes [] = []
+faulty_text nodes (f ∷ faulty) = named_text (slice_get nodes f.place) f.refusal ++ faulty_text nodes faulty
+
+-- ---- files
+
+-- a step that ends the command: the count rose exactly where a read was refused
+abbrev pub CountsStep : {T : Type 0} → Result T Outcome → ℕ → ℕ → Type 0
+CountsStep (Ok done) old new = new ≡ old
+CountsStep (Err outcome.Read) old new = old < new
+CountsStep (Err (outcome.Events said)) old new = new ≡ old
+CountsStep (Err (outcome.BadPlan kind node)) old new = new ≡ old
+CountsStep (Err outcome.OutOfMemory) old new = new ≡ old
+CountsStep (Err outcome.Done) old new = new ≡ old
+CountsStep (Err outcome.Usage) old new = new ≡ old
+CountsStep (Err outcome.Write) old new = new ≡ old
+
+-- the plan that the file describes, where that is told, or its first fault
+abbrev pub OpensPlan : Result Plan Outcome → Option (List ℕ) → Type 0
+OpensPlan (Ok plan) content = IfSome content (λ bytes. plan_of bytes ≡ Ok (drawn plan))
+OpensPlan (Err (outcome.BadPlan kind node)) content = IfSome content (λ bytes. IsNoPlan bytes kind node)
+OpensPlan (Err outcome.Read) content = Unit {0}
+OpensPlan (Err outcome.OutOfMemory) content = Unit {0}
+OpensPlan (Err (outcome.Events said)) content = ⊥
+OpensPlan (Err outcome.Done) content = ⊥
+OpensPlan (Err outcome.Usage) content = ⊥
+OpensPlan (Err outcome.Write) content = ⊥
+
+-- some source isn't accepted, a read was refused, or memory ran out
+abbrev pub StopsSources : {T : Type 0} → Result T Outcome → Type 0
+StopsSources (Ok done) = Unit {0}
+StopsSources (Err (outcome.Events said)) = Unit {0}
+StopsSources (Err outcome.Read) = Unit {0}
+StopsSources (Err outcome.OutOfMemory) = Unit {0}
+StopsSources (Err (outcome.BadPlan kind node)) = ⊥
+StopsSources (Err outcome.Done) = ⊥
+StopsSources (Err outcome.Usage) = ⊥
+StopsSources (Err outcome.Write) = ⊥
+
+-- all messages of the sources, or what is said of those that aren't accepted
+abbrev pub OpensSources : Result (Vec Remaining Global) Outcome → (List ℕ → List ℕ) → List PlanNode → Type 0
+OpensSources (Ok left) told nodes = AreRead told nodes left.items []
+OpensSources (Err (outcome.Events said)) told nodes = RefusesSources told nodes said.items
+OpensSources (Err other) told nodes = Unit {0}
+
+-- ---- commands over sources
+
+-- the command reads the sources of its plan
+abbrev pub ReadsSources : Job → Type 0
+ReadsSources Serial = Unit {0}
+ReadsSources Run = Unit {0}
+ReadsSources Audit = Unit {0}
+ReadsSources Stream = Unit {0}
+ReadsSources job = ⊥
+
+-- what is written of a plan and its sources, by what the files of these hold
+abbrev pub Texts : Type 1
+Texts = (List ℕ → List ℕ) → List PlanNode → List ℕ → Type 0
+
+-- What was written of a plan of these nodes and sources that have these messages left: such a text, if they are accepted, or
+-- a front of one.
+pub record GaveText (texts : Texts) (nodes : List PlanNode) (left : Lists) (out out' : SinkSeen) : Type 0 where
+  pub text : List ℕ
+  pub gives : (told : List ℕ → List ℕ) → AreRead told nodes left [] → texts told nodes text
+  pub wrote : Appends out.written out'.written text
+
+pub record BeganText (texts : Texts) (nodes : List PlanNode) (left : Lists) (out out' : SinkSeen) : Type 0 where
+  pub text : List ℕ
+  pub begins : (told : List ℕ → List ℕ) → AreRead told nodes left [] → texts told nodes text
+  pub wrote : AppendsFront out.written out'.written text
+
+abbrev pub EndsWith : Texts → Texts → List PlanNode → Lists → SinkSeen → SinkSeen → Outcome → Type 0
+EndsWith gives begins nodes left out out' outcome.Done = (out'.faults ≡ out.faults) × GaveText gives nodes left out out'
+EndsWith gives begins nodes left out out' outcome.Write = (out.faults < out'.faults) × BeganText begins nodes left out out'
+EndsWith gives begins nodes left out out' outcome.OutOfMemory = Keeps out.written out'.written ⊎ BeganText begins nodes left out out'
+EndsWith gives begins nodes left out out' outcome.Usage = ⊥
+EndsWith gives begins nodes left out out' (outcome.Events said) = ⊥
+EndsWith gives begins nodes left out out' (outcome.BadPlan kind node) = ⊥
+EndsWith gives begins nodes left out out' outcome.Read = ⊥
+
+abbrev pub EndsSources : Job → List PlanNode → Lists → SinkSeen → SinkSeen → Outcome → Type 0
+EndsSources job nodes left out out' o = EndsWith (GivesPlan job) (BeginsPlan job) nodes left out out' o

@@ -1,0 +1,327 @@
+use super::*;
+use crate::tests::{ended, words};
+use cedr_base::OutOfMemory;
+use cedr_io::{MemFiles, MemSink, OpenGate};
+use std::alloc::Global;
+use std::test::Fail;
+
+const PASS: &str = r#"{"version":1,"nodes":[
+ {"name":"s","op":"source","file":"s.csv","fields":["text"]},
+ {"name":"out","op":"output","from":["s"],"level":"middle"}]}"#;
+
+const STRONG_PASS: &str = r#"{"version":1,"nodes":[
+ {"name":"s","op":"source","file":"s.csv","fields":["text"]},
+ {"name":"out","op":"output","from":["s"],"level":"strong"}]}"#;
+
+const WEAK_PASS: &str = r#"{"version":1,"nodes":[
+ {"name":"s","op":"source","file":"s.csv","fields":["text"]},
+ {"name":"out","op":"output","from":["s"],"level":{"block":0,"memory":5}}]}"#;
+
+const JOIN: &str = r#"{"version":1,"nodes":[
+ {"name":"l","op":"source","file":"l.csv","fields":["text"]},
+ {"name":"r","op":"source","file":"r.csv","fields":["text"]},
+ {"name":"j","op":"join","from":["l","r"],"where":[]},
+ {"name":"out","op":"output","from":["j"]}]}"#;
+
+const GROUP: &str = r#"{"version":1,"nodes":[
+ {"name":"s","op":"source","file":"s.csv","fields":["text"]},
+ {"name":"g","op":"group","from":["s"],"keys":[0],"count":true,"sum":[]},
+ {"name":"out","op":"output","from":["g"]}]}"#;
+
+const SUM: &str = r#"{"version":1,"nodes":[
+ {"name":"s","op":"source","file":"s.csv","fields":["text","int"]},
+ {"name":"g","op":"group","from":["s"],"keys":[0],"count":true,"sum":[1]},
+ {"name":"out","op":"output","from":["g"]}]}"#;
+
+const SEQUENCE: &str = r#"{"version":1,"nodes":[
+ {"name":"a","op":"source","file":"a.csv","fields":["text"]},
+ {"name":"b","op":"source","file":"b.csv","fields":["text"]},
+ {"name":"q","op":"sequence","from":["a","b"],"scope":10,"where":[]},
+ {"name":"out","op":"output","from":["q"]}]}"#;
+
+const UNION: &str = r#"{"version":1,"nodes":[
+ {"name":"u","op":"source","file":"u.csv","fields":["text"]},
+ {"name":"v","op":"source","file":"v.csv","fields":["text"]},
+ {"name":"n","op":"union","from":["u","v"]},
+ {"name":"out","op":"output","from":["n"],"level":"strong"}]}"#;
+
+const FAILURES: &str = r#"{"version":1,"nodes":[
+ {"name":"install","op":"source","file":"install.csv","fields":["text"]},
+ {"name":"shutdown","op":"source","file":"shutdown.csv","fields":["text"]},
+ {"name":"restart","op":"source","file":"restart.csv","fields":["text"]},
+ {"name":"q","op":"sequence","from":["install","shutdown"],"scope":43200,
+  "where":[[0,"=",{"column":1}]]},
+ {"name":"n","op":"unless","from":["q","restart"],"scope":300,"hold":1,
+  "where":[[0,"=",{"column":2}]]},
+ {"name":"out","op":"output","from":["n"]}]}"#;
+
+const DIAMOND: &str = r#"{"version":1,"edge":1,"nodes":[
+ {"name":"s","op":"source","file":"s.csv","fields":["text"]},
+ {"name":"p","op":"window","from":["s"],"width":4},
+ {"name":"q","op":"shift","from":["s"],"by":2},
+ {"name":"j","op":"join","from":["p","q"],"where":[[0,"=",{"column":1}]]},
+ {"name":"out","op":"output","from":["j"]}]}"#;
+
+const ROWS: &str = r#"{"version":1,"nodes":[
+ {"name":"s","op":"source","file":"s.csv","fields":["text","int"]},
+ {"name":"f","op":"select","from":["s"],"where":[[1,">=",{"int":5}]]},
+ {"name":"p","op":"project","from":["f"],"keep":[0]},
+ {"name":"n","op":"union","from":["p","p"]},
+ {"name":"out","op":"output","from":["n"]}]}"#;
+
+/// Files by their names.
+type Given = &'static [(&'static str, &'static str)];
+
+fn files(alloc: Global, plan: &str, given: Given) -> Result<MemFiles, OutOfMemory> {
+    let mut files = MemFiles::new(alloc);
+    files.add("p.json", plan.as_bytes())?;
+    for (name, lines) in given {
+        files.add(name, lines.as_bytes())?;
+    }
+    Ok(files)
+}
+
+/// Whether a command over a plan and these files is answered so.
+fn gives(
+    rt: &HostRuntime,
+    command: &str,
+    plan: &str,
+    given: Given,
+    told: (u8, &str, &str),
+) -> Result<bool, OutOfMemory> {
+    let alloc = rt.alloc();
+    let mut files = files(alloc, plan, given)?;
+    let texts = [command, "p.json", "x.txt"];
+    let used = if command == "live" { 3 } else { 2 };
+    let words = words(alloc, &texts[..used])?;
+    let (code, out, err) = ended(rt, &words, &mut files)?;
+    Ok((code, out.as_slice(), err.as_slice()) == (told.0, told.1.as_bytes(), told.2.as_bytes()))
+}
+
+#[test]
+fn a_plan_is_run_over_its_sources(rt: HostRuntime) -> Result<(), Fail> {
+    let cases: &[(&str, Given, &str)] = &[
+        (PASS, &[("s.csv", "+,1,1,10,a\n-,1,5\n")], "1,5,a\n"),
+        (PASS, &[("s.csv", "+,9,1,5,a\n")], "1,5,a\n"),
+        (
+            JOIN,
+            &[("l.csv", "+,1,1,10,a\n"), ("r.csv", "+,1,5,20,b\n")],
+            "5,10,a,b\n",
+        ),
+        (
+            JOIN,
+            &[("l.csv", "+,1,1,10,a\n-,1,5\n"), ("r.csv", "+,1,5,20,b\n")],
+            "",
+        ),
+        (
+            JOIN,
+            &[
+                ("l.csv", "+,1,1,10,a\n+,2,1,10,a\n"),
+                ("r.csv", "+,1,5,20,b\n"),
+            ],
+            "5,10,a,b\n5,10,a,b\n",
+        ),
+        (
+            GROUP,
+            &[("s.csv", "+,1,0,10,x\n+,2,5,7,x\n")],
+            "0,5,x,1\n5,7,x,2\n7,10,x,1\n",
+        ),
+        (
+            GROUP,
+            &[("s.csv", "+,1,0,10,x\n+,2,5,7,x\n=,5\n-,2,5\n")],
+            "0,10,x,1\n",
+        ),
+        (
+            SEQUENCE,
+            &[
+                ("a.csv", "+,1,1,20,a\n"),
+                ("b.csv", "+,1,1,2,p\n+,2,5,6,q\n+,3,11,12,r\n"),
+            ],
+            "5,11,a,q\n",
+        ),
+        (
+            DIAMOND,
+            &[("s.csv", "+,1,0,10,a\n+,2,1,3,b\n")],
+            "2,4,a,a\n",
+        ),
+        (
+            SUM,
+            &[("s.csv", "+,1,0,4,x,-3\n+,2,2,4,x,10\n")],
+            "0,2,x,1,-3\n2,4,x,2,7\n",
+        ),
+        (
+            ROWS,
+            &[("s.csv", "+,1,1,2,a,4\n+,2,3,4,b,5\n")],
+            "3,4,b\n3,4,b\n",
+        ),
+        (
+            FAILURES,
+            &[
+                ("install.csv", "+,1,1000,inf,m1\n+,2,2000,inf,m2\n"),
+                ("shutdown.csv", "+,1,5000,inf,m1\n+,2,6000,inf,m2\n"),
+                ("restart.csv", "+,1,5100,inf,m1\n"),
+            ],
+            "6300,6301,m2,m2\n",
+        ),
+    ];
+    for (plan, given, out) in cases {
+        for command in ["run", "serial"] {
+            assert!(rt; gives(&rt, command, plan, given, (0, out, ""))?, "{out}");
+        }
+    }
+    Ok(())
+}
+
+#[test]
+fn what_was_forgotten_follows_the_answer(rt: HostRuntime) -> Result<(), Fail> {
+    let given: Given = &[("s.csv", "+,1,1,2,a\n+,2,20,30,b\n+,3,10,40,c\n-,3,25\n")];
+    let lines = "--\nout,0,late,20,+,10,40,c\nout,0,orphan,20,-,25,10,40,c\n";
+    for command in ["serial", "run", "audit"] {
+        let out = "1,2,a\n20,30,b\n--\nout,0,late,20,+,10,40,c\nout,0,orphan,20,-,25,10,40,c\n";
+        assert!(rt; gives(&rt, command, WEAK_PASS, given, (0, out, ""))?);
+    }
+    assert!(rt; lines.len() > 3);
+    let all: Given = &[("s.csv", "+,1,1,2,a\n")];
+    assert!(rt; gives(&rt, "audit", PASS, all, (0, "1,2,a\n--\n", ""))?);
+    assert!(rt; gives(&rt, "run", PASS, all, (0, "1,2,a\n", ""))?);
+    let streamed =
+        "+,1,2,a\n+,20,30,b\n--\nout,0,late,20,+,10,40,c\nout,0,orphan,20,-,25,10,40,c\n";
+    assert!(rt; gives(&rt, "stream", WEAK_PASS, given, (0, streamed, ""))?);
+    Ok(())
+}
+
+#[test]
+fn changes_are_streamed(rt: HostRuntime) -> Result<(), Fail> {
+    let given: Given = &[("s.csv", "+,1,1,20,a\n+,2,4,10,b\n=,10\n-,1,10\n")];
+    let strong = "+,1,10,a\n+,4,10,b\n";
+    assert!(rt; gives(&rt, "stream", STRONG_PASS, given, (0, strong, ""))?);
+    let middle = "+,1,20,a\n+,4,10,b\n-,10,1,20,a\n";
+    assert!(rt; gives(&rt, "stream", PASS, given, (0, middle, ""))?);
+    Ok(())
+}
+
+#[test]
+fn a_script_is_played(rt: HostRuntime) -> Result<(), Fail> {
+    let script: Given = &[("x.txt", "s,+,1,1,5,a\ns,+,2,2,9,b\ns,=,6\n?\n")];
+    assert!(rt; gives(&rt, "live", STRONG_PASS, script, (0, "1,5,a\n. 6\n", ""))?);
+    let unknown: Given = &[("x.txt", "t,=,1\n")];
+    assert!(rt;
+        gives(
+            &rt,
+            "live",
+            PASS,
+            unknown,
+            (3, "", "events x.txt line 1 fault 2\n")
+        )?
+    );
+    let stops: Given = &[("x.txt", "s,+,1,1,5,a\n?\ns,-,2,1\n?\n")];
+    let told = (3, "1,5,a\n. 0\n", "events x.txt line 3 fault 7\n");
+    assert!(rt; gives(&rt, "live", PASS, stops, told)?);
+    let failures: Given = &[(
+        "x.txt",
+        "install,+,1,1000,inf,m1\ninstall,+,2,2000,inf,m2\nshutdown,+,1,5000,inf,m1\nshutdown,+,2,6000,inf,m2\n?\nrestart,+,1,5100,inf,m1\n?\n",
+    )];
+    let out = "5300,5301,m1,m1\n6300,6301,m2,m2\n. 0\n6300,6301,m2,m2\n. 0\n";
+    assert!(rt; gives(&rt, "live", FAILURES, failures, (0, out, ""))?);
+    Ok(())
+}
+
+#[test]
+fn sources_that_are_not_accepted_are_told(rt: HostRuntime) -> Result<(), Fail> {
+    let both: Given = &[("u.csv", "+,1,5,4,a\n"), ("v.csv", "-,3,1\n")];
+    let told = (3, "", "events u line 1 fault 4\nevents v line 1 fault 7\n");
+    for command in ["run", "serial", "audit", "stream"] {
+        assert!(rt; gives(&rt, command, UNION, both, told)?);
+        assert!(rt; gives(&rt, command, PASS, &[], (4, "", "read fault\n"))?);
+        assert!(rt; gives(&rt, command, "{}", &[], (2, "", "plan fault 3 node 0\n"))?);
+    }
+    let number: Given = &[("s.csv", "+,1,0,4,x,y\n")];
+    assert!(rt;
+        gives(
+            &rt,
+            "run",
+            SUM,
+            number,
+            (3, "", "events s line 1 fault 5\n")
+        )?
+    );
+    Ok(())
+}
+
+#[test]
+fn the_files_are_asked_for_in_the_order_of_the_plan(rt: HostRuntime) -> Result<(), Fail> {
+    let alloc = rt.alloc();
+    let given: Given = &[("u.csv", "+,1,1,2,a\n"), ("v.csv", "")];
+    let mut files = files(alloc, UNION, given)?;
+    let words = words(alloc, &["run", "p.json"])?;
+    let (code, out, _) = ended(&rt, &words, &mut files)?;
+    assert_eq!(rt; (code, out.as_slice()), (0, b"1,2,a\n".as_slice()));
+    let [plan, first, second] = files.asked() else {
+        return Err("three files are asked for")?;
+    };
+    assert!(rt; plan.bytes() == b"p.json".as_slice());
+    assert!(rt; first.bytes() == b"u.csv".as_slice() && second.bytes() == b"v.csv".as_slice());
+    Ok(())
+}
+
+#[test]
+fn a_read_that_fails_later_is_told_and_nothing_is_written(rt: HostRuntime) -> Result<(), Fail> {
+    let alloc = rt.alloc();
+    let given: Given = &[
+        ("u.csv", "+,1,1,2,a\n=,50\n"),
+        ("v.csv", "+,1,1,3,b\n=,9\n+,2,20,30,c\n"),
+    ];
+    for command in ["run", "stream"] {
+        let mut files = files(alloc, UNION, given)?;
+        files.set_piece(8);
+        files.fail_read("v.csv", 3)?;
+        let words = words(alloc, &[command, "p.json"])?;
+        let (code, out, err) = ended(&rt, &words, &mut files)?;
+        assert_eq!(rt; (code, out.len()), (4, 0));
+        assert_eq!(rt; err.as_slice(), b"read fault\n".as_slice());
+    }
+    Ok(())
+}
+
+#[test]
+fn a_stream_and_a_script_leave_what_they_wrote(rt: HostRuntime) -> Result<(), Fail> {
+    let alloc = rt.alloc();
+    let given: Given = &[
+        ("s.csv", "+,1,1,20,a\n+,2,4,10,b\n"),
+        ("x.txt", "s,+,1,1,20,a\n?\ns,+,2,4,10,b\n?\n"),
+    ];
+    let cases: [(&[&str], &str); 2] = [
+        (&["stream", "p.json"], "+,1,20,a\n"),
+        (&["live", "p.json", "x.txt"], "1,20,a\n. 0\n"),
+    ];
+    for (texts, left) in cases {
+        let mut files = files(alloc, PASS, given)?;
+        let (mut out, mut err) = (MemSink::new(alloc), MemSink::new(alloc));
+        out.fail_write(2)?;
+        let words = words(alloc, texts)?;
+        let status = run(
+            &rt, alloc, &words, &mut files, &mut out, &mut err, &OpenGate,
+        );
+        assert_eq!(rt; status, Status::Write);
+        assert_eq!(rt; out.written(), left.as_bytes());
+        assert_eq!(rt; err.written(), b"write fault\n".as_slice());
+    }
+    Ok(())
+}
+
+#[test]
+fn a_workload_is_summed_up(rt: HostRuntime) -> Result<(), Fail> {
+    let alloc = rt.alloc();
+    for (events, told) in [
+        ("1", "rows 1 length 4\n"),
+        ("16", "rows 38 length 284\n"),
+        ("000200", "rows 622 length 3337\n"),
+    ] {
+        let mut files = MemFiles::new(alloc);
+        let words = words(alloc, &["make", events])?;
+        let (code, out, err) = ended(&rt, &words, &mut files)?;
+        assert_eq!(rt; (code, err.len(), files.asked().len()), (0, 0, 0));
+        assert_eq!(rt; out.as_slice(), told.as_bytes());
+    }
+    Ok(())
+}

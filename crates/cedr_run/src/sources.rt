@@ -1,0 +1,124 @@
+ghost use Rattle.std.specs.Prelude.{◌≡◌, ◌<◌, List, ℕ, IfOk};
+ghost use Rattle.cedr_io.specs.Counts.{last_count};
+ghost use Rattle.cedr_plan.specs.Rules.{IsPlan};
+ghost use Rattle.cedr_serial.specs.Feeding.{AreSources};
+ghost use Rattle.cedr_serial.specs.Sources.{AsksFirst, AreTold, source_files};
+ghost use Rattle.cedr_run.specs.Answers.{AnswersQuery, AnswersChanges, BeginsChanges};
+ghost use Rattle.cedr_run.specs.Commands.{Command};
+ghost use Rattle.cedr_run.specs.Outcomes.{CommandEnds, AsksOnly};
+ghost use Rattle.cedr_run.specs.Seen.{seen_files, seen_sink};
+ghost use Rattle.cedr_run.specs.Steps.{CountsStep, StopsSources, OpensSources, ReadsSources, EndsWith, EndsSources};
+
+use crate::command::Job;
+use crate::outcome::Outcome;
+use crate::plan::open_plan;
+use crate::saying::{refuse_sources, write_text};
+use cedr_base::OutOfMemory;
+use cedr_io::{Files, OutsideFault, Sink};
+use cedr_plan::Plan;
+use cedr_serial::{
+    Remaining, SourcesFault, accepted_sources, answer_sources, read_sources, stream_sources,
+};
+use std::alloc::Global;
+
+/// All messages of a plan's sources, or how the command ends without them.
+fn open_sources<F: Files>(
+    alloc: Global,
+    plan: &Plan,
+    files: &mut F,
+) -> Result<Vec<Remaining>, Outcome>
+    requires { F.faults files.old < last_count }
+    ensures sources { IfOk result (λ left. AreSources plan.now.nodes.items left.items) }
+    ensures stops { StopsSources result }
+    ensures opened { (told : List ℕ → List ℕ) → AreTold (F.content files.old) told (source_files plan.now.nodes.items) → OpensSources result told plan.now.nodes.items }
+    ensures counted { CountsStep result (F.faults files.old) (F.faults files.new) }
+    ensures asked { AsksFirst (F.asked files.old) (F.asked files.new) (source_files plan.now.nodes.items) }
+    ensures contents { (n : List ℕ) → F.content files.new n ≡ F.content files.old n }
+{
+    let nodes = plan.nodes.as_slice();
+    match read_sources(alloc, nodes, files) {
+        Ok(left) => Ok(left),
+        Err(SourcesFault::Events(faulty)) => Err(refuse_sources(alloc, nodes, &faulty)),
+        Err(SourcesFault::Read) => Err(Outcome::Read),
+        Err(SourcesFault::OutOfMemory) => Err(Outcome::OutOfMemory),
+    }
+}
+
+/// Writes the answer of a plan over its sources, and what was forgotten where `always` or where some port has a finite memory.
+fn answer<K: Sink>(
+    alloc: Global,
+    always: bool,
+    plan: &Plan,
+    left: Vec<Remaining>,
+    out: &mut K,
+) -> Outcome
+    requires counts { K.faults out.old < last_count }
+    requires plan { IsPlan plan.now }
+    requires sources { AreSources plan.now.nodes.items left.items }
+    ensures { EndsWith (AnswersQuery always) (AnswersQuery always) plan.now.nodes.items left.items (seen_sink K.written K.faults out.old) (seen_sink K.written K.faults out.new) result }
+{
+    accepted_sources();
+    match answer_sources(alloc, plan, always, left) {
+        Ok(text) => write_text(out, &text),
+        Err(OutOfMemory) => Outcome::OutOfMemory,
+    }
+}
+
+/// Writes the changes of that answer as they come.
+fn stream<K: Sink>(alloc: Global, plan: &Plan, left: Vec<Remaining>, out: &mut K) -> Outcome
+    requires counts { K.faults out.old < last_count }
+    requires plan { IsPlan plan.now }
+    requires sources { AreSources plan.now.nodes.items left.items }
+    ensures { EndsWith AnswersChanges BeginsChanges plan.now.nodes.items left.items (seen_sink K.written K.faults out.old) (seen_sink K.written K.faults out.new) result }
+{
+    accepted_sources();
+    match stream_sources(alloc, plan, left, out) {
+        Ok(()) => Outcome::Done,
+        Err(OutsideFault::Failed) => Outcome::Write,
+        Err(OutsideFault::OutOfMemory) => Outcome::OutOfMemory,
+    }
+}
+
+/// Writes what a command gives of a plan and its sources.
+fn give<K: Sink>(alloc: Global, job: Job, plan: &Plan, left: Vec<Remaining>, out: &mut K) -> Outcome
+    requires counts { K.faults out.old < last_count }
+    requires job { ReadsSources job }
+    requires plan { IsPlan plan.now }
+    requires sources { AreSources plan.now.nodes.items left.items }
+    ensures { EndsSources job plan.now.nodes.items left.items (seen_sink K.written K.faults out.old) (seen_sink K.written K.faults out.new) result }
+{
+    match job {
+        Job::Stream => stream(alloc, plan, left, out),
+        Job::Audit => answer(alloc, true, plan, left, out),
+        _ => answer(alloc, false, plan, left, out),
+    }
+}
+
+/// Reads a plan and its sources, and writes what the command gives of them. No source is held whole beside its messages.
+pub(crate) fn on_sources<F: Files, K: Sink>(
+    alloc: Global,
+    job: Job,
+    file: &[u8],
+    files: &mut F,
+    out: &mut K,
+) -> Outcome
+    requires files_count { F.faults files.old < last_count }
+    requires out_counts { K.faults out.old < last_count }
+    requires job { ReadsSources job }
+    ensures ends { (script : List ℕ) → CommandEnds (record { job = job; file = file.now; script = script })
+        (seen_files F.content F.faults F.asked files.old) (seen_files F.content F.faults F.asked files.new)
+        (seen_sink K.written K.faults out.old) (seen_sink K.written K.faults out.new) result }
+    ensures asked { (script : List ℕ) → AsksOnly (record { job = job; file = file.now; script = script })
+        (seen_files F.content F.faults F.asked files.old) (seen_files F.content F.faults F.asked files.new) }
+    ensures contents { (n : List ℕ) → F.content files.new n ≡ F.content files.old n }
+{
+    let plan = match open_plan(alloc, file, files) {
+        Ok(plan) => plan,
+        Err(outcome) => return outcome,
+    };
+    let left = match open_sources(alloc, &plan, files) {
+        Ok(left) => left,
+        Err(outcome) => return outcome,
+    };
+    give(alloc, job, &plan, left, out)
+}

@@ -1,0 +1,82 @@
+-- What is written of a plan and its sources.
+use Rattle.std.specs.Prelude.{ℕ, ◌≡◌, ◌||◌, Bool, List, [], ◌∷◌, ◌++◌, ◌⊎◌, filter, None, if◌then◌else◌}
+use Rattle.std.specs.List.{flat_map}
+use Rattle.cedr_base.specs.declared.row.Row.{Row}
+use Rattle.cedr_base.specs.declared.change.Change.{Change}
+use Rattle.cedr_base.specs.declared.change.Message.{Message}
+use Rattle.cedr_base.specs.Messages.{changes_of}
+use Rattle.cedr_base.specs.Rows.{in_order}
+use Rattle.cedr_guard.specs.Sources.{judged, messages_of, history_of_bytes}
+use Rattle.cedr_laws.specs.Lists.{Lists, list_at}
+use Rattle.cedr_plan.specs.declared.plan.PlanNode.{PlanNode}
+use Rattle.cedr_query.specs.Queries.{output_place}
+use Rattle.cedr_runs.specs.Runs.{ArePrefixes, IsRun, IsPartialRun}
+use Rattle.cedr_runs.specs.Without.{query_without, forgot_in}
+use Rattle.cedr_table.specs.Operators.{Tables, table_at}
+use Rattle.cedr_text.specs.declared.event_line.Shape.{Shape}
+use Rattle.cedr_text.specs.Texts.{change_text}
+use Rattle.op_planned.specs.Ready.{is_source}
+use Rattle.cedr_serial.specs.Answers.{has_memory, tail_text, answer_text}
+use Rattle.cedr_serial.specs.Sources.{file_of, HasTypes}
+
+-- ---- accepted sources
+
+abbrev pub source_nodes : List PlanNode → List PlanNode
+source_nodes nodes = filter (λ (n : PlanNode). is_source n.kind) nodes
+
+-- the file of a source has no fault, and these are its messages and its canonical history
+pub record IsAccepted (told : List ℕ → List ℕ) (node : PlanNode) (ms : List Message) (history : List Row) : Type 0 where
+  pub shape : Shape
+  pub types : HasTypes shape node.types.items
+  pub faultless : (judged shape (told (file_of node.kind))).fault ≡ None
+  pub messages : ms ≡ messages_of shape (told (file_of node.kind))
+  pub history_is : history ≡ history_of_bytes shape (told (file_of node.kind))
+
+abbrev pub AreAccepted : (List ℕ → List ℕ) → List PlanNode → Lists → Tables → Type 0
+AreAccepted told [] [] [] = Unit {0}
+AreAccepted told [] [] (t ∷ ts) = ⊥
+AreAccepted told [] (l ∷ ls) histories = ⊥
+AreAccepted told (n ∷ nodes) [] histories = ⊥
+AreAccepted told (n ∷ nodes) (l ∷ ls) [] = ⊥
+AreAccepted told (n ∷ nodes) (l ∷ ls) (t ∷ ts) = IsAccepted told n l t × AreAccepted told nodes ls ts
+
+-- ---- the answer
+
+-- The rows of the query over the canonical histories, with what each port forgot left out, in canonical order; and behind
+-- them what was forgotten, where some port has a finite memory or it is asked for. What was forgotten is that of a run of
+-- the plan over the messages of the sources.
+pub record IsAnswerText (always : Bool) (nodes : List PlanNode) (sources : Lists) (histories : Tables) (text : List ℕ) : Type 0 where
+  pub ports : List Lists
+  pub given : Lists
+  pub run : IsRun nodes sources ports given
+  pub text_is : text ≡ answer_text (always || has_memory nodes) nodes (in_order (table_at (query_without (forgot_in nodes ports) histories nodes) (output_place nodes))) (forgot_in nodes ports)
+
+-- ---- the changes
+
+abbrev pub changes_text : List Change → List ℕ
+changes_text changes = flat_map change_text changes
+
+-- the changes that the output gave
+abbrev pub given_text : List PlanNode → Lists → List ℕ
+given_text nodes given = changes_text (changes_of (list_at given (output_place nodes)))
+
+-- The changes that the output gave in a run of the plan over the messages of the sources, and behind them what was
+-- forgotten, where some port has a finite memory.
+pub record IsStreamText (nodes : List PlanNode) (sources : Lists) (text : List ℕ) : Type 0 where
+  pub ports : List Lists
+  pub given : Lists
+  pub run : IsRun nodes sources ports given
+  pub text_is : text ≡ given_text nodes given ++ (if has_memory nodes then tail_text nodes (forgot_in nodes ports) else [])
+
+-- the changes that the output gave in a partial run over the first messages of the sources
+pub record IsStreamedSoFar (nodes : List PlanNode) (sources : Lists) (text : List ℕ) : Type 0 where
+  pub begun : Lists
+  pub ports : List Lists
+  pub given : Lists
+  pub first : ArePrefixes begun sources
+  pub run : IsPartialRun nodes begun ports given
+  pub text_is : text ≡ given_text nodes given
+
+-- the text of which a front was written where writing or memory failed
+abbrev pub MayStream : List PlanNode → Lists → List ℕ → Type 0
+MayStream nodes sources text = IsStreamedSoFar nodes sources text ⊎ IsStreamText nodes sources text
