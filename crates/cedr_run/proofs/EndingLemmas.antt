@@ -1,5 +1,5 @@
 -- How a command ends, from how its steps went.
-use Rattle.std.proofs.Common.{◌≡◌, ◌≢◌, ℕ, suc, Bool, false, ◌<◌, ◌⊎◌, inl, inr, List, [], ◌∷◌, ◌++◌, length, take, Option, None, Some, Result, Ok, Err, refl, sym, ap, ◌∙◌, subst, arith, rules, tests}
+use Rattle.std.proofs.Common.{◌≡◌, ◌≢◌, ℕ, suc, Bool, ◌<◌, ◌⊎◌, inl, inr, List, [], ◌∷◌, ◌++◌, length, take, Option, None, Some, Result, Ok, Err, refl, sym, ap, ◌∙◌, subst, arith, rules, tests}
 use Rattle.std.specs.Prelude.{IfSome, OnOk, OnErr}
 use Rattle.std.specs.Io.KnownBytes.{Appends, Keeps}
 use Rattle.std.proofs.lemmas.List.{take_all, append-nil, append_assoc}
@@ -120,90 +120,44 @@ pub told_same : (before after : List ℕ → Option (List ℕ)) (told : List ℕ
 told_same before after told [] same h = tt
 told_same before after told (name ∷ names) same h = (same name ∙ h.0, told_same before after told names same h.1)
 
+-- what holds of each command that reads sources
+by_job : (P : Job → Type 0) (job : Job) → ReadsSources job → P Serial → P Run → P Audit → P Stream → P job
+by_job P Serial reads serial run audit stream = serial
+by_job P Run reads serial run audit stream = run
+by_job P Audit reads serial run audit stream = audit
+by_job P Stream reads serial run audit stream = stream
+by_job P History reads serial run audit stream = absurd reads
+by_job P Check reads serial run audit stream = absurd reads
+by_job P Live reads serial run audit stream = absurd reads
+by_job P (Make n) reads serial run audit stream = absurd reads
+
 named_one : (job : Job) (content : List ℕ → Option (List ℕ)) (told : List ℕ → List ℕ) (file script : List ℕ) → ReadsSources job → AreTold content told (named_files (record { job = job; file = file; script = script })) → AreTold content told (file ∷ [])
-named_one Serial content told file script reads h = h
-named_one Run content told file script reads h = h
-named_one Audit content told file script reads h = h
-named_one Stream content told file script reads h = h
-named_one History content told file script reads h = absurd reads
-named_one Check content told file script reads h = absurd reads
-named_one Live content told file script reads h = absurd reads
-named_one (Make n) content told file script reads h = absurd reads
+named_one job content told file script reads =
+    by_job (λ (job : Job). AreTold content told (named_files (record { job = job; file = file; script = script })) → AreTold content told (file ∷ [])) job reads (λ h. h) (λ h. h) (λ h. h) (λ h. h)
 
 no_plan_of : (job : Job) (told : List ℕ → List ℕ) (file script : List ℕ) (kind : PlanKind) (node : ℕ) → ReadsSources job → IsNoPlan (told file) kind node → RefusesPlan told (record { job = job; file = file; script = script }) kind node
-no_plan_of Serial told file script kind node reads h = h
-no_plan_of Run told file script kind node reads h = h
-no_plan_of Audit told file script kind node reads h = h
-no_plan_of Stream told file script kind node reads h = h
-no_plan_of History told file script kind node reads h = absurd reads
-no_plan_of Check told file script kind node reads h = absurd reads
-no_plan_of Live told file script kind node reads h = absurd reads
-no_plan_of (Make n) told file script kind node reads h = absurd reads
+no_plan_of job told file script kind node reads h = by_job (λ (job : Job). RefusesPlan told (record { job = job; file = file; script = script }) kind node) job reads h h h h
 
 refuses_of : (job : Job) (content : List ℕ → Option (List ℕ)) (told : List ℕ → List ℕ) (file script said : List ℕ) → ReadsSources job → OfPlan content told file (λ nodes. RefusesSources told nodes said) → Refuses content told (record { job = job; file = file; script = script }) [] said
-refuses_of Serial content told file script said reads h = (refl, h)
-refuses_of Run content told file script said reads h = (refl, h)
-refuses_of Audit content told file script said reads h = (refl, h)
-refuses_of Stream content told file script said reads h = (refl, h)
-refuses_of History content told file script said reads h = absurd reads
-refuses_of Check content told file script said reads h = absurd reads
-refuses_of Live content told file script said reads h = absurd reads
-refuses_of (Make n) content told file script said reads h = absurd reads
+refuses_of job content told file script said reads h = by_job (λ (job : Job). Refuses content told (record { job = job; file = file; script = script }) [] said) job reads (refl, h) (refl, h) (refl, h) (refl, h)
 
 gives_of : (job : Job) (content : List ℕ → Option (List ℕ)) (told : List ℕ → List ℕ) (file script text : List ℕ) → ReadsSources job → OfPlan content told file (λ nodes. GivesPlan job told nodes text) → Gives content told (record { job = job; file = file; script = script }) text
-gives_of Serial content told file script text reads h = h
-gives_of Run content told file script text reads h = h
-gives_of Audit content told file script text reads h = h
-gives_of Stream content told file script text reads h = h
-gives_of History content told file script text reads h = absurd reads
-gives_of Check content told file script text reads h = absurd reads
-gives_of Live content told file script text reads h = absurd reads
-gives_of (Make n) content told file script text reads h = absurd reads
+gives_of job content told file script text reads =
+    by_job (λ (job : Job). OfPlan content told file (λ nodes. GivesPlan job told nodes text) → Gives content told (record { job = job; file = file; script = script }) text) job reads (λ h. h) (λ h. h) (λ h. h) (λ h. h)
 
 begins_of : (job : Job) (content : List ℕ → Option (List ℕ)) (told : List ℕ → List ℕ) (file script text : List ℕ) → ReadsSources job → OfPlan content told file (λ nodes. BeginsPlan job told nodes text) → Begins content told (record { job = job; file = file; script = script }) text
-begins_of Serial content told file script text reads h = h
-begins_of Run content told file script text reads h = h
-begins_of Audit content told file script text reads h = h
-begins_of Stream content told file script text reads h = h
-begins_of History content told file script text reads h = absurd reads
-begins_of Check content told file script text reads h = absurd reads
-begins_of Live content told file script text reads h = absurd reads
-begins_of (Make n) content told file script text reads h = absurd reads
+begins_of job content told file script text reads =
+    by_job (λ (job : Job). OfPlan content told file (λ nodes. BeginsPlan job told nodes text) → Begins content told (record { job = job; file = file; script = script }) text) job reads (λ h. h) (λ h. h) (λ h. h) (λ h. h)
 
-asks_named : (job : Job) (files files' : FilesSeen) (file script : List ℕ) → ReadsSources job → AsksFirst files.asked files'.asked (file ∷ []) → AsksOnly (record { job = job; file = file; script = script }) files files'
-asks_named Serial files files' file script reads h = inl h
-asks_named Run files files' file script reads h = inl h
-asks_named Audit files files' file script reads h = inl h
-asks_named Stream files files' file script reads h = inl h
-asks_named History files files' file script reads h = absurd reads
-asks_named Check files files' file script reads h = absurd reads
-asks_named Live files files' file script reads h = absurd reads
-asks_named (Make n) files files' file script reads h = absurd reads
+pub plan_asked : (job : Job) (files files' : FilesSeen) (file script : List ℕ) → ReadsSources job → AsksFirst files.asked files'.asked (file ∷ []) → AsksOnly (record { job = job; file = file; script = script }) files files'
+plan_asked job files files' file script reads h = by_job (λ (job : Job). AsksOnly (record { job = job; file = file; script = script }) files files') job reads (inl h) (inl h) (inl h) (inl h)
 
 asks_plan : (job : Job) (files files' : FilesSeen) (file script : List ℕ) → ReadsSources job → AsksPlan files files' file → AsksOnly (record { job = job; file = file; script = script }) files files'
-asks_plan Serial files files' file script reads h = inr h
-asks_plan Run files files' file script reads h = inr h
-asks_plan Audit files files' file script reads h = inr h
-asks_plan Stream files files' file script reads h = inr h
-asks_plan History files files' file script reads h = absurd reads
-asks_plan Check files files' file script reads h = absurd reads
-asks_plan Live files files' file script reads h = absurd reads
-asks_plan (Make n) files files' file script reads h = absurd reads
+asks_plan job files files' file script reads h = by_job (λ (job : Job). AsksOnly (record { job = job; file = file; script = script }) files files') job reads (inr h) (inr h) (inr h) (inr h)
 
 -- what accepted sources have
 abbrev pub AcceptedLeft : (List ℕ → List ℕ) → List PlanNode → Lists → Type 0
 AcceptedLeft told nodes left = (histories : Tables) × AreAccepted told (source_nodes nodes) (sources_in nodes left) histories × AllWhole (source_count nodes) (sources_in nodes left) × AreTables (sources_in nodes left) histories
-
--- the commands that write rows and don't ask for the list
-pub plain_gives : (job : Job) (nodes : List PlanNode) (left : Lists) (out out' : SinkSeen) (o : Outcome) → ReadsSources job → job ≢ Stream → job ≢ Audit → EndsWith (AnswersQuery false) (AnswersQuery false) nodes left out out' o → EndsSources job nodes left out out' o
-plain_gives Serial nodes left out out' o reads no_stream no_audit h = h
-plain_gives Run nodes left out out' o reads no_stream no_audit h = h
-plain_gives Audit nodes left out out' o reads no_stream no_audit h = absurd (no_audit refl)
-plain_gives Stream nodes left out out' o reads no_stream no_audit h = absurd (no_stream refl)
-plain_gives History nodes left out out' o reads no_stream no_audit h = absurd reads
-plain_gives Check nodes left out out' o reads no_stream no_audit h = absurd reads
-plain_gives Live nodes left out out' o reads no_stream no_audit h = absurd reads
-plain_gives (Make n) nodes left out out' o reads no_stream no_audit h = absurd reads
 
 -- no plan was opened
 pub sources_no_plan : (job : Job) (file script : List ℕ) (files files' : FilesSeen) (out : SinkSeen) (o : Outcome) → ReadsSources job → OpensPlan (Err o) (files.content file) → CountsStep {T = Plan} (Err o) files.faults files'.faults
@@ -221,9 +175,6 @@ is_opened files file plan h told is = opened_plan (files.content file) (told fil
 pub sources_asked : (job : Job) (files files' : FilesSeen) (file script : List ℕ) (nodes : List PlanNode) → ReadsSources job → IsOpened files file nodes → AsksFirst files.asked files'.asked (file ∷ source_files nodes) → AsksOnly (record { job = job; file = file; script = script }) files files'
 unfolding IsOpened
 sources_asked job files files' file script nodes reads opened asked = asks_plan job files files' file script reads (record { nodes = nodes; plan = opened; asked = asked })
-
-pub plan_asked : (job : Job) (files files' : FilesSeen) (file script : List ℕ) → ReadsSources job → AsksFirst files.asked files'.asked (file ∷ []) → AsksOnly (record { job = job; file = file; script = script }) files files'
-plan_asked job files files' file script reads asked = asks_named job files files' file script reads asked
 
 -- its sources weren't
 pub sources_stopped : (T : Type 0) (job : Job) (file script : List ℕ) (files files' : FilesSeen) (out : SinkSeen) (o : Outcome) (nodes : List PlanNode) → ReadsSources job → IsOpened files file nodes

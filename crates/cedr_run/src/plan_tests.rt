@@ -1,7 +1,10 @@
+ghost use Rattle.std.specs.Prelude.{◌<◌, IfOk};
+ghost use Rattle.cedr_io.specs.Counts.{last_count};
+
 use super::*;
 use crate::tests::{ended, words};
 use cedr_base::OutOfMemory;
-use cedr_io::{MemFiles, MemSink, OpenGate};
+use cedr_io::{Files, MemFiles, MemSink, OpenGate};
 use std::alloc::Global;
 use std::test::Fail;
 
@@ -72,7 +75,9 @@ const ROWS: &str = r#"{"version":1,"nodes":[
 /// Files by their names.
 type Given = &'static [(&'static str, &'static str)];
 
-fn files(alloc: Global, plan: &str, given: Given) -> Result<MemFiles, OutOfMemory> {
+fn files(alloc: Global, plan: &str, given: Given) -> Result<MemFiles, OutOfMemory>
+    ensures { IfOk result (λ files. ⟦<MemFiles as Files>⟧.faults files < last_count) }
+{
     let mut files = MemFiles::new(alloc);
     files.add("p.json", plan.as_bytes())?;
     for (name, lines) in given {

@@ -1,6 +1,11 @@
+ghost use Rattle.std.specs.Prelude.{◌≡◌, ◌<◌, true, map};
+ghost use Rattle.std.specs.String.{string_bytes};
+ghost use Rattle.cedr_io.specs.Counts.{last_count};
+ghost use Rattle.cedr_run.specs.Commands.{IsAlone};
+
 use super::*;
 use cedr_base::OutOfMemory;
-use cedr_io::{MemFiles, MemSink, OpenGate};
+use cedr_io::{Files, MemFiles, MemSink, OpenGate};
 use std::alloc::Global;
 use std::test::Fail;
 
@@ -41,7 +46,9 @@ pub(crate) fn ended(
     rt: &HostRuntime,
     words: &[String],
     files: &mut MemFiles,
-) -> Result<(u8, Vec<u8>, Vec<u8>), OutOfMemory> {
+) -> Result<(u8, Vec<u8>, Vec<u8>), OutOfMemory>
+    requires { ⟦<MemFiles as Files>⟧.faults files.old < last_count }
+{
     let alloc = rt.alloc();
     let (mut out, mut err) = (MemSink::new(alloc), MemSink::new(alloc));
     let status = run(rt, alloc, words, files, &mut out, &mut err, &OpenGate);
@@ -239,6 +246,16 @@ fn words_that_match_no_command_are_told_the_usage(rt: HostRuntime) -> Result<(),
     Ok(())
 }
 
+/// Whether the words match neither `run PLAN` nor `stream PLAN`.
+fn is_alone(words: &[String]) -> bool
+    ensures { result ≡ true → IsAlone (map string_bytes words.now) }
+{
+    match words {
+        [command, _] => command.as_str() != "run" && command.as_str() != "stream",
+        _ => true,
+    }
+}
+
 #[test]
 fn run_alone_answers_as_run_does(rt: HostRuntime) -> Result<(), Fail> {
     let alloc = rt.alloc();
@@ -247,6 +264,7 @@ fn run_alone_answers_as_run_does(rt: HostRuntime) -> Result<(), Fail> {
         files.add("e.csv", EVENTS)?;
         let (mut out, mut err) = (MemSink::new(alloc), MemSink::new(alloc));
         let words = words(alloc, &["history", file])?;
+        assert!(rt; is_alone(&words));
         let ended = run_alone(alloc, &words, &mut files, &mut out, &mut err);
         assert_eq!(rt; ended, status);
     }
