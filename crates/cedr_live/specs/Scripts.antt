@@ -50,7 +50,7 @@ lines_at before place = slice_index_or before place []
 abbrev pub no_lines : List PlanNode → Accepted
 no_lines nodes = map (λ (n : PlanNode). []) nodes
 
--- each node has a shape, and that of a source has its types
+-- each node has a shape of its types
 abbrev pub HaveTypes : List PlanNode → List Shape → Type 0
 HaveTypes [] [] = Unit {0}
 HaveTypes [] (s ∷ shapes) = ⊥
