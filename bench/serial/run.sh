@@ -1,8 +1,8 @@
 #!/usr/bin/env bash
 # Times `cedr serial` on five plans over generated sources of 10,000, 100,000 and 400,000 events each: a join, a join
 # and a group, a sequence, an unless, and a chain of 40 selects. The first two are also answered by Python over SQLite,
-# in the same run, and the bytes compared. Prints seconds, events a second over all sources, the peak of memory in KiB,
-# and rows. A command that takes over 900 seconds is stopped. Build the program first:
+# in the same run, and the bytes compared. Prints seconds of processor time, events a second of that over all sources, the
+# peak of memory in KiB, and rows. A command that takes over 900 seconds is stopped. Build the program first:
 # (cd crates/cedr && rt run -- --version)
 #
 # usage: bench/serial/run.sh [PROGRAM [SIZE..]]
@@ -26,10 +26,11 @@ has_serial() {
 measure() {
   local name=$1 events=$2 output=$3 status=0
   shift 3
-  /usr/bin/time -q -o time -f "%e %M" timeout 900 "$@" > "$output" 2> errors || status=$?
+  /usr/bin/time -q -o time -f "%U %S %M" timeout 900 "$@" > "$output" 2> errors || status=$?
   if [ "$status" = 0 ]; then
     awk -v name="$name" -v events="$events" -v rows="$(wc -l < "$output")" '{
-      printf "  %-10s %8.2f s  %9d events/s  %9d KiB  %9d rows\n", name, $1, events / ($1 > 0 ? $1 : 0.01), $2, rows
+      seconds = $1 + $2
+      printf "  %-10s %8.2f s  %9d events/s  %9d KiB  %9d rows\n", name, seconds, events / (seconds > 0 ? seconds : 0.01), $3, rows
     }' time
   elif [ "$status" = 124 ]; then
     printf "  %-10s over 900 s\n" "$name"
