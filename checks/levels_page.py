@@ -1,10 +1,11 @@
-"""The commands in docs/levels.md with what the page says that they write, over the files of examples/."""
+"""The commands in docs/levels.md and in README.md with what these say that they write, over the files of examples/."""
 import re
 from pathlib import Path
 
 from network_cases import NetworkCase
 
 SHOWN = re.compile(r"```sh\ncd (\S+)\n\S*/cedr ([^\n]*)\n```\n\n```text\n(.*?)```", re.DOTALL)
+FRONT = re.compile(r"\n\.\./crates/cedr/out/cedr ([^\n]*)\n```\n\n```text\n(.*?)```", re.DOTALL)
 TABLE_ROW = re.compile(r"^\| (\d+|the end) \|(.*)\|$", re.MULTILINE)
 TEXT = re.compile("`([^`]*)`")
 LEVELS = ["strong.json", "middle.json", "weak.json"]
@@ -19,8 +20,14 @@ def all_cases(root: Path):
     shown = {words: out for _, words, out in SHOWN.findall(page)}
     check_tables(page, (root / "examples/levels/reports.csv").read_text(), shown)
     for folder, words, out in SHOWN.findall(page):
-        files = {one.name: one.read_bytes() for one in (root / folder).iterdir() if one.is_file()}
-        yield NetworkCase(f"{words}, as the page of levels shows it", files, words.split(), 0, out.encode(), b"")
+        yield shown_case(root / folder, words, out, "the page of levels")
+    for words, out in FRONT.findall((root / "README.md").read_text()):
+        yield shown_case(root / "examples", words, out, "the README")
+
+
+def shown_case(folder: Path, words: str, out: str, place: str) -> NetworkCase:
+    files = {one.name: one.read_bytes() for one in folder.iterdir() if one.is_file()}
+    return NetworkCase(f"{words}, as {place} shows it", files, words.split(), 0, out.encode(), b"")
 
 
 def check_tables(page: str, reports: str, shown: dict) -> None:

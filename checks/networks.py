@@ -1,7 +1,7 @@
 #!/usr/bin/env python3
 """Runs the commands of the built program that run a plan, and compares what comes with what must come.
 
-What must come is written out by hand in network_cases.py and docs/levels.md, and for random plans, files and scripts
+What must come is written out by hand in network_cases.py, docs/levels.md and README.md, and for random plans, files and scripts
 worked out by answer_reference.py from the definitions. What is written by hand is also compared with that, and with a
 run of the reference in network.py. Status 0: all right. 1: something differs; the first differences are printed with
 their seeds, and their files kept. 2: the program isn't there. With a seed it looks at the random plans, scripts and
@@ -173,8 +173,8 @@ def check_all(check: NetworkCheck) -> str:
     tables = network_cases.all_cases(), levels_page.all_cases(ROOT), network_cases.large()
     small, on_page, large = (check_by_hand(check, cases) for cases in tables)
     outside, sizes = check_full_device(check) + check_refused_reads(check), check_made(check)
-    told = (f"{small} small and {large} large cases by hand, {on_page} of docs/levels.md, {outside} that the outside "
-            f"refuses, {sizes} sizes of make, ")
+    told = (f"{small} small and {large} large cases by hand, {on_page} of docs/levels.md and README.md, {outside} that the "
+            f"outside refuses, {sizes} sizes of make, ")
     return told + check_seeds(check, *map(range, (PLANS, SCRIPTS, FAULTY_PLANS, FAULTY_SCRIPTS, HISTORIES)))
 
 
