@@ -17,7 +17,7 @@ pub use fault::GuardFault;
 pub use guard::Guard;
 pub use judge::{Interval, Judge};
 pub use law::{message_laws, source_limits};
-pub use refusal::{FILE_LIMIT, Refusal};
+pub use refusal::{FILE_LIMIT, Refusal, limit_fault};
 
 #[cfg(test)]
 mod tests;

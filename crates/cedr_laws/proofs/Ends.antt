@@ -58,7 +58,7 @@ pub over_open : (l : List Message) → IsOpen l → is_over l ≡ false
 over_open l h = ap (λ (b : Bool). b || has_broken l) (open_is l h) ∙ open_unbroken l h
 
 -- what is over stays so
-over_grows : (l ms : List Message) → is_over l ≡ true → is_over (l ++ ms) ≡ true
+pub over_grows : (l ms : List Message) → is_over l ≡ true → is_over (l ++ ms) ≡ true
 over_grows [] ms h = cc
 over_grows (message.Change c ∷ l) ms h = over_grows l ms h
 over_grows (message.Mark t ∷ l) ms h = over_grows l ms h

@@ -5,8 +5,8 @@ use Rattle.std.proofs.lemmas.Bool.{cases_lt}
 use Rattle.cedr_base.specs.declared.level.Level.{Level}
 use Rattle.cedr_base.specs.declared.change.Message.{Message}
 use Rattle.cedr_base.specs.declared.change.Message.TheVariants as message
-use Rattle.cedr_base.specs.Messages.{IsOpen, MayCome, IsLegalBehind, IsLegal}
-use Rattle.cedr_stream.proofs.Legal.{legal-push}
+use Rattle.cedr_base.specs.Messages.{IsOpen, MayCome, IsLegal}
+use Rattle.cedr_stream.proofs.Legal.{legal-push, legal_first, may_come_in}
 use Rattle.cedr_table.specs.Operators.{Meaning}
 use Rattle.cedr_laws.specs.Lists.{Lists, list_at, with_more}
 use Rattle.cedr_laws.specs.Pass.{has_end, pass}
@@ -39,14 +39,6 @@ unbroken_none : (n : ℕ) → any_broken (replicate n []) ≡ false
 unbroken_none zero = refl
 unbroken_none (suc n) = unbroken_none n
 
-legal_first : (before xs ys : List Message) → IsLegalBehind before (xs ++ ys) → IsLegalBehind before xs
-legal_first before [] ys h = tt
-legal_first before (x ∷ xs) ys h = (h.0, legal_first (before ++ x ∷ []) xs ys h.1)
-
-legal_last : (before xs : List Message) (m : Message) → IsLegalBehind before (xs ++ m ∷ []) → MayCome (before ++ xs) m
-legal_last before [] m h = subst (λ (bs : List Message). MayCome bs m) (sym (append-nil before)) h.0
-legal_last before (x ∷ xs) m h = subst (λ (bs : List Message). MayCome bs m) (append_assoc before (x ∷ []) xs) (legal_last (before ++ x ∷ []) xs m h.1)
-
 abbrev AllLegal : Lists → Type 0
 AllLegal lists = (port : ℕ) → IsLegal (list_at lists port)
 
@@ -56,7 +48,7 @@ module _ (lists : Lists) (port : ℕ) (m : Message) (within : port < length list
   legal_here = subst IsLegal (get_or-set_same lists port (list_at lists port ++ m ∷ []) [] within) (legal port)
 
   comes : MayCome (list_at lists port) m
-  comes = legal_last [] (list_at lists port) m legal_here
+  comes = may_come_in (list_at lists port) [] m legal_here
 
   legal_other : (k : ℕ) → k ≢ port → IsLegal (list_at lists k)
   legal_other k other = subst IsLegal (get_or-set_other lists port k (list_at lists port ++ m ∷ []) [] other) (legal k)
@@ -147,9 +139,16 @@ module _ (meaning : Meaning) (levels : List Level) where
       let opened = sent.opened (open_not_over s.port lists within (comes lists s.port s.message within legal).0) in
       sent_at (lists_after lists s) given s.piece right sent.legal opened (any_broken (lists_after lists s)) (all_over (lists_after lists s)) refl refl
 
+  sent_is : (lists : Lists) (given : List Message) → IsLawful meaning levels lists given → AllLegal lists → IsSent lists given
+  sent_is lists given lawful legal = by_steps meaning levels (λ ls ms. AllLegal ls → IsSent ls ms) sent_more (λ none. record { legal = tt; opened = λ e. tt }) lists given lawful legal
+
   -- what a lawful node gave of legal lists is legal
   pub lawful_legal : (lists : Lists) (given : List Message) → IsLawful meaning levels lists given → ((port : ℕ) → IsLegal (list_at lists port)) → IsLegal given
-  lawful_legal lists given lawful legal = (by_steps meaning levels (λ ls ms. AllLegal ls → IsSent ls ms) sent_more (λ none. record { legal = tt; opened = λ e. tt }) lists given lawful legal).legal
+  lawful_legal lists given lawful legal = (sent_is lists given lawful legal).legal
+
+  -- and open while one of them is
+  pub lawful_opened : (lists : Lists) (given : List Message) → IsLawful meaning levels lists given → ((port : ℕ) → IsLegal (list_at lists port)) → all_over lists ≡ false → IsOpen given
+  lawful_opened lists given lawful legal = (sent_is lists given lawful legal).opened
 
 -- What echoes gives what its port passes on, a break included.
 module _ (meaning : Meaning) (echoes : meaning.echoes ≡ true) where

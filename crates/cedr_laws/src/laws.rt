@@ -4,7 +4,7 @@ ghost use Rattle.cedr_base.specs.declared.level.Level.{Level};
 ghost use Rattle.cedr_base.specs.declared.change.Message.{Message};
 ghost use Rattle.cedr_base.specs.Rows.{SameRows};
 ghost use Rattle.cedr_base.specs.Changes.{all_puts, all_takes};
-ghost use Rattle.cedr_base.specs.Messages.{changes_of, mark_of, IsTableOf, IsLegal};
+ghost use Rattle.cedr_base.specs.Messages.{changes_of, mark_of, IsTableOf, IsOpen, IsLegal};
 ghost use Rattle.cedr_stream.specs.Agreeing.{AgreeUpTo};
 ghost use Rattle.cedr_table.specs.Operators.{Meaning};
 ghost use Rattle.cedr_laws.specs.Surplus.{Ascend};
@@ -55,8 +55,8 @@ pub fn forgetting()
 
 /// The law of lawful nodes. There is a list for each level. Once a message came, and while no list is broken, what was
 /// given fits; before, nothing was given. Where some list is broken, what was given is broken exactly where each list is
-/// over. What was given of legal lists is legal, broken or not, so its `Broken` stands once, at its end. An output gave
-/// what its port passed on, a break included.
+/// over. What was given of legal lists is legal, broken or not, so its `Broken` stands once, at its end, and it is open
+/// while some list is. An output gave what its port passed on, a break included.
 pub fn lawful_giving()
     ensures count { (meaning : Meaning) (levels : List Level) (lists : Lists) (given : List Message) → IsLawful meaning levels lists given → length lists ≡ length levels }
     ensures fits { (meaning : Meaning) (levels : List Level) (lists : Lists) (given : List Message) → IsLawful meaning levels lists given → any_came lists ≡ true → any_broken lists ≡ false → Fits meaning levels lists given }
@@ -64,6 +64,7 @@ pub fn lawful_giving()
     ensures broken { (meaning : Meaning) (levels : List Level) (lists : Lists) (given : List Message) → IsLawful meaning levels lists given → any_broken lists ≡ true → has_broken given ≡ all_over lists }
     ensures unbroken { (meaning : Meaning) (levels : List Level) (lists : Lists) (given : List Message) → IsLawful meaning levels lists given → any_broken lists ≡ false → has_broken given ≡ false }
     ensures legal { (meaning : Meaning) (levels : List Level) (lists : Lists) (given : List Message) → IsLawful meaning levels lists given → ((port : ℕ) → IsLegal (list_at lists port)) → IsLegal given }
+    ensures opened { (meaning : Meaning) (levels : List Level) (lists : Lists) (given : List Message) → IsLawful meaning levels lists given → ((port : ℕ) → IsLegal (list_at lists port)) → all_over lists ≡ false → IsOpen given }
     ensures once { (meaning : Meaning) (levels : List Level) (lists : Lists) (given : List Message) → IsLawful meaning levels lists given → ((port : ℕ) → IsLegal (list_at lists port)) → has_broken given ≡ true → EndsBroken given }
     ensures echo { (meaning : Meaning) (levels : List Level) (lists : Lists) (given : List Message) → IsLawful meaning levels lists given → ((port : ℕ) → IsLegal (list_at lists port)) → meaning.echoes ≡ true → length levels ≡ 1 → passes_of levels lists ≡ given ∷ [] }
 {}

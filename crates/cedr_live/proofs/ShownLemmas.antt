@@ -15,6 +15,7 @@ use Rattle.cedr_net.proofs.RunLemmas.{settled_run}
 use Rattle.cedr_net.proofs.SettleLemmas.{grow_none}
 use Rattle.cedr_plan.specs.declared.plan.PlanNode.{PlanNode}
 use Rattle.cedr_runs.specs.Runs.{sources_in, IsRun}
+use Rattle.cedr_serial.proofs.RunLemmas.{same_sources}
 use Rattle.op_planned.specs.Ready.{is_source}
 use Rattle.cedr_live.specs.declared.player.Player.{Player}
 use Rattle.cedr_live.specs.Scripts.{Accepted, lines_at, messages_so_far}
@@ -53,17 +54,6 @@ pub messages_at : (before : Accepted) (k : ℕ) → list_at (messages_so_far bef
 messages_at [] k = refl
 messages_at (lines ∷ before) zero = refl
 messages_at (lines ∷ before) (suc k) = messages_at before k
-
-pick : (b : Bool) (x y : List Message) (xs ys : Lists) → (b ≡ true → x ≡ y) → xs ≡ ys → cond b (x ∷ xs) xs ≡ cond b (y ∷ ys) ys
-pick true x y xs ys here rest = ap (λ (m : List Message). m ∷ xs) (here refl) ∙ ap (λ (ms : Lists). y ∷ ms) rest
-pick false x y xs ys here rest = rest
-
-same_sources : (nodes : List PlanNode) (given whole : Lists) → ((k : ℕ) (d : PlanNode) → k < length nodes → is_source (get_or nodes k d).kind ≡ true → list_at given k ≡ list_at whole k) → sources_in nodes given ≡ sources_in nodes whole
-same_sources [] given whole h = refl
-same_sources (n ∷ nodes) [] [] h = refl
-same_sources (n ∷ nodes) [] (w ∷ whole) h = pick (is_source n.kind) [] w (sources_in nodes []) (sources_in nodes whole) (λ is. h 0 n (omega arith) is) (same_sources nodes [] whole (λ k d within is. h (suc k) d (omega arith) is))
-same_sources (n ∷ nodes) (g ∷ given) [] h = pick (is_source n.kind) g [] (sources_in nodes given) (sources_in nodes []) (λ is. h 0 n (omega arith) is) (same_sources nodes given [] (λ k d within is. h (suc k) d (omega arith) is))
-same_sources (n ∷ nodes) (g ∷ given) (w ∷ whole) h = pick (is_source n.kind) g w (sources_in nodes given) (sources_in nodes whole) (λ is. h 0 n (omega arith) is) (same_sources nodes given whole (λ k d within is. h (suc k) d (omega arith) is))
 
 -- the sources gave the messages of the accepted lines
 pub sources_so_far : (nodes : List PlanNode) (player : Player) (before : Accepted) (shown : Lists) (p : PlaysStand nodes player before shown) → sources_in nodes p.given ≡ sources_in nodes (messages_so_far before)

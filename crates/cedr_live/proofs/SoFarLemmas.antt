@@ -19,7 +19,7 @@ use Rattle.cedr_laws.proofs.Ends.{broken-append}
 use Rattle.cedr_laws.proofs.Grows.{end-append}
 use Rattle.cedr_laws.proofs.Order.{ascend-in_order, canonical_is, count-in_order}
 use Rattle.cedr_net.proofs.FlowLemmas.{split}
-use Rattle.cedr_plan.specs.declared.plan.NodeKind.{NodeKind}
+use Rattle.cedr_net.proofs.NewLemmas.{output_kind}
 use Rattle.cedr_plan.specs.declared.plan.NodeKind.TheVariants as kind
 use Rattle.cedr_plan.specs.declared.plan.Plan.{Plan}
 use Rattle.cedr_plan.specs.declared.plan.PlanNode.{PlanNode}
@@ -117,22 +117,6 @@ marks_so_far count (l ∷ lines) are (suc k) within = marks_so_far count lines (
 
 same_order : (xs ys : List Row) → SameRows xs ys → in_order xs ≡ in_order ys
 same_order xs ys same = canonical_is xs (in_order ys) (ascend-in_order ys) (λ r. count-in_order r ys ∙ sym (same.each r))
-
-output_kind : (k : NodeKind) → is_output k ≡ true → k ≡ kind.Output
-output_kind (kind.Source file) e = cc
-output_kind (kind.Select tests) e = cc
-output_kind (kind.Project keep) e = cc
-output_kind kind.Union e = cc
-output_kind (kind.Join tests) e = cc
-output_kind (kind.Window width) e = cc
-output_kind (kind.Shift by) e = cc
-output_kind (kind.Hop every width) e = cc
-output_kind kind.Starts e = cc
-output_kind kind.Ends e = cc
-output_kind (kind.Group keys count sums) e = cc
-output_kind (kind.Sequence scope tests) e = cc
-output_kind (kind.Unless scope hold tests) e = cc
-output_kind kind.Output e = refl
 
 module _ (plan : Plan) (before : Lists) (lines : Accepted) (given : Lists) (text : List ℕ) (is : IsPlan plan) (are : AreLines lines) (shown : IsShown plan.nodes.items before lines given text)
     (front after : List PlanNode) (output : PlanNode) (whole : plan.nodes.items ≡ front ++ output ∷ after) (here : length front ≡ output_place plan.nodes.items) (middle : AreMiddle (length front) plan.nodes.items) where

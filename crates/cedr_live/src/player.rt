@@ -1,6 +1,5 @@
 ghost use Rattle.std.specs.Prelude.{ℕ, ◌≡◌, ◌<◌, ◌++◌, [], List, IfOk, OnOk, length, slice_index_or};
 ghost use Rattle.cedr_base.specs.Messages.{IsLegal};
-ghost use Rattle.cedr_guard.specs.Sources.{with_reading};
 ghost use Rattle.cedr_guard.specs.Standing.{Guards, as_list};
 ghost use Rattle.cedr_io.specs.Counts.{Counts};
 ghost use Rattle.cedr_laws.specs.Lists.{Lists, list_at};
@@ -8,7 +7,6 @@ ghost use Rattle.cedr_net.specs.Flows.{IsSourceAt};
 ghost use Rattle.cedr_net.specs.Networks.{NetStands, IsSettled};
 ghost use Rattle.cedr_plan.specs.Rules.{IsPlan};
 ghost use Rattle.cedr_plan.specs.declared.plan.PlanNode.{PlanNode};
-ghost use Rattle.cedr_source.specs.Steps.{JudgesLine};
 ghost use Rattle.cedr_text.specs.Reading.{reading};
 ghost use Rattle.cedr_text.specs.declared.event_line.EventLine.{EventLine};
 ghost use Rattle.cedr_text.specs.declared.event_line.Shape.TheVariants.{AnyText};
@@ -22,7 +20,8 @@ use cedr_guard::{Guard, GuardFault};
 use cedr_io::{OutsideFault, Sink, write_all};
 use cedr_net::SerialNet;
 use cedr_plan::{Plan, PlanNode};
-use cedr_text::{LINE_LIMIT, LineFault, Shape, read_line, without_return, write_rows, write_time};
+use cedr_source::judge_line;
+use cedr_text::{LINE_LIMIT, LineFault, Shape, without_return, write_rows, write_time};
 use std::alloc::Global;
 
 /// The shape of each node of a plan. That of a source has its types.
@@ -46,23 +45,6 @@ fn guards_of(alloc: Global, count: usize) -> Result<Vec<Guard>, OutOfMemory>
         guards.push(Guard::new(alloc))?;
     }
     Ok(guards)
-}
-
-/// Judges an event line, without its line feed and the carriage return before that, behind the accepted ones of its
-/// source, and answers its message if it has one.
-fn judge_line(
-    alloc: Global,
-    guard: &mut Guard,
-    shape: &Shape,
-    line: &[u8],
-) -> Result<Option<Message>, GuardFault>
-    ensures { (before : List EventLine) → Guards guard.old before → JudgesLine result guard.new before (with_reading before (reading shape.now line.now)) }
-{
-    match read_line(alloc, line, shape) {
-        Ok(Some(event)) => guard.accept(&event),
-        Ok(None) => Ok(None),
-        Err(fault) => Err(GuardFault::from(fault)),
-    }
 }
 
 /// Judges an event line of the source at a place.

@@ -1,5 +1,4 @@
 ghost use Rattle.std.specs.Prelude.{◌≡◌, ◌≤◌, Some, length};
-ghost use Rattle.cedr_guard.specs.Sources.{limit_fault};
 ghost use Rattle.cedr_io.specs.Counts.{Counts};
 ghost use Rattle.cedr_plan.specs.Rules.{IsPlan};
 ghost use Rattle.cedr_text.specs.Parts.{line_feed, parts_of};
@@ -8,10 +7,10 @@ ghost use Rattle.cedr_live.specs.Playing.{PlaysAs, parts_played};
 ghost use Rattle.cedr_live.specs.Plays.{Plays};
 
 use crate::player::{Player, shapes_of};
-use cedr_guard::{FILE_LIMIT, Refusal};
+use cedr_guard::{FILE_LIMIT, Refusal, limit_fault};
 use cedr_io::{OutsideFault, Sink};
 use cedr_plan::Plan;
-use cedr_text::{LINE_LIMIT, LineFault, Parts, Shape};
+use cedr_text::{LineFault, Parts, Shape};
 use std::alloc::Global;
 
 /// Plays a script over a plan, and answers the script's fault where it has one: its first line that isn't accepted, and why.
@@ -83,15 +82,4 @@ fn refused(line: u64, fault: LineFault) -> Option<Refusal>
     ensures { result ≡ Some (record { line = line; fault = fault }) }
 {
     Some(Refusal { line, fault })
-}
-
-/// The fault of the line that the first bytes of a script over the limit don't finish.
-fn limit_fault(line: &[u8]) -> LineFault
-    ensures { result ≡ limit_fault line.now }
-{
-    if line.len() > LINE_LIMIT {
-        LineFault::LineTooLong
-    } else {
-        LineFault::TooLarge
-    }
 }

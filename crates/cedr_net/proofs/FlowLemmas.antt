@@ -18,6 +18,7 @@ use Rattle.cedr_plan.specs.declared.plan.PlanNode.{PlanNode}
 use Rattle.cedr_plan.specs.Drawn.{Node as DrawnNode, node_of, kind_of}
 use Rattle.cedr_plan.specs.Operators.{row_of}
 use Rattle.cedr_plan.specs.Rules.{IsNode, operator_of_kind}
+use Rattle.cedr_stream.proofs.Legal.{may_come_in}
 use Rattle.op_planned.specs.Meanings.{meaning_of, port_levels}
 use Rattle.op_planned.specs.MeaningLaws.{alike}
 use Rattle.cedr_node.specs.Nodes.{made_of}
@@ -28,7 +29,7 @@ use Rattle.cedr_runs.proofs.PlanNodes.{node_stands, place_within}
 use Rattle.cedr_base.specs.declared.level.Level.{Level}
 use Rattle.cedr_table.specs.Operators.{Meaning}
 use Rattle.cedr_laws.proofs.Giving.{lawful_legal}
-use Rattle.cedr_net.proofs.ListLemmas.{at_more, at_more_other, may_come_in}
+use Rattle.cedr_net.proofs.ListLemmas.{at_more, at_more_other}
 use Rattle.cedr_net.specs.declared.work.Work.{Work}
 use Rattle.cedr_net.specs.Edges.{received, sent_on, joined, AreSized, IsPulled}
 use Rattle.cedr_net.specs.Flows.{WorksAt, IsWorked, Flows, MovesOn, with_taken}

@@ -147,7 +147,7 @@ ports_here : (before after : List PlanNode) (n : PlanNode) → lists_at (map no_
 ports_here [] after n = refl
 ports_here (b ∷ before) after n = ports_here before after n
 
-output_kind : (k : NodeKind) → is_output k ≡ true → k ≡ kind.Output
+pub output_kind : (k : NodeKind) → is_output k ≡ true → k ≡ kind.Output
 output_kind (kind.Source file) e = cc
 output_kind (kind.Select tests) e = cc
 output_kind (kind.Project keep) e = cc

@@ -5,7 +5,7 @@ ghost use Rattle.cedr_text.specs.Texts.{rows_text};
 ghost use Rattle.cedr_text.specs.declared.event_line.EventLine.{EventLine};
 ghost use Rattle.cedr_text.specs.declared.event_line.Shape.TheVariants.{AnyText};
 ghost use Rattle.cedr_guard.specs.History.{history_of};
-ghost use Rattle.cedr_guard.specs.Sources.{judged, with_reading, line_reading, limit_fault};
+ghost use Rattle.cedr_guard.specs.Sources.{judged, with_reading, line_reading};
 ghost use Rattle.cedr_run.specs.declared.command.Job.TheVariants.{History};
 ghost use Rattle.cedr_run.specs.Commands.{Command};
 ghost use Rattle.cedr_run.specs.Events.{AreEventsOf, TakesLine, JudgesFile, parts_behind, AnswersHistory};
@@ -18,7 +18,7 @@ use crate::outcome::Outcome;
 use crate::refusal::JudgeFault;
 use crate::saying::{refuse, write_text};
 use cedr_base::OutOfMemory;
-use cedr_guard::{FILE_LIMIT, GuardFault, Refusal};
+use cedr_guard::{FILE_LIMIT, GuardFault, Refusal, limit_fault};
 use cedr_io::{Files, OutsideFault, Sink};
 use cedr_text::{
     LINE_LIMIT, LineFault, Parts, read_text_line, sort_text_rows, without_return, write_text_rows,
@@ -107,17 +107,6 @@ fn judge_lines(alloc: Global, bytes: &[u8], over_limit: bool) -> Result<Events<'
         }
     }
     Ok(events)
-}
-
-/// The fault of the line that the first bytes of a file over the limit don't finish.
-fn limit_fault(line: &[u8]) -> LineFault
-    ensures { result ≡ limit_fault line.now }
-{
-    if line.len() > LINE_LIMIT {
-        LineFault::LineTooLong
-    } else {
-        LineFault::TooLarge
-    }
 }
 
 fn judge_line<'a>(alloc: Global, events: &mut Events<'a>, line: &'a [u8]) -> Result<(), GuardFault>

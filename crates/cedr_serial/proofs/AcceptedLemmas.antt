@@ -16,10 +16,10 @@ use Rattle.cedr_laws.specs.Lawful.{has_broken}
 use Rattle.cedr_laws.proofs.Ends.{open_unbroken, broken-append}
 use Rattle.cedr_laws.proofs.Grows.{end-pushed}
 use Rattle.cedr_laws.proofs.Order.{canonical_is, ascend-in_order, count-in_order}
-use Rattle.cedr_net.proofs.ListLemmas.{may_come_in}
 use Rattle.cedr_plan.specs.declared.plan.PlanNode.{PlanNode}
 use Rattle.cedr_query.specs.Queries.{source_count}
 use Rattle.cedr_runs.specs.Runs.{IsWhole, AllWhole, sources_in}
+use Rattle.cedr_stream.proofs.Legal.{may_come_in}
 use Rattle.cedr_table.specs.Operators.{Tables}
 use Rattle.cedr_text.specs.declared.event_line.Shape.{Shape}
 use Rattle.op_planned.specs.Ready.{is_source}

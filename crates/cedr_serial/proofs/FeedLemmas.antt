@@ -10,10 +10,11 @@ use Rattle.cedr_plan.specs.declared.plan.PlanNode.{PlanNode}
 use Rattle.cedr_net.specs.Flows.{IsSourceAt}
 use Rattle.cedr_net.specs.declared.net.SerialNet.{SerialNet}
 use Rattle.cedr_net.specs.Networks.{AllGrow, IsSettled}
-use Rattle.cedr_net.proofs.ListLemmas.{at_more, at_more_other, may_come_in}
+use Rattle.cedr_net.proofs.ListLemmas.{at_more, at_more_other}
 use Rattle.cedr_net.proofs.FlowLemmas.{same_or_not}
 use Rattle.cedr_net.proofs.SettleLemmas.{fewer, grow_along}
 use Rattle.cedr_net.proofs.FedLemmas.{source_here}
+use Rattle.cedr_stream.proofs.Legal.{may_come_in}
 use Rattle.op_planned.specs.Ready.{is_source}
 use Rattle.cedr_serial.specs.Feeding.{AreFed, FeedsOn, behind_first, left_count}
 

@@ -30,7 +30,7 @@ const WEAK: &str = r#"{"version":1,"nodes":[
  {"name":"s","op":"source","file":"s.csv","fields":["text"]},
  {"name":"out","op":"output","from":["s"],"level":{"block":0,"memory":5}}]}"#;
 
-const PAPER: &str = r#"{"version":1,"nodes":[
+const FAILED_INSTALLS: &str = r#"{"version":1,"nodes":[
  {"name":"install","op":"source","file":"install.csv","fields":["text"]},
  {"name":"shutdown","op":"source","file":"shutdown.csv","fields":["text"]},
  {"name":"restart","op":"source","file":"restart.csv","fields":["text"]},
@@ -132,7 +132,7 @@ fn a_restart_in_time_is_no_failure(rt: HostRuntime) -> Result<(), Fail> {
     files.add("install.csv", b"+,1,1000,inf,m1\n+,2,2000,inf,m2\n")?;
     files.add("shutdown.csv", b"+,1,5000,inf,m1\n+,2,6000,inf,m2\n")?;
     files.add("restart.csv", b"+,1,5100,inf,m1\n")?;
-    let written = answer(rt.alloc(), PAPER, &mut files)?;
+    let written = answer(rt.alloc(), FAILED_INSTALLS, &mut files)?;
     assert!(rt; written.as_slice() == b"6300,6301,m2,m2\n".as_slice());
     Ok(())
 }

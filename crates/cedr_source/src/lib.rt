@@ -14,7 +14,7 @@ mod step;
 
 pub use fault::SourceFault;
 pub use law::read_laws;
-pub use lines::SourceLines;
+pub use lines::{SourceLines, judge_line};
 pub use read::read_messages;
 pub use step::SourceStep;
 

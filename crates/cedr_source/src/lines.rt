@@ -96,8 +96,8 @@ impl SourceLines {
         }
     }
 
-    /// Takes the next line, and answers nothing where that has no message.
-    fn take_line(&mut self) -> Result<Option<SourceStep>, OutOfMemory>
+    /// The same of the next line alone: it answers nothing where that line has no message.
+    pub fn take_line(&mut self) -> Result<Option<SourceStep>, OutOfMemory>
         ensures told { IfOk result (λ told. (shape : Shape) (bytes : List ℕ) (given : List Message) → Reads self.old shape bytes given → TellsLine told self.new shape bytes given) }
         ensures falls { IfOk result (λ told. TakesOne told (lines_left self.old) (lines_left self.new)) }
         ensures finished { is_ended self.new ≡ is_ended self.old }
@@ -122,8 +122,9 @@ impl SourceLines {
 }
 
 /// Judges a line, without its line feed and the carriage return before that, behind the accepted ones, and
-/// answers its message if it has one.
-fn judge_line(
+/// answers its message if it has one. An error leaves the guard as it was. O(n) in the bytes, and O(log n) in the
+/// insertions before it.
+pub fn judge_line(
     alloc: Global,
     guard: &mut Guard,
     shape: &Shape,

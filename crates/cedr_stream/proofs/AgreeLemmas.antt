@@ -1,5 +1,5 @@
 -- Changes from a time on leave a table before it as it is.
-use Rattle.std.proofs.Common.{◌≡◌, ℕ, ◌<◌, ◌≤◌, inl, inr, List, [], ◌∷◌, ◌++◌, Bool, true, false, cond, refl, ap, sym, ◌∙◌, arith, min, append_assoc}
+use Rattle.std.proofs.Common.{◌≡◌, ℕ, ◌<◌, ◌≤◌, inl, inr, List, [], ◌∷◌, ◌++◌, Bool, true, false, cond, refl, ap, sym, ◌∙◌, arith, min}
 use Rattle.std.specs.Prelude.{sum_by, nat_lt}
 use Rattle.std.specs.List.{flat_map}
 use Rattle.std.proofs.lemmas.Bool.{le-ltb, ltb-false, cases_lt}
@@ -20,7 +20,7 @@ use Rattle.cedr_stream.specs.Agreeing.{row_up_to, rows_up_to, AgreeUpTo}
 use Rattle.cedr_stream.proofs.BagSums.{sum_by-same, sum_by-flat_map, same_flat_map, same_itself, same_back, same_along}
 use Rattle.cedr_stream.proofs.Moves.{remnant_some, remnant_none, may_is, puts_are_rows}
 use Rattle.cedr_stream.proofs.RepairLemmas.{AllChanges, takes-append, puts-append}
-use Rattle.cedr_stream.proofs.Legal.{changes-append, mark-append}
+use Rattle.cedr_stream.proofs.Legal.{changes-append, mark-append, legal_rest}
 
 -- what a row adds to a count before a time
 abbrev share : ℕ → Row → Row → ℕ
@@ -129,10 +129,6 @@ behind t before (message.Change c ∷ more) h legal =
 behind t before (message.Mark s ∷ more) h legal = behind t (before ++ message.Mark s ∷ []) more (omega (arith, mark-append before (message.Mark s ∷ []))) legal.1
 behind t before (message.End ∷ more) h legal = behind t (before ++ message.End ∷ []) more (omega (arith, mark-append before (message.End ∷ []))) legal.1
 behind t before (message.Broken ∷ more) h legal = behind t (before ++ message.Broken ∷ []) more (omega (arith, mark-append before (message.Broken ∷ []))) legal.1
-
-legal_rest : (before ms more : List Message) → IsLegalBehind before (ms ++ more) → IsLegalBehind (before ++ ms) more
-legal_rest before [] more legal = rw append-nil legal
-legal_rest before (m ∷ ms) more legal = rw append_assoc at (legal_rest (before ++ m ∷ []) ms more legal.1)
 
 -- where a legal list goes on, its table agrees with the earlier one up to the earlier mark
 pub going_on_agrees : (ms more : List Message) (old new : List Row) → IsLegal (ms ++ more) → IsTableOf ms old → IsTableOf (ms ++ more) new → AgreeUpTo (mark_of ms) old new

@@ -21,6 +21,19 @@ legal-append before (x ∷ xs) ys h k = (h.0, legal-append (before ++ x ∷ []) 
 pub legal-push : (ms : List Message) (m : Message) → IsLegal ms → MayCome ms m → IsLegal (ms ++ m ∷ [])
 legal-push ms m h k = legal-append [] ms (m ∷ []) h (k, tt)
 
+-- the first messages of a legal list are legal, and the rest is legal behind them
+pub legal_first : (before xs ys : List Message) → IsLegalBehind before (xs ++ ys) → IsLegalBehind before xs
+legal_first before [] ys h = tt
+legal_first before (x ∷ xs) ys h = (h.0, legal_first (before ++ x ∷ []) xs ys h.1)
+
+pub legal_rest : (before xs ys : List Message) → IsLegalBehind before (xs ++ ys) → IsLegalBehind (before ++ xs) ys
+legal_rest before [] ys h = rw append-nil h
+legal_rest before (x ∷ xs) ys h = rw append_assoc at (legal_rest (before ++ x ∷ []) xs ys h.1)
+
+-- a message of a legal list may come behind those before it
+pub may_come_in : (xs ys : List Message) (m : Message) → IsLegal (xs ++ m ∷ ys) → MayCome xs m
+may_come_in xs ys m h = (legal_rest [] xs (m ∷ ys) h).0
+
 pub changes-append : (xs ys : List Message) → changes_of (xs ++ ys) ≡ changes_of xs ++ changes_of ys
 changes-append [] ys = refl
 changes-append (message.Change c ∷ xs) ys = ap (λ cs. c ∷ cs) (changes-append xs ys)

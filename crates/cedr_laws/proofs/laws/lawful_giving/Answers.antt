@@ -1,5 +1,5 @@
 use Rattle.cedr_laws.proofs.Ends.{ends_broken}
-use Rattle.cedr_laws.proofs.Giving.{lists_count, lawful_fits, lawful_waits, lawful_breaks, lawful_unbroken, lawful_legal, lawful_echo}
+use Rattle.cedr_laws.proofs.Giving.{lists_count, lawful_fits, lawful_waits, lawful_breaks, lawful_unbroken, lawful_legal, lawful_opened, lawful_echo}
 use Rattle.cedr_laws.proofs.laws.lawful_giving.Goals as goal
 
 pub returns-clause-count : goal.returns-clause-count
@@ -19,6 +19,9 @@ returns-clause-unbroken c = lawful_unbroken
 
 pub returns-clause-legal : goal.returns-clause-legal
 returns-clause-legal c = lawful_legal
+
+pub returns-clause-opened : goal.returns-clause-opened
+returns-clause-opened c = lawful_opened
 
 pub returns-clause-once : goal.returns-clause-once
 returns-clause-once c = λ meaning levels lists given lawful legal broken. ends_broken given (lawful_legal meaning levels lists given lawful legal) broken

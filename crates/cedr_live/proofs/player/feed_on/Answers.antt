@@ -4,7 +4,7 @@ use Rattle.cedr_base.specs.declared.change.Message.{Message}
 use Rattle.cedr_base.specs.Messages.{IsLegal}
 use Rattle.cedr_guard.specs.Standing.{as_list}
 use Rattle.cedr_laws.specs.Lists.{list_at, with_more}
-use Rattle.cedr_net.proofs.ListLemmas.{may_come_in}
+use Rattle.cedr_stream.proofs.Legal.{may_come_in}
 use Rattle.cedr_live.specs.Playing.{IsFedOn}
 use Rattle.cedr_live.proofs.FeedLemmas.{given_count, fed_settled}
 use Rattle.cedr_live.proofs.player.feed_on.Goals as goal
