@@ -1,5 +1,6 @@
 ghost use Rattle.std.specs.Prelude.{ℕ, ◌≡◌, ◌<◌, ◌++◌, [], List, IfOk, OnOk, length, slice_index_or};
 ghost use Rattle.cedr_base.specs.Messages.{IsLegal};
+ghost use Rattle.cedr_guard.specs.Sources.{with_reading};
 ghost use Rattle.cedr_guard.specs.Standing.{Guards, as_list};
 ghost use Rattle.cedr_io.specs.Counts.{Counts};
 ghost use Rattle.cedr_laws.specs.Lists.{Lists, list_at};

@@ -21,7 +21,7 @@ use Rattle.cedr_run.specs.declared.status.Status.TheVariants as status
 use Rattle.cedr_laws.specs.Lists.{AreTables}
 use Rattle.cedr_query.specs.Queries.{source_count}
 use Rattle.cedr_runs.specs.Runs.{AllWhole, sources_in}
-use Rattle.cedr_serial.specs.Queries.{AreAccepted, source_nodes, IsAnswerText, IsStreamText, MayStream}
+use Rattle.cedr_serial.specs.Queries.{AreAccepted, source_nodes, IsAnswerText, IsStreamText, LeadsTo, MayStream}
 use Rattle.cedr_table.specs.Operators.{Tables}
 use Rattle.cedr_run.specs.Answers.{AnswersQuery, AnswersChanges, BeginsChanges, IsPlanOf, IsNoPlan, OfPlan, Gives, Refuses, Begins, RefusesPlan, RefusesSources, GivesPlan, BeginsPlan}
 use Rattle.cedr_run.specs.Commands.{Command, named_files}
@@ -209,8 +209,9 @@ pub answers_query : (always : Bool) (told : List ℕ → List ℕ) (nodes : List
     → ((histories : Tables) → AllWhole (source_count nodes) (sources_in nodes left) → AreTables (sources_in nodes left) histories → IsAnswerText always nodes (sources_in nodes left) histories text) → AnswersQuery always told nodes text
 answers_query always told nodes left text got answer = record { sources = sources_in nodes left; histories = got.0; accepted = got.1; text_is = answer got.0 got.2 got.3 }
 
-pub answers_changes : (told : List ℕ → List ℕ) (nodes : List PlanNode) (left : Lists) (text : List ℕ) → AcceptedLeft told nodes left → IsStreamText nodes (sources_in nodes left) text → AnswersChanges told nodes text
-answers_changes told nodes left text got is = record { sources = sources_in nodes left; histories = got.0; accepted = got.1; text_is = is }
+pub answers_changes : (told : List ℕ → List ℕ) (nodes : List PlanNode) (left : Lists) (text : List ℕ) → AcceptedLeft told nodes left → (is : IsStreamText nodes (sources_in nodes left) text)
+    → ((histories : Tables) → AllWhole (source_count nodes) (sources_in nodes left) → AreTables (sources_in nodes left) histories → LeadsTo nodes histories is.ports is.given) → AnswersChanges told nodes text
+answers_changes told nodes left text got is leads = record { sources = sources_in nodes left; histories = got.0; accepted = got.1; text_is = is; leads = leads got.0 got.2 got.3 }
 
 pub begins_changes : (told : List ℕ → List ℕ) (nodes : List PlanNode) (left : Lists) (text : List ℕ) → AcceptedLeft told nodes left → MayStream nodes (sources_in nodes left) text → BeginsChanges told nodes text
 begins_changes told nodes left text got is = record { sources = sources_in nodes left; histories = got.0; accepted = got.1; text_is = is }

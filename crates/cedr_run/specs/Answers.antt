@@ -18,7 +18,7 @@ use Rattle.cedr_plan.specs.CheckTexts.{check_text}
 use Rattle.cedr_plan.specs.declared.fault.PlanKind.{PlanKind}
 use Rattle.cedr_plan.specs.declared.plan.PlanNode.{PlanNode}
 use Rattle.cedr_query.specs.Queries.{output_place, query}
-use Rattle.cedr_serial.specs.Queries.{source_nodes, AreAccepted, IsAnswerText, IsStreamText, MayStream}
+use Rattle.cedr_serial.specs.Queries.{source_nodes, AreAccepted, IsAnswerText, IsStreamText, LeadsTo, MayStream}
 use Rattle.cedr_serial.specs.Sources.{source_files, AreTold, AllHaveGiven, faulty_from}
 use Rattle.cedr_table.specs.Operators.{Tables, table_at}
 use Rattle.cedr_run.specs.declared.command.Job.{Job}
@@ -70,12 +70,14 @@ pub record AnswersQuery (always : Bool) (told : List ℕ → List ℕ) (nodes : 
   pub accepted : AreAccepted told (source_nodes nodes) sources histories
   pub text_is : IsAnswerText always nodes sources histories text
 
--- the same, of the changes of the answer
+-- the same, of the changes of the answer: they lead to the rows of the answer, and where the output is strong they are one
+-- addition for each of these, in canonical order
 pub record AnswersChanges (told : List ℕ → List ℕ) (nodes : List PlanNode) (text : List ℕ) : Type 0 where
   pub sources : Lists
   pub histories : Tables
   pub accepted : AreAccepted told (source_nodes nodes) sources histories
   pub text_is : IsStreamText nodes sources text
+  pub leads : LeadsTo nodes histories text_is.ports text_is.given
 
 -- and of a text of whose changes a front is written where writing or memory fails
 pub record BeginsChanges (told : List ℕ → List ℕ) (nodes : List PlanNode) (text : List ℕ) : Type 0 where

@@ -18,6 +18,7 @@ use cedr_io::{Files, OutsideFault, Sink};
 use cedr_plan::Plan;
 use cedr_serial::{
     Remaining, SourcesFault, accepted_sources, answer_sources, read_sources, stream_sources,
+    streamed_changes,
 };
 use std::alloc::Global;
 
@@ -72,6 +73,7 @@ fn stream<K: Sink>(alloc: Global, plan: &Plan, left: Vec<Remaining>, out: &mut K
     ensures { EndsWith AnswersChanges BeginsChanges plan.now.nodes.items left.items (seen_sink K.written K.faults out.old) (seen_sink K.written K.faults out.new) result }
 {
     accepted_sources();
+    streamed_changes();
     match stream_sources(alloc, plan, left, out) {
         Ok(()) => Outcome::Done,
         Err(OutsideFault::Failed) => Outcome::Write,

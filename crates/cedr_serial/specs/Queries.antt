@@ -1,10 +1,11 @@
 -- What is written of a plan and its sources.
-use Rattle.std.specs.Prelude.{ℕ, ◌≡◌, ◌||◌, Bool, List, [], ◌∷◌, ◌++◌, ◌⊎◌, filter, None, if◌then◌else◌}
+use Rattle.std.specs.Prelude.{ℕ, ◌≡◌, ◌||◌, Bool, List, [], ◌∷◌, ◌++◌, ◌⊎◌, length, map, filter, None, if◌then◌else◌}
 use Rattle.std.specs.List.{flat_map}
 use Rattle.cedr_base.specs.declared.row.Row.{Row}
 use Rattle.cedr_base.specs.declared.change.Change.{Change}
+use Rattle.cedr_base.specs.declared.change.Change.TheVariants.{Add}
 use Rattle.cedr_base.specs.declared.change.Message.{Message}
-use Rattle.cedr_base.specs.Messages.{changes_of}
+use Rattle.cedr_base.specs.Messages.{changes_of, IsTableOf}
 use Rattle.cedr_base.specs.Rows.{in_order}
 use Rattle.cedr_guard.specs.Sources.{judged, messages_of, history_of_bytes}
 use Rattle.cedr_laws.specs.Lists.{Lists, list_at}
@@ -42,6 +43,10 @@ AreAccepted told (n ∷ nodes) (l ∷ ls) (t ∷ ts) = IsAccepted told n l t × 
 
 -- ---- the answer
 
+-- the rows of the query over the canonical histories, with what each port forgot left out
+abbrev pub rows_without : List PlanNode → List Lists → Tables → List Row
+rows_without nodes ports histories = table_at (query_without (forgot_in nodes ports) histories nodes) (output_place nodes)
+
 -- The rows of the query over the canonical histories, with what each port forgot left out, in canonical order; and behind
 -- them what was forgotten, where some port has a finite memory or it is asked for. What was forgotten is that of a run of
 -- the plan over the messages of the sources.
@@ -49,7 +54,7 @@ pub record IsAnswerText (always : Bool) (nodes : List PlanNode) (sources : Lists
   pub ports : List Lists
   pub given : Lists
   pub run : IsRun nodes sources ports given
-  pub text_is : text ≡ answer_text (always || has_memory nodes) nodes (in_order (table_at (query_without (forgot_in nodes ports) histories nodes) (output_place nodes))) (forgot_in nodes ports)
+  pub text_is : text ≡ answer_text (always || has_memory nodes) nodes (in_order (rows_without nodes ports histories)) (forgot_in nodes ports)
 
 -- ---- the changes
 
@@ -67,6 +72,16 @@ pub record IsStreamText (nodes : List PlanNode) (sources : Lists) (text : List �
   pub given : Lists
   pub run : IsRun nodes sources ports given
   pub text_is : text ≡ given_text nodes given ++ (if has_memory nodes then tail_text nodes (forgot_in nodes ports) else [])
+
+-- the output waits for all that may still come: its block is without limit
+abbrev pub IsStrong : List PlanNode → Type 0
+IsStrong nodes = (before after : List PlanNode) (output : PlanNode) → nodes ≡ before ++ output ∷ after → length before ≡ output_place nodes → output.level.block ≡ None
+
+-- What the output's changes come to: the sum of their deltas is the rows of the answer. Where the output is strong they are
+-- one addition for each of these rows, in canonical order, and no retraction.
+pub record LeadsTo (nodes : List PlanNode) (histories : Tables) (ports : List Lists) (given : Lists) : Type 0 where
+  pub table : IsTableOf (list_at given (output_place nodes)) (rows_without nodes ports histories)
+  pub additions : IsStrong nodes → changes_of (list_at given (output_place nodes)) ≡ map (λ (r : Row). Add r) (in_order (rows_without nodes ports histories))
 
 -- the changes that the output gave in a partial run over the first messages of the sources
 pub record IsStreamedSoFar (nodes : List PlanNode) (sources : Lists) (text : List ℕ) : Type 0 where

@@ -15,7 +15,7 @@ mod stream;
 
 pub use answer::{has_memory, write_answer};
 pub use feeding::{Remaining, feed_all, feed_round};
-pub use law::{accepted_sources, fed_sources};
+pub use law::{accepted_sources, fed_sources, streamed_changes};
 pub use query::{answer_rows, answer_sources};
 pub use sources::{FaultySource, SourcesFault, read_sources};
 pub use stream::stream_sources;
