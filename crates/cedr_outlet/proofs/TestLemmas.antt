@@ -1,0 +1,11 @@
+-- The messages of the test of out edges.
+use Rattle.std.proofs.Common.{List, [], ◌∷◌, arith}
+use Rattle.cedr_base.specs.declared.change.Message.{Message}
+use Rattle.cedr_base.specs.declared.change.Message.TheVariants as message
+use Rattle.cedr_base.specs.Messages.{IsLegal}
+
+abbrev pub two_marks : List Message
+two_marks = message.Mark 1 ∷ message.Mark 2 ∷ []
+
+pub two_marks_legal : IsLegal two_marks
+two_marks_legal = ((tt, (omega arith, omega arith)), ((tt, (omega arith, omega arith)), tt))

@@ -1,0 +1,78 @@
+-- A step of a source's worker: the next line of what was read, or the next block.
+use Rattle.std.specs.Prelude.{ℕ, ◌≡◌, ◌≢◌, ◌<◌, ◌≤◌, ◌⊎◌, length, true, false, List, [], ◌∷◌, ◌++◌, Option, None, Some, Result, Ok, Err}
+use Rattle.std.specs.Io.KnownBytes.{Consumes, IsAtEnd}
+use Rattle.cedr_base.specs.declared.change.Message.{Message}
+use Rattle.cedr_base.specs.declared.change.Message.TheVariants as message
+use Rattle.cedr_base.specs.Messages.{IsLegal}
+use Rattle.cedr_text.specs.declared.event_line.Shape.{Shape}
+use Rattle.cedr_outlet.specs.Outgoing.{Outgoing, last_message}
+use Rattle.cedr_outlet.specs.Outlets.{AllTotal, AllStaged}
+use Rattle.cedr_source.specs.declared.lines.SourceLines.{SourceLines}
+use Rattle.cedr_source.specs.Reads.{Reads, is_ended, lines_left}
+use Rattle.cedr_worker.specs.declared.reading.TheConstants.{BLOCK}
+use Rattle.cedr_worker.specs.declared.stop.SourceStop.{SourceStop}
+use Rattle.cedr_worker.specs.declared.stop.SourceStop.TheVariants as stop
+use Rattle.cedr_worker.specs.Stops.{last_at, IsGiven, StoppedAs, CountedSo}
+
+-- ---- what happens in a step
+
+-- a line was taken of what was read
+abbrev pub LineTaken : SourceLines → SourceLines → Type 0
+LineTaken old new = lines_left new < lines_left old
+
+-- some bytes were read, at most a block: fewer are missing to the limit of a source, or it was passed
+pub record BytesRead (rest left : Option (List ℕ)) (old new : SourceLines) : Type 0 where
+  pub piece : List ℕ
+  pub some : piece ≢ []
+  pub few : length piece ≤ BLOCK
+  pub read : Consumes rest left piece
+  pub room : (new.room < old.room) ⊎ ((old.over_limit ≡ false) × (new.over_limit ≡ true))
+
+-- a read gave 0
+abbrev pub EndMet : SourceLines → SourceLines → Type 0
+EndMet old new = (is_ended old ≡ false) × (is_ended new ≡ true)
+
+-- a block came, or no more bytes come
+abbrev pub BlockCame : Option (List ℕ) → Option (List ℕ) → SourceLines → SourceLines → Type 0
+BlockCame rest left old new = BytesRead rest left old new ⊎ EndMet old new
+
+-- the source went on
+abbrev pub Advanced : Option (List ℕ) → Option (List ℕ) → SourceLines → SourceLines → Type 0
+Advanced rest left old new = LineTaken old new ⊎ BlockCame rest left old new
+
+-- ---- what a step's answer tells
+
+abbrev pub stop_of : Result (Option Message) SourceStop → Option SourceStop
+stop_of (Ok message) = None
+stop_of (Err s) = Some s
+
+-- a message, nothing, or that the source stopped
+abbrev pub TellsStep : Result (Option Message) SourceStop → SourceLines → Shape → List ℕ → List Message → Type 0
+TellsStep (Ok (Some m)) lines shape bytes given = Reads lines shape bytes (given ++ m ∷ []) × IsLegal (given ++ m ∷ [])
+TellsStep (Ok None) lines shape bytes given = Reads lines shape bytes given
+TellsStep (Err s) lines shape bytes given = StoppedAs s shape bytes given (is_ended lines)
+
+-- What a step did, where these bytes were read and these messages given before it: from what was left of the source to
+-- what is left, and from the count of its faults to what that is now.
+pub record TookStep (answer : Result (Option Message) SourceStop) (old new : SourceLines) (rest left : Option (List ℕ)) (faults count : ℕ) (shape : Shape) (bytes : List ℕ) (given : List Message) : Type 0 where
+  pub piece : List ℕ
+  pub read : Consumes rest left piece
+  pub at_end : (is_ended old ≡ true → IsAtEnd rest) → is_ended new ≡ true → IsAtEnd left
+  pub counted : CountedSo (stop_of answer) faults count
+  pub tells : TellsStep answer new shape (bytes ++ piece) given
+  pub is_given : IsGiven shape (bytes ++ piece) given (is_ended new)
+
+-- ---- what becomes of the answer
+
+-- a message may come behind what was given
+abbrev pub MayPass : Result (Option Message) SourceStop → List Message → Type 0
+MayPass (Ok (Some m)) given = IsLegal (given ++ m ∷ [])
+MayPass (Ok None) given = Unit {0}
+MayPass (Err s) given = Unit {0}
+
+-- The message is meant for each out edge, where there was memory for it, or the last one is. The answer says whether the
+-- source stops.
+abbrev pub Passed : Result (Option Message) SourceStop → Option SourceStop → List Message → List Outgoing → Type 0
+Passed (Ok None) now given outlets = (now ≡ None) × AllTotal given outlets × AllStaged [] outlets
+Passed (Ok (Some m)) now given outlets = ((now ≡ None) × AllTotal (given ++ m ∷ []) outlets × AllStaged [] outlets) ⊎ ((now ≡ Some stop.OutOfMemory) × AllTotal (given ++ message.Broken ∷ []) outlets)
+Passed (Err s) now given outlets = (now ≡ Some s) × AllTotal (given ++ last_message (last_at s) ∷ []) outlets

@@ -1,0 +1,91 @@
+ghost use Rattle.std.specs.Prelude.{◌≡◌, ◌<◌, ◌≤◌, ℕ, List, Option, IfOk};
+ghost use Rattle.cedr_text.specs.declared.event_line.Shape.{Shape as Lined};
+ghost use Rattle.cedr_worker.specs.Sources.{SourceWorks};
+ghost use Rattle.cedr_worker.specs.Workers.{IsWorking};
+
+use crate::operator_tests::{SELECT, read_node};
+use crate::source_tests::{one_edge, source_of, take_all, turn_once};
+use crate::{OperatorWorker, SourceWorker, Turn};
+use cedr_base::{FieldType, OutOfMemory};
+use cedr_edge::EdgeIn;
+use cedr_io::{ListSource, OpenGate, Source};
+use cedr_text::Shape;
+use std::alloc::Global;
+use std::sync::Wait;
+use std::test::*;
+
+/// Numbers, of which the select takes those from 5 on.
+const EVENTS: &[u8] = b"+,1,1,10,3\n+,2,2,20,5\n=,4\n+,3,4,9,7\n-,2,5\n";
+
+const SELECTED: &[u8] = b"+,2,20,5\n=4\n+,4,9,7\n-,5,2,20,5\n=inf\n.\n";
+
+/// A source, a select behind it, and the end of the edge that the select puts on.
+#[derive(Drop)]
+struct Chain {
+    source: SourceWorker<ListSource>,
+    select: OperatorWorker,
+    last: EdgeIn,
+}
+
+/// The chain of a source that is read in pieces of this size, over edges of this room.
+fn chain_of(alloc: Global, piece: usize, room: usize) -> Result<Chain, Fail>
+    requires { (0 < piece) × (1 ≤ room) × (room ≤ 1024) }
+    ensures source { IfOk result (λ chain. (shape : Lined) × (content : Option (List ℕ)) × (count : ℕ) × SourceWorks ⟦<ListSource as Source>⟧.rest ⟦<ListSource as Source>⟧.faults shape content count chain.source) }
+    ensures select { IfOk result (λ chain. IsWorking chain.select) }
+{
+    let source = source_of(alloc, EVENTS, piece, 1000)?;
+    let types = vec![in alloc; FieldType::Number]?;
+    let (first, input) = one_edge(alloc, room)?;
+    let (second, last) = one_edge(alloc, room)?;
+    let Ok(source) = SourceWorker::new(alloc, 0, source, Shape::Fields(types), first) else {
+        return Err("there is memory")?;
+    };
+    let node = read_node(alloc, SELECT, 1, 1)?;
+    let inputs = vec![in alloc; input]?;
+    let select = OperatorWorker::new(alloc, 1, node, inputs, second)?;
+    Ok(Chain {
+        source,
+        select,
+        last,
+    })
+}
+
+/// Turns both workers until the select ended, and appends what comes on the last edge. Says whether it ended.
+fn turn_all<S: Source + Drop, R: Wait>(
+    rt: &R,
+    source: &mut SourceWorker<S>,
+    select: &mut OperatorWorker,
+    last: &mut EdgeIn,
+    text: &mut Vec<u8>,
+) -> Result<bool, OutOfMemory>
+    requires source { (shape : Lined) × (content : Option (List ℕ)) × (count : ℕ) × SourceWorks S.rest S.faults shape content count source.old }
+    requires select { IsWorking select.old }
+{
+    for _ in 0..1000u16 {
+        turn_once(rt, source, &OpenGate);
+        let turn = select.turn(rt, &OpenGate);
+        take_all(rt, last, text)?;
+        if turn == Turn::Ended {
+            return Ok(true);
+        }
+    }
+    Ok(false)
+}
+
+#[test]
+fn a_select_behind_a_source_gives_the_rows_of_the_file(rt: HostRuntime) -> Result<(), Fail> {
+    for piece in [1usize, 7, 4096] {
+        for room in [1usize, 64] {
+            let Chain {
+                mut source,
+                mut select,
+                mut last,
+            } = chain_of(rt.alloc(), piece.max(1), room.clamp(1, 1024))?;
+            let mut text = Vec::new(rt.alloc());
+            let ended = turn_all(&rt, &mut source, &mut select, &mut last, &mut text)?;
+            assert!(rt; ended);
+            assert_eq!(rt; text.as_slice(), SELECTED, "pieces of {piece}, room {room}");
+        }
+    }
+    Ok(())
+}

@@ -1,0 +1,49 @@
+ghost use Rattle.std.specs.Prelude.{◌≡◌, false, List, [], ◌∷◌, ◌++◌, map, Ok, Err, Some, None};
+ghost use Rattle.cedr_base.specs.declared.change.Message.{Message as Sent};
+ghost use Rattle.cedr_laws.specs.Lawful.{is_over};
+ghost use Rattle.cedr_outlet.specs.Outlets.{AllTotal, AllStaged, bare};
+ghost use Rattle.cedr_worker.specs.SourceSteps.{MayPass, Passed};
+
+use crate::stop::SourceStop;
+use cedr_base::Message;
+use cedr_outlet::{Last, Outlets};
+use std::alloc::Global;
+
+/// What a step's answer gives is pending on each out edge: its message, or the last one where the source stops. Answers
+/// why the source stops, if it does. Where memory lacks for the message nothing of it is pending.
+pub(crate) fn give_answer(
+    alloc: Global,
+    outlets: &mut Outlets,
+    answer: Result<Option<Message>, SourceStop>,
+) -> Option<SourceStop>
+    requires { (given : List Sent) × AllTotal given outlets.old × AllStaged [] outlets.old × (is_over given ≡ false) × MayPass answer given }
+    ensures bare { map bare outlets.new ≡ map bare outlets.old }
+    ensures given { (given : List Sent) → AllTotal given outlets.old → AllStaged [] outlets.old → Passed answer result given outlets.new }
+{
+    match answer {
+        Ok(None) => None,
+        Ok(Some(message)) => give_message(alloc, outlets, message),
+        Err(stop) => {
+            outlets.close(stop.last());
+            Some(stop)
+        }
+    }
+}
+
+/// The same of a message.
+fn give_message(alloc: Global, outlets: &mut Outlets, message: Message) -> Option<SourceStop>
+    requires { (given : List Sent) × AllTotal given outlets.old × AllStaged [] outlets.old × (is_over given ≡ false) × MayPass (Ok (Some message)) given }
+    ensures bare { map bare outlets.new ≡ map bare outlets.old }
+    ensures given { (given : List Sent) → AllTotal given outlets.old → AllStaged [] outlets.old → Passed (Ok (Some message)) result given outlets.new }
+{
+    match outlets.stage(alloc, message) {
+        Ok(()) => {
+            outlets.commit();
+            None
+        }
+        Err(_) => {
+            outlets.close(Last::Broken);
+            Some(SourceStop::OutOfMemory)
+        }
+    }
+}

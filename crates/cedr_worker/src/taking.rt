@@ -1,0 +1,195 @@
+ghost use Rattle.std.specs.Prelude.{◌≡◌, ◌<◌, ◌++◌, ◌∷◌, [], true, false, Bool, List, map, length, IfOk, OnOk, OnErr};
+ghost use Rattle.cedr_base.specs.declared.change.Message.{Message as Sent};
+ghost use Rattle.cedr_drive.specs.Driving.{MayTake};
+ghost use Rattle.cedr_laws.specs.Lawful.{all_over};
+ghost use Rattle.cedr_laws.specs.Lists.{Lists, with_more};
+ghost use Rattle.cedr_node.specs.Nodes.{made_of, NodeStands};
+ghost use Rattle.cedr_outlet.specs.Outlets.{total_of, bare};
+ghost use Rattle.cedr_worker.specs.Inputs.{TakenSoFar, TakenAt, taken_in};
+ghost use Rattle.cedr_worker.specs.Operators.{Sound, Works};
+
+use cedr_base::{Message, OutOfMemory};
+use cedr_edge::EdgeIn;
+use cedr_node::Node;
+use cedr_outlet::Outlets;
+use std::alloc::Global;
+use std::sync::Wait;
+
+/// What a round of takes came to.
+#[derive(Clone, Copy)]
+pub(crate) struct Takes {
+    /// Something was taken.
+    pub(crate) moved: bool,
+    /// Memory lacks.
+    pub(crate) lacked: bool,
+}
+
+/// Whether each input is over.
+pub(crate) fn all_closed(inputs: &Vec<EdgeIn>) -> bool
+    ensures { result ≡ all_over (taken_in inputs.now.items) }
+{
+    for i in 0..inputs.len() {
+        if !inputs[i].is_over() {
+            return false;
+        }
+    }
+    true
+}
+
+/// Lets the node take a message, and hands out the piece that it gives for it.
+fn take_on(
+    alloc: Global,
+    node: &mut Node,
+    port: usize,
+    message: Message,
+) -> Result<Vec<Message>, OutOfMemory>
+    requires { (lists : Lists) × (given : List Sent) × NodeStands node.old lists given × MayTake lists port message }
+    ensures made { made_of node.new ≡ made_of node.old }
+    ensures taken { IfOk result (λ piece. (lists : Lists) (given : List Sent) → NodeStands node.old lists given → MayTake lists port message → NodeStands node.new (with_more lists port (message ∷ [])) (given ++ piece.items)) }
+{
+    let mut piece = Vec::new(alloc);
+    match node.take(alloc, port, message, &mut piece) {
+        Ok(()) => Ok(piece),
+        Err(_) => Err(OutOfMemory),
+    }
+}
+
+/// Lets the node take a message, and what it gives for it is pending at each out edge, or nothing of it at any.
+fn pass_on(
+    alloc: Global,
+    node: &mut Node,
+    outlets: &mut Outlets,
+    port: usize,
+    message: Message,
+) -> Result<(), OutOfMemory>
+    requires { (lists : Lists) × Sound node.old lists outlets.old × MayTake lists port message }
+    ensures made { made_of node.new ≡ made_of node.old }
+    ensures bare { map bare outlets.new ≡ map bare outlets.old }
+    ensures ok { OnOk result ((lists : Lists) → Sound node.old lists outlets.old → MayTake lists port message → Sound node.new (with_more lists port (message ∷ [])) outlets.new) }
+    ensures err { OnErr result (map total_of outlets.new ≡ map total_of outlets.old) }
+{
+    let piece = take_on(alloc, node, port, message)?;
+    outlets.stage_all(alloc, piece)?;
+    outlets.commit();
+    Ok(())
+}
+
+/// Lets the node take a message, or drops it where memory was lacking. Says whether memory lacks.
+fn take_in(
+    alloc: Global,
+    node: &mut Node,
+    outlets: &mut Outlets,
+    port: usize,
+    message: Message,
+    lacked: bool,
+) -> bool
+    requires { lacked ≡ false → (lists : Lists) × Sound node.old lists outlets.old × MayTake lists port message }
+    ensures made { made_of node.new ≡ made_of node.old }
+    ensures bare { map bare outlets.new ≡ map bare outlets.old }
+    ensures ok { result ≡ false → (lacked ≡ false) × ((lists : Lists) → Sound node.old lists outlets.old → MayTake lists port message → Sound node.new (with_more lists port (message ∷ [])) outlets.new) }
+    ensures lost { result ≡ true → map total_of outlets.new ≡ map total_of outlets.old }
+{
+    if lacked {
+        return true;
+    }
+    match pass_on(alloc, node, outlets, port, message) {
+        Ok(()) => false,
+        Err(_) => true,
+    }
+}
+
+/// Takes a message from an input that is open, and hands it on.
+fn take_at<R: Wait>(
+    rt: &R,
+    alloc: Global,
+    node: &mut Node,
+    inputs: &mut Vec<EdgeIn>,
+    outlets: &mut Outlets,
+    port: usize,
+    lacked: bool,
+) -> Takes
+    requires works { (broke : Bool) × Works node.old (taken_in inputs.old.items) outlets.old lacked broke }
+    requires within { port < length inputs.old.items }
+    ensures works { (broke : Bool) → Works node.old (taken_in inputs.old.items) outlets.old lacked broke → Works node.new (taken_in inputs.new.items) outlets.new result.lacked broke }
+    ensures made { made_of node.new ≡ made_of node.old }
+    ensures taken { TakenAt inputs.old.items inputs.new.items port result.moved }
+    ensures bare { map bare outlets.new ≡ map bare outlets.old }
+    ensures same { result.moved ≡ false → outlets.new ≡ outlets.old }
+{
+    let input = &mut inputs[port];
+    if input.is_over() {
+        return Takes {
+            moved: false,
+            lacked,
+        };
+    }
+    match input.take(rt) {
+        None => Takes {
+            moved: false,
+            lacked,
+        },
+        Some(message) => {
+            let lacks = take_in(alloc, node, outlets, port, message, lacked);
+            Takes {
+                moved: true,
+                lacked: lacks,
+            }
+        }
+    }
+}
+
+/// Takes at most one message from each input that is open, in port order, and hands it on.
+fn take_each<R: Wait>(
+    rt: &R,
+    alloc: Global,
+    node: &mut Node,
+    inputs: &mut Vec<EdgeIn>,
+    outlets: &mut Outlets,
+    lacked: bool,
+) -> Takes
+    requires { (broke : Bool) × Works node.old (taken_in inputs.old.items) outlets.old lacked broke }
+    ensures works { (broke : Bool) → Works node.old (taken_in inputs.old.items) outlets.old lacked broke → Works node.new (taken_in inputs.new.items) outlets.new result.lacked broke }
+    ensures made { made_of node.new ≡ made_of node.old }
+    ensures taken { TakenSoFar inputs.old.items inputs.new.items result.moved (length inputs.old.items) }
+    ensures bare { map bare outlets.new ≡ map bare outlets.old }
+    ensures same { result.moved ≡ false → outlets.new ≡ outlets.old }
+{
+    let mut moved = false;
+    let mut lacks = lacked;
+    for port in 0..inputs.len() {
+        let took = take_at(rt, alloc, node, inputs, outlets, port, lacks);
+        moved = moved | took.moved;
+        lacks = took.lacked;
+    }
+    Takes {
+        moved,
+        lacked: lacks,
+    }
+}
+
+/// The same where nothing is pending at an out edge, and else nothing.
+pub(crate) fn take_unless<R: Wait>(
+    rt: &R,
+    alloc: Global,
+    node: &mut Node,
+    inputs: &mut Vec<EdgeIn>,
+    outlets: &mut Outlets,
+    pending: bool,
+    lacked: bool,
+) -> Takes
+    requires { (broke : Bool) × Works node.old (taken_in inputs.old.items) outlets.old lacked broke }
+    ensures works { (broke : Bool) → Works node.old (taken_in inputs.old.items) outlets.old lacked broke → Works node.new (taken_in inputs.new.items) outlets.new result.lacked broke }
+    ensures made { made_of node.new ≡ made_of node.old }
+    ensures taken { pending ≡ false → TakenSoFar inputs.old.items inputs.new.items result.moved (length inputs.old.items) }
+    ensures waits { pending ≡ true → (inputs.new.items ≡ inputs.old.items) × (result.moved ≡ false) }
+    ensures bare { map bare outlets.new ≡ map bare outlets.old }
+    ensures same { result.moved ≡ false → outlets.new ≡ outlets.old }
+{
+    if pending {
+        return Takes {
+            moved: false,
+            lacked,
+        };
+    }
+    take_each(rt, alloc, node, inputs, outlets, lacked)
+}
