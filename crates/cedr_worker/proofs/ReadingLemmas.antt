@@ -133,7 +133,7 @@ read_failed lines rest left count now shape bytes given reads goes_on keeps coun
   read = Consumes-kept rest rest left [] (Consumes-nil rest) keeps;
   at_end = λ at ended. absurd (true≢false (sym ended ∙ goes_on));
   counted = counted;
-  tells = tt;
+  tells = goes_on;
   is_given = given_still shape bytes given (is_ended lines) (is_ended lines) refl (reads_given lines shape bytes given reads);
 }
 

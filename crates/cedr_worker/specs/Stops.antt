@@ -49,11 +49,11 @@ pub record RefusedAs (shape : Shape) (bytes : List ℕ) (given : List Message) (
   pub first : (more : List ℕ) → MayCome ended more → (judged shape (bytes ++ more)).fault ≡ Some (record { line = line; fault = fault })
   pub all : (more : List ℕ) → MayCome ended more → given ≡ messages_behind [] (judged shape (bytes ++ more)).good
 
--- what a stop tells of the bytes read and the messages given
+-- what a stop tells of the bytes read and the messages given; a refused read comes behind none that gave 0
 abbrev pub StoppedAs : SourceStop → Shape → List ℕ → List Message → Bool → Type 0
 StoppedAs stop.Closed shape bytes given ended = ClosedAs shape bytes given ended
 StoppedAs (stop.Refused line fault) shape bytes given ended = RefusedAs shape bytes given ended line fault
-StoppedAs stop.ReadFault shape bytes given ended = Unit {0}
+StoppedAs stop.ReadFault shape bytes given ended = ended ≡ false
 StoppedAs stop.OutOfMemory shape bytes given ended = Unit {0}
 
 abbrev pub StoppedSo : Option SourceStop → Shape → List ℕ → List Message → Bool → Type 0
