@@ -1,0 +1,77 @@
+-- What contracts see of the writer, the reader and a note.
+use Rattle.std.specs.Prelude.{◌≡◌, ◌+◌, ◌-◌, ◌^◌, ℕ, Bool, true, List, min, length, take, drop, fold, Option, Some, None}
+use Rattle.logbook.specs.Pages.{Book}
+use Rattle.cedr_history.specs.declared.listed.Listed.{Listed}
+use Rattle.cedr_history.specs.declared.states.Holding.{Holding}
+use Rattle.cedr_history.specs.declared.states.Deed.{Deed}
+use Rattle.cedr_history.specs.declared.states.Knows.{Knows}
+use Rattle.cedr_history.specs.declared.version.Version.{Version}
+use Rattle.cedr_history.specs.declared.seen.Seen.{Seen}
+use Rattle.cedr_history.specs.Lists.{nothing, listed, stepped, Extends}
+use Rattle.cedr_history.specs.Sights.{Sight, Begins}
+use Rattle.cedr_history.specs.Versions.{listing}
+
+-- one more step was refused. The count stays at its last value
+abbrev pub raised : ℕ → ℕ
+raised n = min (n + 1) (2 ^ 64 - 1)
+
+-- the writer: its history, the published list, that list with all that is pending, and whether it told its list for the last time
+pub record Writing : Type 0 where
+  pub history : Book
+  pub published : Listed
+  pub all : Listed
+  pub told : Bool
+
+-- a reader: its history, the list that it has seen or was told of, the list of the last note if it learnt that, and how many enters were refused
+pub record Reads : Type 0 where
+  pub history : Book
+  pub seen : Listed
+  pub last : Option Listed
+  pub refused : ℕ
+
+-- a note: the list that it tells, and whether it is the last one
+pub record Told : Type 0 where
+  pub history : Book
+  pub list : Listed
+  pub last : Bool
+
+abbrev pub list_of : Sight → Listed
+list_of s = listed s.steps
+
+abbrev pub last_of : Option Sight → Option Listed
+last_of None = None
+last_of (Some s) = Some (list_of s)
+
+-- at most max of the elements, from a place on
+abbrev pub part : {A : Type 0} → ℕ → ℕ → List A → List A
+part from max xs = take max (drop from xs)
+
+abbrev pub holding : Version → Holding
+holding x = record { listed = listing x; front = x.front }
+
+abbrev pub done : Holding → Deed → Holding
+done s d = record { listed = stepped s.listed d.step; front = d.front }
+
+-- what the versions hold once all steps are done that a history has
+abbrev pub whole : Sight → Holding
+whole s = record { listed = listed s.steps; front = s }
+
+-- a pass that knows this history
+abbrev pub IsAt : Knows → Book → Type 0
+IsAt v b = (v.known ≡ true) × (v.front.book ≡ b)
+
+-- a version with the list of a new history
+abbrev pub IsOpening : Version → Sight → Type 0
+IsOpening x s = (listing x ≡ nothing) × (x.front ≡ s)
+
+-- these steps after the version leave all that the history has
+abbrev pub IsReady : Version → List Deed → Sight → Type 0
+IsReady x pending all = Begins x.front all × (fold done (holding x) pending ≡ whole all)
+
+-- what a read says of the list that it entered
+abbrev pub IsSeen : Seen → Listed → Type 0
+IsSeen s l = (s.len ≡ length l.changes) × (s.mark ≡ l.mark) × (s.close ≡ l.close)
+
+-- the second front goes on from the first, in one history, and so does its list
+abbrev pub IsNext : Sight → Sight → Type 0
+IsNext a b = (a.book ≡ b.book) × Extends (list_of a) (list_of b)

@@ -1,0 +1,13 @@
+-- A beginning of one history's steps, with the book that says which history it is.
+use Rattle.std.specs.Prelude.{◌≡◌, List}
+use mathlib.Core.List.{IsPrefix}
+use Rattle.logbook.specs.Pages.{Book}
+use Rattle.cedr_history.specs.declared.step.Step.{Step}
+
+pub record Sight : Type 0 where
+  pub book : Book
+  pub steps : List Step
+
+-- the second goes on from the first, in one history
+abbrev pub Begins : Sight → Sight → Type 0
+Begins a b = (a.book ≡ b.book) × IsPrefix a.steps b.steps

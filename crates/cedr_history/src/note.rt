@@ -1,0 +1,18 @@
+use crate::book::Front;
+use std::marker::Model;
+
+/// A published list, as its writer tells it to the reader. Contracts see which history it is of, the list, and whether it
+/// is the last one that the writer tells.
+#[derive(Drop)]
+pub struct Note {
+    pub(crate) front: Front,
+    pub(crate) last: bool,
+}
+
+impl Model for Note {
+    ghost use Rattle.cedr_history.specs.Ends.{Told, list_of};
+
+    ghost Value = { Told };
+
+    ghost view = { λ n. record { history = n.front.book; list = list_of n.front; last = n.last } };
+}
