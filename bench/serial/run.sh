@@ -1,8 +1,8 @@
 #!/usr/bin/env bash
-# Times `cedr serial` on five plans over generated sources of 10,000, 100,000 and 400,000 events each: a join, a join
-# and a group, a sequence, an unless, and a chain of 40 selects. The first two are also answered by Python over SQLite,
-# in the same run, and the bytes compared. Prints seconds of processor time, events a second of that over all sources, the
-# peak of memory in KiB, and rows. A command that takes over 900 seconds is stopped. Build the program first:
+# Times `cedr serial` and `cedr stream` on five plans over generated sources of 10,000, 100,000 and 400,000 events each: a
+# join, a join and a group, a sequence, an unless, and a chain of 40 selects. The first two are also answered by Python over
+# SQLite, in the same run, and the bytes compared. Prints seconds of processor time, events a second of that over all sources,
+# the peak of memory in KiB, and rows. A command that takes over 900 seconds is stopped. Build the program first:
 # (cd crates/cedr && rt run -- --version)
 #
 # usage: bench/serial/run.sh [PROGRAM [SIZE..]]
@@ -63,7 +63,8 @@ for size in "${sizes[@]}"; do
     echo "$plan, $size events a source"
     rm -f by_cedr by_sqlite
     if [ -n "${cedr:-}" ]; then
-      measure "cedr" "$events" by_cedr "$program" serial "$plan.json" || rm -f by_cedr
+      measure "serial" "$events" by_cedr "$program" serial "$plan.json" || rm -f by_cedr
+      measure "stream" "$events" by_stream "$program" stream "$plan.json" || true
     fi
     if [ -n "$sqlite" ] && [[ $plan = join* ]]; then
       measure "SQLite" "$events" by_sqlite python3 "$here/on_sqlite.py" "$plan" || rm -f by_sqlite
