@@ -1,0 +1,3 @@
+pub mod WireLemmas
+pub mod CloseLemmas
+pub mod RunLemmas
