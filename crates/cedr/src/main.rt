@@ -5,6 +5,7 @@ use cedr_io::{DiskFiles, OpenGate, OutsideFault, StdSink, write_all};
 use cedr_run::{Status, run};
 use std::io::ErrorKind;
 use std::process::ExitCode;
+use std::sync::Wait;
 use std::{env, io};
 
 const HELP: &str = "usage: cedr history FILE
@@ -51,10 +52,10 @@ const VERSION: &str = "cedr 0.1.0\n";
 
 fn main(rt: HostRuntime) -> ExitCode {
     let status = match words(&rt) {
-        Ok(words) => answer(&rt, &words),
+        Ok(words) => answer(&rt, &rt, &words),
         Err(error) if error.kind() == ErrorKind::OutOfMemory => lacking(&rt),
         // A word that is no text matches no command, as no word does.
-        Err(_) => answer(&rt, &[]),
+        Err(_) => answer(&rt, &rt, &[]),
     };
     ExitCode::from(status.code())
 }
@@ -65,7 +66,8 @@ fn words(rt: &HostRuntime) -> io::Result<Vec<String>> {
     Ok(words)
 }
 
-fn answer(rt: &HostRuntime, words: &[String]) -> Status {
+/// Carries out the command that the words name. `waits` is the runtime again, as what may wait, which `main` alone can hand on.
+fn answer<R: Wait>(rt: &HostRuntime, waits: &R, words: &[String]) -> Status {
     let mut out = StdSink::out(rt);
     if let [word] = words {
         match word.as_str() {
@@ -77,7 +79,7 @@ fn answer(rt: &HostRuntime, words: &[String]) -> Status {
     let mut files = DiskFiles::new(rt);
     let mut err = StdSink::err(rt);
     run(
-        rt,
+        waits,
         rt.alloc(),
         words,
         &mut files,

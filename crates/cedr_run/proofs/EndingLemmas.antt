@@ -27,7 +27,7 @@ use Rattle.cedr_run.specs.Answers.{AnswersQuery, AnswersChanges, BeginsChanges, 
 use Rattle.cedr_run.specs.Commands.{Command, named_files}
 use Rattle.cedr_run.specs.Seen.{FilesSeen, SinkSeen, Tells}
 use Rattle.cedr_run.specs.Outcomes.{status_of, told_text, TellsLack, CommandEnds, AsksOnly, AsksPlan}
-use Rattle.cedr_run.specs.Steps.{Texts, WritesText, Says, OpensPlan, OpensSources, StopsSources, CountsStep, ReadsSources, EndsWith, EndsSources}
+use Rattle.cedr_run.specs.Steps.{Texts, WritesText, Says, OpensPlan, OpensSources, StopsSources, CountsStep, ReadsSources, AreOpened, EndsWith, EndsSources}
 use Rattle.cedr_run.specs.Ending.{Ends}
 
 -- ---- fronts
@@ -172,6 +172,12 @@ pub is_opened : (files : FilesSeen) (file : List ℕ) (plan : Plan) → OpensPla
 unfolding IsOpened
 is_opened files file plan h told is = opened_plan (files.content file) (told file) plan is.0 h
 
+-- and so were its sources
+pub are_opened : (files files' : FilesSeen) (file : List ℕ) (nodes : List PlanNode) (left : Lists) → IsOpened files file nodes → files'.faults ≡ files.faults
+    → ((told : List ℕ → List ℕ) → AreTold files.content told (source_files nodes) → AreRead told nodes left []) → AreOpened files files' file nodes left
+unfolding IsOpened
+are_opened files files' file nodes left opened same read = record { plan = opened; sources = read; faults = same }
+
 pub sources_asked : (job : Job) (files files' : FilesSeen) (file script : List ℕ) (nodes : List PlanNode) → ReadsSources job → IsOpened files file nodes → AsksFirst files.asked files'.asked (file ∷ source_files nodes) → AsksOnly (record { job = job; file = file; script = script }) files files'
 unfolding IsOpened
 sources_asked job files files' file script nodes reads opened asked = asks_plan job files files' file script reads (record { nodes = nodes; plan = opened; asked = asked })
@@ -217,25 +223,23 @@ pub begins_changes : (told : List ℕ → List ℕ) (nodes : List PlanNode) (lef
 begins_changes told nodes left text got is = record { sources = sources_in nodes left; histories = got.0; accepted = got.1; text_is = is }
 
 -- they were, and what the command gives of them was written, or was begun
-pub sources_given : (job : Job) (file script : List ℕ) (files files' : FilesSeen) (out out' : SinkSeen) (o : Outcome) (nodes : List PlanNode) (left : Lists) → ReadsSources job → IsOpened files file nodes
-    → files'.faults ≡ files.faults → ((told : List ℕ → List ℕ) → AreTold files.content told (source_files nodes) → AreRead told nodes left [])
-    → EndsSources job nodes left out out' o → CommandEnds (record { job = job; file = file; script = script }) files files' out out' o
-unfolding IsOpened
-sources_given job file script files files' out out' outcome.Done nodes left reads opened same read h = (
-  record { files_count = same; out_count = h.0 },
-  λ told is. (h.1.text, gives_of job files.content told file script h.1.text reads (record { nodes = nodes; plan = opened told (named_one job files.content told file script reads is); holding = λ all. h.1.gives told (read told all) }), h.1.wrote),
+pub sources_given : (job : Job) (file script : List ℕ) (files files' : FilesSeen) (out out' : SinkSeen) (o : Outcome) (nodes : List PlanNode) (left : Lists) → ReadsSources job → AreOpened files files' file nodes left → EndsSources job nodes left out out' o
+    → CommandEnds (record { job = job; file = file; script = script }) files files' out out' o
+sources_given job file script files files' out out' outcome.Done nodes left reads opened h = (
+  record { files_count = opened.faults; out_count = h.0 },
+  λ told is. (h.1.text, gives_of job files.content told file script h.1.text reads (record { nodes = nodes; plan = opened.plan told (named_one job files.content told file script reads is); holding = λ all. h.1.gives told (opened.sources told all) }), h.1.wrote),
 )
-sources_given job file script files files' out out' outcome.Write nodes left reads opened same read h = (
+sources_given job file script files files' out out' outcome.Write nodes left reads opened h = (
   h.0,
-  λ told is. (h.1.text, begins_of job files.content told file script h.1.text reads (record { nodes = nodes; plan = opened told (named_one job files.content told file script reads is); holding = λ all. h.1.begins told (read told all) }), h.1.wrote),
+  λ told is. (h.1.text, begins_of job files.content told file script h.1.text reads (record { nodes = nodes; plan = opened.plan told (named_one job files.content told file script reads is); holding = λ all. h.1.begins told (opened.sources told all) }), h.1.wrote),
 )
-sources_given job file script files files' out out' outcome.OutOfMemory nodes left reads opened same read (inl keeps) = inl keeps
-sources_given job file script files files' out out' outcome.OutOfMemory nodes left reads opened same read (inr h) =
-    inr (λ told is. (h.text, begins_of job files.content told file script h.text reads (record { nodes = nodes; plan = opened told (named_one job files.content told file script reads is); holding = λ all. h.begins told (read told all) }), h.wrote))
-sources_given job file script files files' out out' outcome.Usage nodes left reads opened same read h = absurd h
-sources_given job file script files files' out out' (outcome.Events said) nodes left reads opened same read h = absurd h
-sources_given job file script files files' out out' (outcome.BadPlan kind node) nodes left reads opened same read h = absurd h
-sources_given job file script files files' out out' outcome.Read nodes left reads opened same read h = absurd h
+sources_given job file script files files' out out' outcome.OutOfMemory nodes left reads opened (inl keeps) = inl keeps
+sources_given job file script files files' out out' outcome.OutOfMemory nodes left reads opened (inr h) =
+    inr (λ told is. (h.text, begins_of job files.content told file script h.text reads (record { nodes = nodes; plan = opened.plan told (named_one job files.content told file script reads is); holding = λ all. h.begins told (opened.sources told all) }), h.wrote))
+sources_given job file script files files' out out' outcome.Usage nodes left reads opened h = absurd h
+sources_given job file script files files' out out' (outcome.Events said) nodes left reads opened h = absurd h
+sources_given job file script files files' out out' (outcome.BadPlan kind node) nodes left reads opened h = absurd h
+sources_given job file script files files' out out' outcome.Read nodes left reads opened h = absurd h
 
 -- ---- what err is told where memory ran out
 

@@ -10,16 +10,16 @@ use Rattle.cedr_plan.specs.Drawn.{drawn}
 use Rattle.cedr_plan.specs.Plans.{plan_of}
 use Rattle.cedr_plan.specs.declared.plan.Plan.{Plan}
 use Rattle.cedr_plan.specs.declared.plan.PlanNode.{PlanNode}
-use Rattle.cedr_serial.specs.Sources.{AreRead}
+use Rattle.cedr_serial.specs.Sources.{AreRead, AreTold, source_files}
 use Rattle.cedr_serial.specs.declared.feeding.Remaining.{Remaining}
 use Rattle.cedr_serial.specs.declared.sources.FaultySource.{FaultySource}
 use Rattle.cedr_run.specs.declared.command.Job.{Job}
 use Rattle.cedr_run.specs.declared.command.Job.TheVariants.{Serial, Run, Stream, Audit}
 use Rattle.cedr_run.specs.declared.outcome.Outcome.{Outcome}
 use Rattle.cedr_run.specs.declared.outcome.Outcome.TheVariants as outcome
-use Rattle.cedr_run.specs.Answers.{IsNoPlan, RefusesSources, GivesPlan, BeginsPlan}
+use Rattle.cedr_run.specs.Answers.{IsPlanOf, IsNoPlan, RefusesSources, GivesPlan, BeginsPlan}
 use Rattle.cedr_run.specs.Refusals.{refusal_text}
-use Rattle.cedr_run.specs.Seen.{SinkSeen}
+use Rattle.cedr_run.specs.Seen.{FilesSeen, SinkSeen}
 
 -- ---- texts
 
@@ -102,6 +102,12 @@ ReadsSources Run = Unit {0}
 ReadsSources Audit = Unit {0}
 ReadsSources Stream = Unit {0}
 ReadsSources job = ⊥
+
+-- a plan of these nodes was read from a file, and its sources have these messages left
+pub record AreOpened (files files' : FilesSeen) (file : List ℕ) (nodes : List PlanNode) (left : Lists) : Type 0 where
+  pub plan : (told : List ℕ → List ℕ) → AreTold files.content told (file ∷ []) → IsPlanOf (told file) nodes
+  pub sources : (told : List ℕ → List ℕ) → AreTold files.content told (source_files nodes) → AreRead told nodes left []
+  pub faults : files'.faults ≡ files.faults
 
 -- what is written of a plan and its sources, by what the files of these hold
 abbrev pub Texts : Type 1

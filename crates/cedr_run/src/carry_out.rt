@@ -1,5 +1,6 @@
-ghost use Rattle.std.specs.Prelude.{◌≡◌, ◌<◌, List, ℕ};
+ghost use Rattle.std.specs.Prelude.{◌≡◌, ◌≢◌, ◌<◌, List, ℕ};
 ghost use Rattle.cedr_io.specs.Counts.{last_count};
+ghost use Rattle.cedr_run.specs.declared.command.Job.TheVariants.{Stream};
 ghost use Rattle.cedr_run.specs.Commands.{Command, IsMakeable};
 ghost use Rattle.cedr_run.specs.Outcomes.{CommandEnds, AsksOnly};
 ghost use Rattle.cedr_run.specs.Seen.{seen_files, seen_sink};
@@ -14,7 +15,7 @@ use crate::sources::on_sources;
 use cedr_io::{Files, Sink};
 use std::alloc::Global;
 
-/// Does what a command asks for with its files.
+/// Does what a command asks for with its files: any command but `stream`, which may wait.
 pub(crate) fn carry_out<F: Files, K: Sink>(
     alloc: Global,
     job: Job,
@@ -26,6 +27,7 @@ pub(crate) fn carry_out<F: Files, K: Sink>(
     requires files_count { F.faults files.old < last_count }
     requires out_counts { K.faults out.old < last_count }
     requires job { IsMakeable job }
+    requires alone { job ≢ Stream }
     ensures ends { CommandEnds (record { job = job; file = file.now; script = script.now })
         (seen_files F.content F.faults F.asked files.old) (seen_files F.content F.faults F.asked files.new)
         (seen_sink K.written K.faults out.old) (seen_sink K.written K.faults out.new) result }
@@ -36,10 +38,8 @@ pub(crate) fn carry_out<F: Files, K: Sink>(
     match job {
         Job::History => history(alloc, file, files, out),
         Job::Check => check(alloc, file, files, out),
-        Job::Serial | Job::Run | Job::Stream | Job::Audit => {
-            on_sources(alloc, job, file, files, out)
-        }
         Job::Live => live(alloc, file, script, files, out),
         Job::Make(events) => make(alloc, events, out),
+        _ => on_sources(alloc, job, file, files, out),
     }
 }

@@ -6,6 +6,7 @@ use crate::tests::{ended, words};
 use cedr_base::OutOfMemory;
 use cedr_io::{Files, MemFiles, MemSink, OpenGate};
 use std::alloc::Global;
+use std::sync::Wait;
 use std::test::Fail;
 
 const PASS: &str = r#"{"version":1,"nodes":[
@@ -87,8 +88,8 @@ fn files(alloc: Global, plan: &str, given: Given) -> Result<MemFiles, OutOfMemor
 }
 
 /// Whether a command over a plan and these files is answered so.
-fn gives(
-    rt: &HostRuntime,
+fn gives<R: Wait + AllocGlobal>(
+    rt: &R,
     command: &str,
     plan: &str,
     given: Given,

@@ -1,13 +1,15 @@
-ghost use Rattle.std.specs.Prelude.{◌≡◌, ◌<◌, List, ℕ, IfOk};
+ghost use Rattle.std.specs.Prelude.{◌≡◌, ◌≢◌, ◌<◌, List, ℕ, IfOk, IfErr};
 ghost use Rattle.cedr_io.specs.Counts.{last_count};
 ghost use Rattle.cedr_plan.specs.Rules.{IsPlan};
 ghost use Rattle.cedr_serial.specs.Feeding.{AreSources};
 ghost use Rattle.cedr_serial.specs.Sources.{AsksFirst, AreTold, source_files};
 ghost use Rattle.cedr_run.specs.Answers.{AnswersQuery, AnswersChanges, BeginsChanges};
+ghost use Rattle.cedr_run.specs.declared.command.Job.{Job};
+ghost use Rattle.cedr_run.specs.declared.command.Job.TheVariants.{Stream};
 ghost use Rattle.cedr_run.specs.Commands.{Command};
 ghost use Rattle.cedr_run.specs.Outcomes.{CommandEnds, AsksOnly};
-ghost use Rattle.cedr_run.specs.Seen.{seen_files, seen_sink};
-ghost use Rattle.cedr_run.specs.Steps.{CountsStep, StopsSources, OpensSources, ReadsSources, EndsWith, EndsSources};
+ghost use Rattle.cedr_run.specs.Seen.{SinkSeen, seen_files, seen_sink};
+ghost use Rattle.cedr_run.specs.Steps.{CountsStep, StopsSources, OpensSources, ReadsSources, AreOpened, EndsWith, EndsSources};
 
 use crate::command::Job;
 use crate::outcome::Outcome;
@@ -21,6 +23,7 @@ use cedr_serial::{
     streamed_changes,
 };
 use std::alloc::Global;
+use std::sync::Wait;
 
 /// All messages of a plan's sources, or how the command ends without them.
 fn open_sources<F: Files>(
@@ -45,6 +48,32 @@ fn open_sources<F: Files>(
     }
 }
 
+/// A plan and all messages of its sources, or how a command ends without them. No source is held whole beside its messages.
+fn open<F: Files>(
+    alloc: Global,
+    file: &[u8],
+    files: &mut F,
+) -> Result<(Plan, Vec<Remaining>), Outcome>
+    requires { F.faults files.old < last_count }
+    ensures plan { IfOk result (λ r. IsPlan r.0) }
+    ensures sources { IfOk result (λ r. AreSources r.0.nodes.items r.1.items) }
+    ensures opened { IfOk result (λ r. AreOpened (seen_files F.content F.faults F.asked files.old) (seen_files F.content F.faults F.asked files.new) file.now r.0.nodes.items r.1.items) }
+    ensures ends { IfErr result (λ o. (job : Job) (script : List ℕ) (out : SinkSeen) → ReadsSources job → CommandEnds (record { job = job; file = file.now; script = script })
+        (seen_files F.content F.faults F.asked files.old) (seen_files F.content F.faults F.asked files.new) out out o) }
+    ensures asked { (job : Job) (script : List ℕ) → ReadsSources job → AsksOnly (record { job = job; file = file.now; script = script })
+        (seen_files F.content F.faults F.asked files.old) (seen_files F.content F.faults F.asked files.new) }
+    ensures contents { (n : List ℕ) → F.content files.new n ≡ F.content files.old n }
+{
+    let plan = match open_plan(alloc, file, files) {
+        Ok(plan) => plan,
+        Err(outcome) => return Err(outcome),
+    };
+    match open_sources(alloc, &plan, files) {
+        Ok(left) => Ok((plan, left)),
+        Err(outcome) => Err(outcome),
+    }
+}
+
 /// Writes the answer of a plan over its sources, and what was forgotten where `always` or where some port has a finite memory.
 fn answer<K: Sink>(
     alloc: Global,
@@ -66,7 +95,13 @@ fn answer<K: Sink>(
 }
 
 /// Writes the changes of that answer as they come.
-fn stream<K: Sink>(alloc: Global, plan: &Plan, left: Vec<Remaining>, out: &mut K) -> Outcome
+fn give_changes<R: Wait, K: Sink>(
+    rt: &R,
+    alloc: Global,
+    plan: &Plan,
+    left: Vec<Remaining>,
+    out: &mut K,
+) -> Outcome
     requires counts { K.faults out.old < last_count }
     requires plan { IsPlan plan.now }
     requires sources { AreSources plan.now.nodes.items left.items }
@@ -74,29 +109,29 @@ fn stream<K: Sink>(alloc: Global, plan: &Plan, left: Vec<Remaining>, out: &mut K
 {
     accepted_sources();
     streamed_changes();
-    match stream_sources(alloc, plan, left, out) {
+    match stream_sources(rt, alloc, plan, left, out) {
         Ok(()) => Outcome::Done,
         Err(OutsideFault::Failed) => Outcome::Write,
         Err(OutsideFault::OutOfMemory) => Outcome::OutOfMemory,
     }
 }
 
-/// Writes what a command gives of a plan and its sources.
+/// Writes what a command gives of a plan and its sources, where it waits for nobody.
 fn give<K: Sink>(alloc: Global, job: Job, plan: &Plan, left: Vec<Remaining>, out: &mut K) -> Outcome
     requires counts { K.faults out.old < last_count }
     requires job { ReadsSources job }
+    requires alone { job ≢ Stream }
     requires plan { IsPlan plan.now }
     requires sources { AreSources plan.now.nodes.items left.items }
     ensures { EndsSources job plan.now.nodes.items left.items (seen_sink K.written K.faults out.old) (seen_sink K.written K.faults out.new) result }
 {
     match job {
-        Job::Stream => stream(alloc, plan, left, out),
         Job::Audit => answer(alloc, true, plan, left, out),
         _ => answer(alloc, false, plan, left, out),
     }
 }
 
-/// Reads a plan and its sources, and writes what the command gives of them. No source is held whole beside its messages.
+/// Reads a plan and its sources, and writes what the command gives of them, where it waits for nobody.
 pub(crate) fn on_sources<F: Files, K: Sink>(
     alloc: Global,
     job: Job,
@@ -107,6 +142,7 @@ pub(crate) fn on_sources<F: Files, K: Sink>(
     requires files_count { F.faults files.old < last_count }
     requires out_counts { K.faults out.old < last_count }
     requires job { ReadsSources job }
+    requires alone { job ≢ Stream }
     ensures ends { (script : List ℕ) → CommandEnds (record { job = job; file = file.now; script = script })
         (seen_files F.content F.faults F.asked files.old) (seen_files F.content F.faults F.asked files.new)
         (seen_sink K.written K.faults out.old) (seen_sink K.written K.faults out.new) result }
@@ -114,13 +150,31 @@ pub(crate) fn on_sources<F: Files, K: Sink>(
         (seen_files F.content F.faults F.asked files.old) (seen_files F.content F.faults F.asked files.new) }
     ensures contents { (n : List ℕ) → F.content files.new n ≡ F.content files.old n }
 {
-    let plan = match open_plan(alloc, file, files) {
-        Ok(plan) => plan,
-        Err(outcome) => return outcome,
-    };
-    let left = match open_sources(alloc, &plan, files) {
-        Ok(left) => left,
-        Err(outcome) => return outcome,
-    };
-    give(alloc, job, &plan, left, out)
+    match open(alloc, file, files) {
+        Ok((plan, left)) => give(alloc, job, &plan, left, out),
+        Err(outcome) => outcome,
+    }
+}
+
+/// Reads a plan and its sources, and writes the changes of its answer as they come. It may wait.
+pub(crate) fn stream<R: Wait, F: Files, K: Sink>(
+    rt: &R,
+    alloc: Global,
+    file: &[u8],
+    files: &mut F,
+    out: &mut K,
+) -> Outcome
+    requires files_count { F.faults files.old < last_count }
+    requires out_counts { K.faults out.old < last_count }
+    ensures ends { (script : List ℕ) → CommandEnds (record { job = Stream; file = file.now; script = script })
+        (seen_files F.content F.faults F.asked files.old) (seen_files F.content F.faults F.asked files.new)
+        (seen_sink K.written K.faults out.old) (seen_sink K.written K.faults out.new) result }
+    ensures asked { (script : List ℕ) → AsksOnly (record { job = Stream; file = file.now; script = script })
+        (seen_files F.content F.faults F.asked files.old) (seen_files F.content F.faults F.asked files.new) }
+    ensures contents { (n : List ℕ) → F.content files.new n ≡ F.content files.old n }
+{
+    match open(alloc, file, files) {
+        Ok((plan, left)) => give_changes(rt, alloc, &plan, left, out),
+        Err(outcome) => outcome,
+    }
 }

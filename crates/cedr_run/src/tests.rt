@@ -7,6 +7,7 @@ use super::*;
 use cedr_base::OutOfMemory;
 use cedr_io::{Files, MemFiles, MemSink, OpenGate};
 use std::alloc::Global;
+use std::sync::Wait;
 use std::test::Fail;
 
 const USAGE: &str =
@@ -23,13 +24,16 @@ pub(crate) fn words(alloc: Global, texts: &[&str]) -> Result<Vec<String>, OutOfM
 }
 
 /// What `history e.csv` answers and writes for a file of these bytes.
-fn history(rt: &HostRuntime, bytes: &[u8]) -> Result<(u8, Vec<u8>, Vec<u8>), OutOfMemory> {
+fn history<R: Wait + AllocGlobal>(
+    rt: &R,
+    bytes: &[u8],
+) -> Result<(u8, Vec<u8>, Vec<u8>), OutOfMemory> {
     answer(rt, "history", "e.csv", bytes)
 }
 
 /// The status, and what out and err are told, where a command has this one file.
-pub(crate) fn answer(
-    rt: &HostRuntime,
+pub(crate) fn answer<R: Wait + AllocGlobal>(
+    rt: &R,
     command: &str,
     file: &str,
     bytes: &[u8],
@@ -42,8 +46,8 @@ pub(crate) fn answer(
 }
 
 /// The status, and what out and err are told, where these words are carried out.
-pub(crate) fn ended(
-    rt: &HostRuntime,
+pub(crate) fn ended<R: Wait + AllocGlobal>(
+    rt: &R,
     words: &[String],
     files: &mut MemFiles,
 ) -> Result<(u8, Vec<u8>, Vec<u8>), OutOfMemory>
@@ -64,7 +68,7 @@ pub(crate) fn ended(
 type Case = (&'static [u8], u8, &'static str, &'static str);
 
 /// Whether each file is answered so.
-fn are_answered(rt: &HostRuntime, cases: &[Case]) -> Result<bool, OutOfMemory> {
+fn are_answered<R: Wait + AllocGlobal>(rt: &R, cases: &[Case]) -> Result<bool, OutOfMemory> {
     for (bytes, status, rows, told) in cases {
         let (code, out, err) = history(rt, bytes)?;
         if code != *status

@@ -4,5 +4,7 @@ pub mod ChangesLemmas
 pub mod RunLemmas
 pub mod SourceLemmas
 pub mod AcceptedLemmas
+pub mod WatchLemmas
+pub mod VersionLemmas
 pub mod StreamLemmas
 pub mod QueryLemmas

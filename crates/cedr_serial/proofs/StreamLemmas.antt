@@ -1,14 +1,15 @@
 -- Changes that are written as they come.
-use Rattle.std.proofs.Common.{◌≡◌, inl, inr, ℕ, zero, suc, ◌+◌, ◌<◌, ◌≤◌, List, [], ◌∷◌, ◌++◌, Bool, true, false, cond, length, get_or, take, drop, replicate, refl, ap, sym, ◌∙◌, subst, arith, append_assoc}
-use Rattle.std.specs.Prelude.{Option, Result, Ok, Err, OnErr, map}
+use Rattle.std.proofs.Common.{◌≡◌, inl, inr, ℕ, zero, suc, ◌<◌, ◌≤◌, List, [], ◌∷◌, ◌++◌, Bool, true, false, cond, length, get_or, drop, replicate, refl, ap, sym, ◌∙◌, subst, arith}
+use Rattle.std.specs.Prelude.{Option, map}
 use Rattle.std.specs.Io.KnownBytes.{Appends}
-use Rattle.std.proofs.KnownBytes.{Appends-nil, Appends-trans}
-use Rattle.std.proofs.lemmas.List.{append-nil, drop_at, length-append, length-replicate}
-use Rattle.std.proofs.lemmas.List.Concat.{flat_map-append}
+use Rattle.std.proofs.KnownBytes.{Appends-trans}
+use Rattle.std.proofs.lemmas.List.{drop_at, length-append, length-replicate}
 use Rattle.cedr_base.specs.declared.change.Change.{Change}
 use Rattle.cedr_base.specs.declared.change.Message.{Message}
 use Rattle.cedr_base.specs.Messages.{changes_of}
 use Rattle.cedr_guard.proofs.MessageLemmas.{changes_of-append}
+use Rattle.cedr_history.specs.declared.listed.Listed.{Listed}
+use Rattle.cedr_history.specs.Lists.{nothing}
 use Rattle.cedr_io.specs.Asked.{AppendsFront}
 use Rattle.cedr_laws.specs.declared.forgotten.Forgotten.{Forgotten}
 use Rattle.cedr_laws.specs.Lists.{Lists, list_at}
@@ -24,36 +25,12 @@ use Rattle.cedr_runs.specs.Runs.{IsPrefix, ArePrefixes, IsRun, IsPartialRun, lis
 use Rattle.cedr_runs.specs.Without.{forgot_in}
 use Rattle.op_planned.specs.Meanings.{meaning_of, port_levels}
 use Rattle.op_planned.specs.Ready.{is_source}
-use Rattle.cedr_text.specs.Texts.{change_text}
 use Rattle.cedr_serial.specs.Answers.{has_memory, tail_text}
-use Rattle.cedr_serial.specs.Feeding.{AreFed, AreSources, FeedStands}
-use Rattle.cedr_serial.specs.Queries.{changes_text, given_text, IsStreamText, IsStreamedSoFar, MayStream}
-use Rattle.cedr_serial.specs.Streaming.{StreamsOn, StreamStops}
+use Rattle.cedr_serial.specs.Feeding.{AreFed, AreSources}
+use Rattle.cedr_serial.specs.Queries.{changes_text, IsStreamText, IsStreamedSoFar, MayStream}
+use Rattle.cedr_serial.specs.Streaming.{Streams, WritesFront, WritesOn}
 use Rattle.cedr_serial.proofs.RunLemmas.{all_given}
-
--- ---- what is written, behind what was written before
-
--- nothing is a front of any text
-pub nothing_written : (bytes : Option (List ℕ)) (text : List ℕ) → AppendsFront bytes bytes text
-nothing_written bytes text = record { count = 0; grows = Appends-nil bytes }
-
-take_over : (xs ys : List ℕ) (n : ℕ) → take (length xs + n) (xs ++ ys) ≡ xs ++ take n ys
-take_over [] ys n = let e : 0 + n ≡ n = omega arith in ap (λ (k : ℕ). take k ys) e
-take_over (x ∷ xs) ys n =
-    let e : suc (length xs) + n ≡ suc (length xs + n) = omega arith in
-    ap (λ (k : ℕ). take k (x ∷ (xs ++ ys))) e ∙ ap (λ (zs : List ℕ). x ∷ zs) (take_over xs ys n)
-
--- a front of a text that follows another one
-pub front_behind : (old mid new : Option (List ℕ)) (text more : List ℕ) → Appends old mid text → AppendsFront mid new more → AppendsFront old new (text ++ more)
-front_behind old mid new text more whole front = record {
-  count = length text + front.count;
-  grows = subst (Appends old new) (sym (take_over text more front.count)) (Appends-trans old mid new text (take front.count more) whole front.grows);
-}
-
--- what holds anyway holds at an error
-pub on_err : {T E P : Type 0} (r : Result T E) → P → OnErr r P
-on_err (Ok done) h = tt
-on_err (Err fault) h = h
+use Rattle.cedr_serial.proofs.WatchLemmas.{front_behind}
 
 -- the text of what was forgotten, where it is asked for
 pub asked_text : (told : Bool) (nodes : List PlanNode) (listed : List (List (List Forgotten))) (first text written : List ℕ) → told ≡ true → first ≡ [] → text ≡ first ++ tail_text nodes listed → written ≡ text
@@ -63,54 +40,32 @@ asked_text false nodes listed first text written told none is same = absurd (let
 
 -- ---- the changes of lists that go on
 
-module _ (nodes : List PlanNode) (before after : Lists) (grow : AllGrow before after) where
+-- the changes that the output gave besides, behind those before
+pub changes_more : (nodes : List PlanNode) (before after : Lists) (grow : AllGrow before after) → changes_of (list_at after (output_place nodes)) ≡ changes_of (list_at before (output_place nodes)) ++ changes_of (grow.grows (output_place nodes)).0
+changes_more nodes before after grow =
+    let g = grow.grows (output_place nodes) in
+    ap changes_of g.1 ∙ changes_of-append (list_at before (output_place nodes)) g.0
+
+module _ (nodes : List PlanNode) (before after : Lists) (grow : AllGrow before after) (old new : List Change) (old_is : old ≡ changes_of (list_at before (output_place nodes))) (new_is : new ≡ changes_of (list_at after (output_place nodes))) where
   more_changes : List Change
   more_changes = changes_of (grow.grows (output_place nodes)).0
 
-  -- are those before, and more
-  changes_more : changes_of (list_at after (output_place nodes)) ≡ changes_of (list_at before (output_place nodes)) ++ more_changes
+  new_more : new ≡ old ++ more_changes
   unfolding more_changes
-  changes_more =
-      let g = grow.grows (output_place nodes) in
-      ap changes_of g.1 ∙ changes_of-append (list_at before (output_place nodes)) g.0
+  new_more = new_is ∙ (changes_more nodes before after grow ∙ ap (λ (cs : List Change). cs ++ changes_of (grow.grows (output_place nodes)).0) (sym old_is))
 
-  module _ (first : ℕ) (old new : List Change) (first_is : first ≡ length old) (old_is : old ≡ changes_of (list_at before (output_place nodes))) (new_is : new ≡ changes_of (list_at after (output_place nodes))) where
-    new_more : new ≡ old ++ more_changes
-    new_more = new_is ∙ (changes_more ∙ ap (λ (cs : List Change). cs ++ more_changes) (sym old_is))
+  pub first_within : length old ≤ length new
+  first_within = omega (arith, ap (λ (cs : List Change). length cs) new_more, length-append old more_changes)
 
-    pub first_within : first ≤ length new
-    first_within = omega (arith, first_is, ap (λ (cs : List Change). length cs) new_more, length-append old more_changes)
+  -- the changes behind the old ones follow them
+  new_changes : (published : List Change) → published ≡ changes_of (list_at before (output_place nodes)) → published ++ drop (length old) new ≡ changes_of (list_at after (output_place nodes))
+  new_changes published is =
+      let rest : drop (length old) new ≡ more_changes = ap (drop (length old)) new_more ∙ drop_at old more_changes (length old) refl in
+      ap (λ (cs : List Change). published ++ cs) rest ∙ (ap (λ (cs : List Change). cs ++ more_changes) (is ∙ sym old_is) ∙ (sym new_more ∙ new_is))
 
-    -- the text of the new ones follows that of the old ones
-    pub text_more : given_text nodes after ≡ given_text nodes before ++ changes_text (drop first new)
-    text_more =
-        let rest : drop first new ≡ more_changes = ap (drop first) new_more ∙ drop_at old more_changes first (sym first_is) in
-        ap changes_text changes_more
-        ∙ (flat_map-append change_text (changes_of (list_at before (output_place nodes))) more_changes
-        ∙ ap (λ (cs : List Change). given_text nodes before ++ changes_text cs) (sym rest))
-
--- ---- round by round
-
-pub streams_along : (nodes : List PlanNode) (net net' : SerialNet) (left left' whole before : Lists) (old mid new : Option (List ℕ)) (on : StreamsOn nodes net left whole before old mid)
-    → StreamsOn nodes net' left' whole on.feeds.given mid new → StreamsOn nodes net' left' whole before old new
-streams_along nodes net net' left left' whole before old mid new on next = record {
-  feeds = next.feeds;
-  more = on.more ++ next.more;
-  text_is = next.text_is ∙ (ap (λ (t : List ℕ). t ++ next.more) on.text_is ∙ append_assoc (given_text nodes before) on.more next.more);
-  written = Appends-trans old mid new on.more next.more on.written next.written;
-}
-
-pub stops_along : (nodes : List PlanNode) (net : SerialNet) (left whole before : Lists) (old mid new : Option (List ℕ)) (on : StreamsOn nodes net left whole before old mid) → StreamStops nodes whole on.feeds.given mid new
-    → StreamStops nodes whole before old new
-stops_along nodes net left whole before old mid new on stops = record {
-  more = on.more ++ stops.more;
-  so_far = subst (IsStreamedSoFar nodes (sources_in nodes whole)) (ap (λ (t : List ℕ). t ++ stops.more) on.text_is ∙ append_assoc (given_text nodes before) on.more stops.more) stops.so_far;
-  written = front_behind old mid new on.more stops.more on.written stops.written;
-}
-
--- a stream begins with nothing written
-pub streams_first : (nodes : List PlanNode) (net : SerialNet) (left whole : Lists) (bytes : Option (List ℕ)) (f : FeedStands nodes net left whole) → StreamsOn nodes net left whole f.given bytes bytes
-streams_first nodes net left whole bytes f = record { feeds = f; more = []; text_is = sym (append-nil (given_text nodes f.given)); written = Appends-nil bytes }
+  -- so that all are published where the new ones are
+  pub published_next : (published published' : List Change) → published ≡ changes_of (list_at before (output_place nodes)) → published' ≡ published ++ drop (length old) new → published' ≡ changes_of (list_at after (output_place nodes))
+  published_next published published' was is = is ∙ new_changes published was
 
 -- ---- what the sources gave are the first messages of their lists
 
@@ -130,29 +85,31 @@ given_first nodes given left whole h = first_sources nodes given whole (λ k d w
     record { rest = list_at left k; all = h.lists k within (source_here nodes k (get_or nodes k d) within (any_default nodes k (get_or nodes k d) d within) is) })
 
 -- so their changes are those of a partial run over first messages
-pub streamed_so_far : (nodes : List PlanNode) (net : SerialNet) (left whole : Lists) (text : List ℕ) (f : FeedStands nodes net left whole) → IsPartialRun nodes (sources_in nodes f.given) f.ports f.given → text ≡ given_text nodes f.given → IsStreamedSoFar nodes (sources_in nodes whole) text
-streamed_so_far nodes net left whole text f run is = record {
-  begun = sources_in nodes f.given;
-  ports = f.ports;
-  given = f.given;
-  first = given_first nodes f.given left whole f.fed;
+pub streamed_so_far : (nodes : List PlanNode) (net : SerialNet) (left whole : Lists) (published : List Change) (s : Streams nodes net left whole published) → IsPartialRun nodes (sources_in nodes s.feeds.given) s.feeds.ports s.feeds.given
+    → IsStreamedSoFar nodes (sources_in nodes whole) (changes_text published)
+streamed_so_far nodes net left whole published s run = record {
+  begun = sources_in nodes s.feeds.given;
+  ports = s.feeds.ports;
+  given = s.feeds.given;
+  first = given_first nodes s.feeds.given left whole s.feeds.fed;
   run = run;
-  text_is = is;
+  text_is = ap changes_text s.published_are;
 }
 
 -- ---- before anything was fed
 
 -- sources that gave nothing yet
-pub feeds_first : (nodes : List PlanNode) (net : SerialNet) (ports : List Lists) (given whole : Lists) → NetStands nodes net ports given → ((k : ℕ) → list_at given k ≡ []) → AreSources nodes whole → (f : FeedStands nodes net whole whole) × (given_text nodes f.given ≡ [])
-feeds_first nodes net ports given whole h none sources = (
-  record {
+pub streams_first : (nodes : List PlanNode) (net : SerialNet) (ports : List Lists) (given whole : Lists) (published : Listed) → published ≡ nothing → NetStands nodes net ports given → ((k : ℕ) → list_at given k ≡ []) → AreSources nodes whole
+    → Streams nodes net whole whole published.changes
+streams_first nodes net ports given whole published empty h none sources = record {
+  feeds = record {
     ports = ports;
     given = given;
     stands = h;
     fed = record { count = sources.count; lists = λ k within source. ap (λ (ms : List Message). ms ++ list_at whole k) (none k); legal = sources.legal; others = sources.others };
-  },
-  ap (λ (ms : List Message). changes_text (changes_of ms)) (none (output_place nodes)),
-)
+  };
+  published_are = ap (λ (l : Listed). l.changes) empty ∙ ap changes_of (sym (none (output_place nodes)));
+}
 
 none_at : (b : Bool) (k : ℕ) (xs : Lists) → ((j : ℕ) → list_at xs j ≡ []) → list_at (cond b ([] ∷ xs) xs) k ≡ []
 none_at true zero xs none = refl
@@ -199,24 +156,27 @@ pub asked_alike : (told : Bool) (ns nodes : List PlanNode) (ports : List Lists) 
 asked_alike told ns nodes ports told_is ns_are =
     ap (λ (b : Bool). cond b (tail_text ns (forgot_in ns ports)) []) told_is ∙ ap (λ (ms : List PlanNode). cond (has_memory ms) (tail_text ms (forgot_in ms ports)) []) ns_are
 
--- a stream that stops before its first round is over
-pub stops_first : (nodes : List PlanNode) (whole before : Lists) (old new : Option (List ℕ)) → given_text nodes before ≡ [] → StreamStops nodes whole before old new
+-- a stream that breaks off before its end
+pub stops : (nodes : List PlanNode) (whole : Lists) (published : List Change) (old new : Option (List ℕ)) → IsStreamedSoFar nodes (sources_in nodes whole) (changes_text published) → WritesFront [] published old new
     → (text : List ℕ) × MayStream nodes (sources_in nodes whole) text × AppendsFront old new text
-stops_first nodes whole before old new none stops = (stops.more, inl (subst (IsStreamedSoFar nodes (sources_in nodes whole)) (ap (λ (t : List ℕ). t ++ stops.more) none) stops.so_far), stops.written)
+stops nodes whole published old new so_far front = (changes_text published, inl so_far, subst (λ (cs : List Change). AppendsFront old new (changes_text cs)) (sym front.list_is) front.wrote)
 
-module _ (nodes : List PlanNode) (net : SerialNet) (left whole before : Lists) (old mid new : Option (List ℕ)) (on : StreamsOn nodes net left whole before old mid) (none : given_text nodes before ≡ []) (ended : (k : ℕ) → list_at left k ≡ [])
-    (run : IsRun nodes (sources_in nodes on.feeds.given) on.feeds.ports on.feeds.given) where
+module _ (nodes : List PlanNode) (net : SerialNet) (left whole : Lists) (published : List Change) (s : Streams nodes net left whole published) (old mid new : Option (List ℕ)) (wrote : WritesOn [] published old mid) (ended : (k : ℕ) → list_at left k ≡ [])
+    (run : IsRun nodes (sources_in nodes s.feeds.given) s.feeds.ports s.feeds.given) where
   -- all changes, and what was forgotten
-  whole_stream : IsStreamText nodes (sources_in nodes whole) (on.more ++ cond (has_memory nodes) (tail_text nodes (forgot_in nodes on.feeds.ports)) [])
+  whole_stream : IsStreamText nodes (sources_in nodes whole) (changes_text published ++ cond (has_memory nodes) (tail_text nodes (forgot_in nodes s.feeds.ports)) [])
   whole_stream = record {
-    ports = on.feeds.ports;
-    given = on.feeds.given;
-    run = subst (λ (sources : Lists). IsRun nodes sources on.feeds.ports on.feeds.given) (all_given nodes on.feeds.given left whole on.feeds.fed ended) run;
-    text_is = ap (λ (t : List ℕ). t ++ cond (has_memory nodes) (tail_text nodes (forgot_in nodes on.feeds.ports)) []) (sym (on.text_is ∙ ap (λ (t : List ℕ). t ++ on.more) none));
+    ports = s.feeds.ports;
+    given = s.feeds.given;
+    run = subst (λ (sources : Lists). IsRun nodes sources s.feeds.ports s.feeds.given) (all_given nodes s.feeds.given left whole s.feeds.fed ended) run;
+    text_is = ap (λ (cs : List Change). changes_text cs ++ cond (has_memory nodes) (tail_text nodes (forgot_in nodes s.feeds.ports)) []) s.published_are;
   }
 
-  pub stream_ends : Appends mid new (cond (has_memory nodes) (tail_text nodes (forgot_in nodes on.feeds.ports)) []) → (text : List ℕ) × IsStreamText nodes (sources_in nodes whole) text × Appends old new text
-  stream_ends wrote = (_, whole_stream, Appends-trans old mid new on.more _ on.written wrote)
+  all_written : Appends old mid (changes_text published)
+  all_written = subst (λ (cs : List Change). Appends old mid (changes_text cs)) (sym wrote.list_is) wrote.wrote
 
-  pub stream_ends_early : AppendsFront mid new (cond (has_memory nodes) (tail_text nodes (forgot_in nodes on.feeds.ports)) []) → (text : List ℕ) × MayStream nodes (sources_in nodes whole) text × AppendsFront old new text
-  stream_ends_early wrote = (_, inr whole_stream, front_behind old mid new on.more _ on.written wrote)
+  pub stream_ends : Appends mid new (cond (has_memory nodes) (tail_text nodes (forgot_in nodes s.feeds.ports)) []) → (text : List ℕ) × IsStreamText nodes (sources_in nodes whole) text × Appends old new text
+  stream_ends rest = (_, whole_stream, Appends-trans old mid new (changes_text published) _ all_written rest)
+
+  pub stream_ends_early : AppendsFront mid new (cond (has_memory nodes) (tail_text nodes (forgot_in nodes s.feeds.ports)) []) → (text : List ℕ) × MayStream nodes (sources_in nodes whole) text × AppendsFront old new text
+  stream_ends_early rest = (_, inr whole_stream, front_behind old mid new (changes_text published) _ all_written rest)

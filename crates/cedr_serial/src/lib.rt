@@ -3,7 +3,8 @@
 //! `read_sources` reads all sources of a plan. Their messages are fed to the plan's network in rounds, one of each source,
 //! and it settles behind each round (`feed_round`, `feed_all`). `write_answer` writes the rows, and what ports forgot.
 //! `fed_sources` says that the lists that went over the network are then a run of the plan over the whole sources.
-//! `answer_sources` and `answer_rows` do all this, and `stream_sources` writes the changes of the answer as they come.
+//! `answer_sources` and `answer_rows` do all this, and `stream_sources` writes the changes of the answer as they come, by what
+//! a reader sees of the versions in which they are published.
 #![tactic(auto)]
 
 mod answer;
@@ -12,6 +13,7 @@ mod law;
 mod query;
 mod sources;
 mod stream;
+mod watch;
 
 pub use answer::{has_memory, write_answer};
 pub use feeding::{Remaining, feed_all, feed_round};

@@ -1,5 +1,6 @@
-ghost use Rattle.std.specs.Prelude.{◌≡◌, ◌<◌, ◌≤◌, ◌++◌, ℕ, List, [], OnOk, OnErr, IfOk, length, drop, true, false, if◌then◌else◌};
+ghost use Rattle.std.specs.Prelude.{◌≡◌, ◌<◌, ◌≤◌, ◌⊎◌, ◌++◌, ℕ, List, [], OnOk, OnErr, IfOk, length, drop, true, false, if◌then◌else◌};
 ghost use Rattle.std.specs.Io.KnownBytes.{Appends};
+ghost use Rattle.cedr_history.specs.declared.close.Close.TheVariants.{Open};
 ghost use Rattle.cedr_io.specs.Asked.{AppendsFront};
 ghost use Rattle.cedr_io.specs.Counts.{Counts};
 ghost use Rattle.cedr_laws.specs.Lists.{Lists, list_at};
@@ -9,56 +10,95 @@ ghost use Rattle.cedr_plan.specs.Rules.{IsPlan};
 ghost use Rattle.cedr_runs.specs.Runs.{sources_in};
 ghost use Rattle.cedr_runs.specs.Without.{forgot_in};
 ghost use Rattle.cedr_serial.specs.Answers.{tail_text};
-ghost use Rattle.cedr_serial.specs.Feeding.{AreSources, FeedStands, IsSettledAt, left_count};
-ghost use Rattle.cedr_serial.specs.Queries.{IsStreamText, MayStream, changes_text};
-ghost use Rattle.cedr_serial.specs.Streaming.{StreamsOn, StreamStops};
+ghost use Rattle.cedr_serial.specs.Feeding.{AreSources, IsSettledAt, left_count};
+ghost use Rattle.cedr_serial.specs.Queries.{IsStreamText, IsStreamedSoFar, MayStream, changes_text};
+ghost use Rattle.cedr_serial.specs.Streaming.{AreWritten, MayTell, Streams, WritesOn, WritesFront, written_of};
 
 use crate::answer::{has_memory, write_tail};
 use crate::feeding::{Remaining, feed_round};
+use crate::watch::{look_on, see};
 use cedr_base::{Change, OutOfMemory};
+use cedr_history::{Reader, Writer, new_history};
 use cedr_io::{OutsideFault, Sink, write_all};
 use cedr_net::{SerialNet, network_runs};
 use cedr_plan::{Plan, PlanNode};
-use cedr_text::write_change;
 use std::alloc::Global;
+use std::sync::Wait;
 
-/// The lines of changes.
-fn append_changes(changes: &[Change], text: &mut Vec<u8>) -> Result<(), OutOfMemory>
-    ensures { OnOk result (text.new.items ≡ text.old.items ++ changes_text changes.now) }
+/// The result as versions, and how many of the changes that its reader saw were written.
+struct Versions {
+    writer: Writer,
+    reader: Reader,
+    written: usize,
+}
+
+/// Ends both ends of the versions.
+fn close<R: Wait>(rt: &R, versions: Versions) {
+    let Versions {
+        writer,
+        reader: _reader,
+        written: _written,
+    } = versions;
+    writer.end(rt);
+}
+
+/// Adds copies of changes to what is pending.
+fn append_copies(alloc: Global, changes: &[Change], writer: &mut Writer) -> Result<(), OutOfMemory>
+    requires { writer.old.all.close ≡ Open }
+    ensures ok { OnOk result (writer.new ≡ record writer.old { all = record writer.old.all { changes = writer.old.all.changes ++ changes.now } }) }
+    ensures err { OnErr result ((writer.new.history ≡ writer.old.history) × (writer.new.published ≡ writer.old.published) × (writer.new.told ≡ writer.old.told)) }
 {
     for change in changes {
-        write_change(change, text)?;
+        let copied = change.copy(alloc)?;
+        writer.append(copied)?;
     }
     Ok(())
 }
 
-/// Writes the changes from one on, by one write where there are any.
-fn write_changes<K: Sink>(
+/// Publishes the changes from one on, where there are any, and writes all that the reader then sees. At an error they are
+/// published all or not at all.
+fn show<R: Wait, K: Sink>(
+    rt: &R,
     alloc: Global,
     changes: &[Change],
     first: usize,
+    versions: &mut Versions,
     out: &mut K,
 ) -> Result<(), OutsideFault>
-    requires { first ≤ length changes.now }
-    ensures ok { OnOk result (Appends (K.written out.old) (K.written out.new) (changes_text (drop first changes.now))) }
-    ensures err { OnErr result (AppendsFront (K.written out.old) (K.written out.new) (changes_text (drop first changes.now))) }
+    requires first { first ≤ length changes.now }
+    requires versions { AreWritten versions.old }
+    ensures tell { MayTell versions.new }
+    ensures ok { OnOk result (AreWritten versions.new × (versions.new.writer.published.changes ≡ versions.old.writer.published.changes ++ drop first changes.now)) }
+    ensures err { OnErr result ((versions.new.writer.published ≡ versions.old.writer.published) ⊎ (versions.new.writer.published.changes ≡ versions.old.writer.published.changes ++ drop first changes.now)) }
+    ensures wrote { OnOk result (WritesOn (written_of versions.old) (written_of versions.new) (K.written out.old) (K.written out.new)) }
+    ensures begun { OnErr result (WritesFront (written_of versions.old) versions.new.reader.seen.changes (K.written out.old) (K.written out.new)) }
     ensures counted { Counts result (K.faults out.old) (K.faults out.new) }
 {
-    let mut text = Vec::new(alloc);
-    append_changes(&changes[first..], &mut text)?;
-    write_all(out, text.as_slice())
+    if first == changes.len() {
+        return Ok(());
+    }
+    append_copies(alloc, &changes[first..], &mut versions.writer)?;
+    let note = versions.writer.publish(rt)?;
+    versions.reader.learn(note);
+    look_on(rt, alloc, &mut versions.reader, &mut versions.written, out)
 }
 
 /// A round, and the changes that the output gave in it. Whether a source had a message left.
-fn stream_round<K: Sink>(
+fn stream_round<R: Wait, K: Sink>(
+    rt: &R,
     alloc: Global,
     net: &mut SerialNet,
     left: &mut Vec<Remaining>,
+    versions: &mut Versions,
     out: &mut K,
 ) -> Result<bool, OutsideFault>
-    requires { (nodes : List PlanNode) × (whole : Lists) × FeedStands nodes net.old left.old.items whole }
-    ensures ok { OnOk result ((nodes : List PlanNode) (whole : Lists) (f : FeedStands nodes net.old left.old.items whole) → StreamsOn nodes net.new left.new.items whole f.given (K.written out.old) (K.written out.new) × IsSettledAt nodes net.new) }
-    ensures err { OnErr result ((nodes : List PlanNode) (whole : Lists) (f : FeedStands nodes net.old left.old.items whole) → StreamStops nodes whole f.given (K.written out.old) (K.written out.new)) }
+    requires versions { AreWritten versions.old }
+    requires streams { (nodes : List PlanNode) × (whole : Lists) × Streams nodes net.old left.old.items whole versions.old.writer.published.changes }
+    ensures tell { MayTell versions.new }
+    ensures ok { OnOk result (AreWritten versions.new × ((nodes : List PlanNode) (whole : Lists) → Streams nodes net.old left.old.items whole versions.old.writer.published.changes → Streams nodes net.new left.new.items whole versions.new.writer.published.changes × IsSettledAt nodes net.new)) }
+    ensures err { OnErr result ((nodes : List PlanNode) (whole : Lists) → Streams nodes net.old left.old.items whole versions.old.writer.published.changes → IsStreamedSoFar nodes (sources_in nodes whole) (changes_text versions.new.writer.published.changes)) }
+    ensures wrote { OnOk result (WritesOn (written_of versions.old) (written_of versions.new) (K.written out.old) (K.written out.new)) }
+    ensures begun { OnErr result (WritesFront (written_of versions.old) versions.new.reader.seen.changes (K.written out.old) (K.written out.new)) }
     ensures fed { IfOk result (λ fed. fed ≡ true → left_count left.new.items < left_count left.old.items) }
     ensures none { IfOk result (λ fed. fed ≡ false → (k : ℕ) → list_at left.new.items k ≡ []) }
     ensures counted { Counts result (K.faults out.old) (K.faults out.new) }
@@ -66,24 +106,54 @@ fn stream_round<K: Sink>(
     network_runs();
     let first = net.changes().len();
     let fed = feed_round(alloc, net, left)?;
-    write_changes(alloc, net.changes(), first, out)?;
+    show(rt, alloc, net.changes(), first, versions, out)?;
     Ok(fed)
 }
 
 /// Rounds until each source has given all its messages.
-fn stream_rounds<K: Sink>(
+fn stream_rounds<R: Wait, K: Sink>(
+    rt: &R,
     alloc: Global,
     net: &mut SerialNet,
     left: &mut Vec<Remaining>,
+    versions: &mut Versions,
     out: &mut K,
 ) -> Result<(), OutsideFault>
-    requires { (nodes : List PlanNode) × (whole : Lists) × FeedStands nodes net.old left.old.items whole }
-    ensures ok { OnOk result ((nodes : List PlanNode) (whole : Lists) (f : FeedStands nodes net.old left.old.items whole) → StreamsOn nodes net.new left.new.items whole f.given (K.written out.old) (K.written out.new) × IsSettledAt nodes net.new × ((k : ℕ) → list_at left.new.items k ≡ [])) }
-    ensures err { OnErr result ((nodes : List PlanNode) (whole : Lists) (f : FeedStands nodes net.old left.old.items whole) → StreamStops nodes whole f.given (K.written out.old) (K.written out.new)) }
+    requires versions { AreWritten versions.old }
+    requires streams { (nodes : List PlanNode) × (whole : Lists) × Streams nodes net.old left.old.items whole versions.old.writer.published.changes }
+    ensures tell { MayTell versions.new }
+    ensures ok { OnOk result (AreWritten versions.new × ((nodes : List PlanNode) (whole : Lists) → Streams nodes net.old left.old.items whole versions.old.writer.published.changes → Streams nodes net.new left.new.items whole versions.new.writer.published.changes × IsSettledAt nodes net.new × ((k : ℕ) → list_at left.new.items k ≡ []))) }
+    ensures err { OnErr result ((nodes : List PlanNode) (whole : Lists) → Streams nodes net.old left.old.items whole versions.old.writer.published.changes → IsStreamedSoFar nodes (sources_in nodes whole) (changes_text versions.new.writer.published.changes)) }
+    ensures wrote { OnOk result (WritesOn (written_of versions.old) (written_of versions.new) (K.written out.old) (K.written out.new)) }
+    ensures begun { OnErr result (WritesFront (written_of versions.old) versions.new.reader.seen.changes (K.written out.old) (K.written out.new)) }
     ensures counted { Counts result (K.faults out.old) (K.faults out.new) }
 {
-    while stream_round(alloc, net, left, out)? {}
+    while stream_round(rt, alloc, net, left, versions, out)? {}
     Ok(())
+}
+
+/// The same, and a last read. The reader then sees what is published, and of that all was written, or at an error a front of
+/// its text.
+fn stream_changes<R: Wait, K: Sink>(
+    rt: &R,
+    alloc: Global,
+    net: &mut SerialNet,
+    left: &mut Vec<Remaining>,
+    versions: &mut Versions,
+    out: &mut K,
+) -> Result<(), OutsideFault>
+    requires versions { AreWritten versions.old }
+    requires streams { (nodes : List PlanNode) × (whole : Lists) × Streams nodes net.old left.old.items whole versions.old.writer.published.changes }
+    ensures ok { OnOk result ((nodes : List PlanNode) (whole : Lists) → Streams nodes net.old left.old.items whole versions.old.writer.published.changes → Streams nodes net.new left.new.items whole versions.new.writer.published.changes × IsSettledAt nodes net.new × ((k : ℕ) → list_at left.new.items k ≡ [])) }
+    ensures err { OnErr result ((nodes : List PlanNode) (whole : Lists) → Streams nodes net.old left.old.items whole versions.old.writer.published.changes → IsStreamedSoFar nodes (sources_in nodes whole) (changes_text versions.new.writer.published.changes)) }
+    ensures wrote { OnOk result (WritesOn (written_of versions.old) versions.new.writer.published.changes (K.written out.old) (K.written out.new)) }
+    ensures begun { OnErr result (WritesFront (written_of versions.old) versions.new.writer.published.changes (K.written out.old) (K.written out.new)) }
+    ensures counted { Counts result (K.faults out.old) (K.faults out.new) }
+{
+    let done = stream_rounds(rt, alloc, net, left, versions, out);
+    versions.reader.learn(versions.writer.last());
+    see(rt, alloc, &mut versions.reader);
+    done
 }
 
 /// Writes what was forgotten, by one write, where that is asked for.
@@ -108,11 +178,13 @@ fn stream_tail<K: Sink>(
 }
 
 /// Writes the changes of a plan's answer over whole sources as they come: behind each round those that the output gave in it,
-/// and at the end what was forgotten, where some port has a finite memory. Each round with changes, and the end, is one
-/// call of `write_all`. Where a write is refused or memory runs out a front was written of the changes that the output had
-/// given by then, or of the whole text. O(n) in the changes, besides what feeding the network costs. The network holds all
-/// changes anyhow; beside it the text of one round is held.
-pub fn stream_sources<K: Sink>(
+/// and at the end what was forgotten, where some port has a finite memory. The changes are published as versions, and what
+/// is written is what their reader sees; `rt` is for the waits of the two. Each round with changes, and the end, is one call
+/// of `write_all`. Where a write is refused or memory runs out a front was written of the changes that the output had given
+/// by then, or of the whole text. O(n) in the changes, besides what feeding the network costs. The network holds all changes
+/// anyhow, and the versions a copy of each. Beside them the changes of one round are held once more, and their text.
+pub fn stream_sources<R: Wait, K: Sink>(
+    rt: &R,
     alloc: Global,
     plan: &Plan,
     mut left: Vec<Remaining>,
@@ -126,7 +198,15 @@ pub fn stream_sources<K: Sink>(
 {
     network_runs();
     let mut net = SerialNet::new(alloc, plan)?;
-    stream_rounds(alloc, &mut net, &mut left, out)?;
+    let (writer, reader) = new_history(alloc, rt)?;
+    let mut versions = Versions {
+        writer,
+        reader,
+        written: 0,
+    };
+    let done = stream_changes(rt, alloc, &mut net, &mut left, &mut versions, out);
+    close(rt, versions);
+    done?;
     let nodes = plan.nodes.as_slice();
     stream_tail(alloc, nodes, &net, has_memory(nodes), out)
 }

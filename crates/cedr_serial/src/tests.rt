@@ -10,6 +10,7 @@ use cedr_net::SerialNet;
 use cedr_plan::{Plan, PlanNode, read_plan};
 use cedr_text::LineFault;
 use std::alloc::Global;
+use std::sync::Wait;
 use std::test::Fail;
 
 const JOIN: &str = r#"{"version":1,"nodes":[
@@ -89,12 +90,18 @@ fn answer(alloc: Global, text: &str, files: &mut MemFiles) -> Result<Vec<u8>, Fa
 }
 
 /// Streams the answer of a plan over one source of these bytes.
-fn stream(alloc: Global, text: &str, events: &[u8], out: &mut MemSink) -> Result<bool, Fail> {
+fn stream<R: Wait>(
+    rt: &R,
+    alloc: Global,
+    text: &str,
+    events: &[u8],
+    out: &mut MemSink,
+) -> Result<bool, Fail> {
     let mut files = MemFiles::new(alloc);
     files.add("s.csv", events)?;
     let plan = plan(alloc, text)?;
     let left = read(alloc, plan.nodes.as_slice(), &mut files)?;
-    match stream_sources(alloc, &plan, left, out) {
+    match stream_sources(rt, alloc, &plan, left, out) {
         Ok(()) => Ok(true),
         Err(OutsideFault::Failed) => Ok(false),
         Err(OutsideFault::OutOfMemory) => Err("out of memory")?,
@@ -223,7 +230,7 @@ fn changes_are_streamed_as_they_come(rt: HostRuntime) -> Result<(), Fail> {
         ),
     ] {
         let mut out = MemSink::new(rt.alloc());
-        assert!(rt; stream(rt.alloc(), plan, events, &mut out)?);
+        assert!(rt; stream(&rt, rt.alloc(), plan, events, &mut out)?);
         assert!(rt; out.written() == wanted);
     }
     Ok(())
@@ -238,7 +245,7 @@ fn a_refused_write_leaves_a_front(rt: HostRuntime) -> Result<(), Fail> {
         out.set_piece(4);
         out.fail_write(call)?;
         let events = b"+,1,1,10,a\n+,2,2,9,b\n-,1,5\n";
-        assert!(rt; !stream(alloc, MIDDLE, events, &mut out)?);
+        assert!(rt; !stream(&rt, alloc, MIDDLE, events, &mut out)?);
         assert!(rt; out.written() == &wanted[..count]);
     }
     Ok(())

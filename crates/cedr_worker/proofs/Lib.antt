@@ -1,5 +1,7 @@
 pub mod EndLemmas
 pub mod FedLemmas
+pub mod OutputLemmas
+pub mod OutputLists
 pub mod ReadingLemmas
 pub mod SourceLemmas
 pub mod SourceOutlets

@@ -1,5 +1,7 @@
 pub mod Inputs
 pub mod Operators
+pub mod OutputTurns
+pub mod Outputs
 pub mod SourceSteps
 pub mod SourceTurns
 pub mod Sources

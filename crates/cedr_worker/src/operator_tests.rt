@@ -1,4 +1,4 @@
-ghost use Rattle.std.specs.Prelude.{◌≡◌, List, [], IfOk, IfErr, OnOk, replicate};
+ghost use Rattle.std.specs.Prelude.{◌≡◌, ◌≤◌, List, [], IfOk, IfErr, OnOk, replicate};
 ghost use Rattle.cedr_node.specs.Nodes.{port_count, NodeStands};
 ghost use Rattle.cedr_plan.specs.Rules.{IsPlan};
 ghost use Rattle.msg_feed.specs.Came.{StandsFor};
@@ -30,9 +30,9 @@ const UNION: &str = r#"{"version":1,"nodes":[
 
 /// The end of an edge that a test puts on, and what came over it.
 #[derive(Drop)]
-struct Feeder {
-    out: EdgeOut,
-    came: Came,
+pub(crate) struct Feeder {
+    pub(crate) out: EdgeOut,
+    pub(crate) came: Came,
 }
 
 /// A worker with one input, and the other ends of its edges.
@@ -75,12 +75,13 @@ pub(crate) fn read_node(alloc: Global, text: &str, place: usize, ports: usize) -
     node_at(alloc, &plan, place, ports)
 }
 
-/// An edge with room for all that a test puts on it.
-fn new_feed(alloc: Global) -> Result<(Feeder, EdgeIn), Fail>
+/// An edge with this room, for what a test puts on it.
+pub(crate) fn feed_of(alloc: Global, room: usize) -> Result<(Feeder, EdgeIn), Fail>
+    requires { (1 ≤ room) × (room ≤ 1024) }
     ensures came { IfOk result (λ f. StandsFor f.0.came f.0.out.sent) }
     ensures taken { IfOk result (λ f. f.1.taken ≡ []) }
 {
-    let (out, input) = new_edge(alloc, 64)?;
+    let (out, input) = new_edge(alloc, room)?;
     let came = Came::new(alloc);
     Ok((Feeder { out, came }, input))
 }
@@ -91,7 +92,7 @@ fn select(alloc: Global, room: bool) -> Result<One, Fail>
     ensures came { IfOk result (λ one. StandsFor one.feed.came one.feed.out.sent) }
 {
     let node = read_node(alloc, SELECT, 1, 1)?;
-    let (feed, input) = new_feed(alloc)?;
+    let (feed, input) = feed_of(alloc, 64)?;
     let capacity = if room { 64 } else { 1 };
     let (out, last) = new_edge(alloc, capacity)?;
     let inputs = vec![in alloc; input]?;
@@ -107,8 +108,8 @@ fn union(alloc: Global) -> Result<Two, Fail>
     ensures right { IfOk result (λ two. StandsFor two.right.came two.right.out.sent) }
 {
     let node = read_node(alloc, UNION, 2, 2)?;
-    let (left, first) = new_feed(alloc)?;
-    let (right, second) = new_feed(alloc)?;
+    let (left, first) = feed_of(alloc, 64)?;
+    let (right, second) = feed_of(alloc, 64)?;
     let (out, last) = new_edge(alloc, 64)?;
     let inputs = vec![in alloc; first, second]?;
     let outputs = vec![in alloc; out]?;
@@ -122,7 +123,12 @@ fn union(alloc: Global) -> Result<Two, Fail>
 }
 
 /// Puts a message that may come.
-fn feed<R: Wait>(rt: &R, alloc: Global, feed: &mut Feeder, told: Told) -> Result<(), Fail>
+pub(crate) fn feed<R: Wait>(
+    rt: &R,
+    alloc: Global,
+    feed: &mut Feeder,
+    told: Told,
+) -> Result<(), Fail>
     requires { StandsFor feed.old.came feed.old.out.sent }
     ensures { OnOk result (StandsFor feed.new.came feed.new.out.sent) }
 {
@@ -278,10 +284,10 @@ fn drive<R: Wait>(
 
 /// A gate that counts how often it was passed by the worker with this number, and by others.
 #[derive(Drop)]
-struct Counter {
-    number: usize,
-    passed: AtomicU64,
-    others: AtomicU64,
+pub(crate) struct Counter {
+    pub(crate) number: usize,
+    pub(crate) passed: AtomicU64,
+    pub(crate) others: AtomicU64,
 }
 
 impl Gate for Counter {

@@ -37,7 +37,7 @@ pub(crate) fn all_closed(inputs: &Vec<EdgeIn>) -> bool
 }
 
 /// Lets the node take a message, and hands out the piece that it gives for it.
-fn take_on(
+pub(crate) fn take_on(
     alloc: Global,
     node: &mut Node,
     port: usize,

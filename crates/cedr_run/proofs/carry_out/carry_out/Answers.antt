@@ -16,11 +16,11 @@ returns-in-Check-clause-ends g c = subst (λ (job : Job). CommandEnds (record { 
 pub returns-in-Check-clause-asked : goal.returns-in-Check-clause-asked
 returns-in-Check-clause-asked g c = subst (λ (job : Job). AsksOnly (record { job = job; file = c.args.file.now; script = c.args.script.now }) (seen_files g.F.Files.content g.F.Files.faults g.F.Files.asked c.args.files.now) (seen_files g.F.Files.content g.F.Files.faults g.F.Files.asked c.check.new.files)) (sym c.in-Check.is) (c.check.ensures.asked c.args.script.now)
 
-pub returns-in-Serial-clause-ends : goal.returns-in-Serial-clause-ends
-returns-in-Serial-clause-ends g c = c.on_sources.ensures.ends c.args.script.now
+pub returns-in_default-clause-ends : goal.returns-in_default-clause-ends
+returns-in_default-clause-ends g c = c.on_sources.ensures.ends c.args.script.now
 
-pub returns-in-Serial-clause-asked : goal.returns-in-Serial-clause-asked
-returns-in-Serial-clause-asked g c = c.on_sources.ensures.asked c.args.script.now
+pub returns-in_default-clause-asked : goal.returns-in_default-clause-asked
+returns-in_default-clause-asked g c = c.on_sources.ensures.asked c.args.script.now
 
 pub returns-in-Live-clause-ends : goal.returns-in-Live-clause-ends
 returns-in-Live-clause-ends g c = subst (λ (job : Job). CommandEnds (record { job = job; file = c.args.file.now; script = c.args.script.now }) (seen_files g.F.Files.content g.F.Files.faults g.F.Files.asked c.args.files.now) (seen_files g.F.Files.content g.F.Files.faults g.F.Files.asked c.live.new.files) (seen_sink g.K.Sink.written g.K.Sink.faults c.args.out.now) (seen_sink g.K.Sink.written g.K.Sink.faults c.live.new.out) c.live.result) (sym c.in-Live.is) c.live.ensures.ends

@@ -3,7 +3,7 @@ use Rattle.std.proofs.lemmas.List.{take_more, flat_map_more}
 use Rattle.cedr_base.specs.declared.change.Change.{Change}
 use Rattle.cedr_text.specs.Texts.{change_text}
 use Rattle.cedr_serial.specs.Queries.{changes_text}
-use Rattle.cedr_serial.proofs.stream.append_changes.Goals as goal
+use Rattle.cedr_serial.proofs.watch.append_changes.Goals as goal
 
 pub loop-change-preserved : goal.loop-change-preserved
 loop-change-preserved c =

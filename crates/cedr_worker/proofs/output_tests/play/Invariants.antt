@@ -1,0 +1,6 @@
+use Rattle.msg_feed.specs.Came.{StandsFor}
+use Rattle.cedr_worker.specs.OutputTurns.{OutputWorks}
+use Rattle.cedr_worker.proofs.output_tests.play.Given as goal
+
+abbrev pub invariant-loop-i : goal.invariant-loop-i
+invariant-loop-i g l = OutputWorks l.made.worker × StandsFor l.made.one.came l.made.one.out.sent
