@@ -66,7 +66,7 @@ fn words(rt: &HostRuntime) -> io::Result<Vec<String>> {
     Ok(words)
 }
 
-/// Carries out the command that the words name. `waits` is the runtime again, as what may wait, which `main` alone can hand on.
+/// Carries out the command that the words name. `waits` is the runtime again: only `main` can hand it on as what may wait.
 fn answer<R: Wait>(rt: &HostRuntime, waits: &R, words: &[String]) -> Status {
     let mut out = StdSink::out(rt);
     if let [word] = words {

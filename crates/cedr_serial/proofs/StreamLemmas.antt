@@ -50,10 +50,12 @@ module _ (nodes : List PlanNode) (before after : Lists) (grow : AllGrow before a
   more_changes : List Change
   more_changes = changes_of (grow.grows (output_place nodes)).0
 
+  -- as what was read of the network says
   new_more : new ≡ old ++ more_changes
   unfolding more_changes
   new_more = new_is ∙ (changes_more nodes before after grow ∙ ap (λ (cs : List Change). cs ++ changes_of (grow.grows (output_place nodes)).0) (sym old_is))
 
+  -- so that the new ones begin within them
   pub first_within : length old ≤ length new
   first_within = omega (arith, ap (λ (cs : List Change). length cs) new_more, length-append old more_changes)
 

@@ -1,5 +1,5 @@
 -- Both ends of the versions, where changes are published and read.
-use Rattle.std.proofs.Common.{◌≡◌, ℕ, true, List, ◌++◌, length, take, drop, ap, sym, ◌∙◌, subst, arith}
+use Rattle.std.proofs.Common.{◌≡◌, ℕ, ◌≤◌, true, List, ◌++◌, length, take, drop, ap, sym, ◌∙◌, subst, arith, length-append}
 use Rattle.std.specs.Prelude.{Option, Some, IfSome, MatchBool}
 use mathlib.Core.List.{IsPrefix}
 use Rattle.std.proofs.lemmas.List.{take_all, take-append-drop}
@@ -7,7 +7,7 @@ use Rattle.cedr_base.specs.declared.change.Change.{Change}
 use Rattle.cedr_history.specs.declared.listed.Listed.{Listed}
 use Rattle.cedr_history.specs.Ends.{Reads, Told, Writing}
 use Rattle.cedr_history.specs.Lists.{Extends}
-use Rattle.cedr_history.proofs.Fronts.{prefix_length, prefix_trans, prefix_whole}
+use Rattle.cedr_history.proofs.Fronts.{prefix_trans, prefix_whole}
 use Rattle.cedr_serial.specs.Streaming.{AreWritten, ReadsOn, WritesFront, WritesOn, written_of}
 use Rattle.cedr_serial.specs.declared.stream.Versions.{Versions}
 use Rattle.cedr_serial.proofs.WatchLemmas.{front_further}
@@ -41,7 +41,8 @@ all_written : (v : Versions) → AreWritten v → IsPrefix v.reader.seen.changes
 all_written v h seen =
     let published = v.writer.published.changes in
     let first : IsPrefix (written_of v) published = prefix_trans (written_of v) v.reader.seen.changes published (drop v.written v.reader.seen.changes, take-append-drop v.written v.reader.seen.changes) seen in
-    prefix_whole (written_of v) published first (prefix_length published (written_of v) h.published)
+    let long : length published ≤ length (written_of v) = omega (arith, sym (ap (λ (cs : List Change). length cs) h.published.1) ∙ length-append published h.published.0) in
+    prefix_whole (written_of v) published first long
 
 -- the reader learnt the last note, and read once more
 module _ (v : Versions) (writer : Writing) (note : Told) (learned reader : Reads) (told : writer ≡ record v.writer { told = true }) (note_is : note ≡ record { history = v.writer.history; list = v.writer.published; last = true })

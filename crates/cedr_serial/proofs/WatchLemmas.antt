@@ -53,9 +53,11 @@ front_longer old new text more front =
 
 -- ---- the lists of a reader
 
+-- each list goes on from itself
 pub extends_self : (l : Listed) → Extends l l
 extends_self l = (prefix_self l.changes, omega arith, λ closed. refl)
 
+-- and from what an earlier one goes on from
 pub extends_along : (a b c : Listed) → Extends a b → Extends b c → Extends a c
 extends_along a b c first next = (
   prefix_trans a.changes b.changes c.changes first.0 next.0,
@@ -79,9 +81,11 @@ look_more written max old new within later room =
 pub written_first : (written : ℕ) (old new : Listed) → Extends old new → IsPrefix (take written old.changes) new.changes
 written_first written old new later = prefix_trans (take written old.changes) old.changes new.changes (drop written old.changes, take-append-drop written old.changes) later.0
 
+-- a reader that did nothing
 pub reads_self : (r : Reads) → ReadsOn r r
 reads_self r = record { history = refl; last = refl; later = extends_self r.seen }
 
+-- a reader that read, and read again
 pub reads_along : (a b c : Reads) → ReadsOn a b → ReadsOn b c → ReadsOn a c
 reads_along a b c first next = record {
   history = next.history ∙ first.history;
@@ -91,9 +95,11 @@ reads_along a b c first next = record {
 
 -- ---- one after the other
 
+-- nothing is new, and nothing was written
 pub writes_none : (list : List Change) (bytes : Option (List ℕ)) → WritesOn list list bytes bytes
 writes_none list bytes = record { more = []; list_is = sym (append-nil list); wrote = Appends-nil bytes }
 
+-- what was written, and what was written behind it
 pub writes_along : (one two three : List Change) (old mid new : Option (List ℕ)) → WritesOn one two old mid → WritesOn two three mid new → WritesOn one three old new
 writes_along one two three old mid new first next = record {
   more = first.more ++ next.more;
@@ -101,6 +107,7 @@ writes_along one two three old mid new first next = record {
   wrote = subst (Appends old new) (sym (flat_map-append change_text first.more next.more)) (Appends-trans old mid new (changes_text first.more) (changes_text next.more) first.wrote next.wrote);
 }
 
+-- what was written, and a front of what follows
 pub front_along : (one two three : List Change) (old mid new : Option (List ℕ)) → WritesOn one two old mid → WritesFront two three mid new → WritesFront one three old new
 front_along one two three old mid new first next = record {
   more = first.more ++ next.more;
