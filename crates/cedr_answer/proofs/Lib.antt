@@ -1,0 +1,3 @@
+pub mod FindLemmas
+pub mod EndLemmas
+pub mod TextLemmas

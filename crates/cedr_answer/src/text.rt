@@ -1,0 +1,134 @@
+ghost use Rattle.std.specs.Prelude.{ℕ, ◌≡◌, ◌<◌, ◌++◌, [], List, map, length, IfOk, OnOk};
+ghost use Rattle.std.specs.List.{All};
+ghost use Rattle.cedr_base.specs.declared.change.Message.{Message};
+ghost use Rattle.cedr_base.specs.declared.row.Row.{Row};
+ghost use Rattle.cedr_base.specs.Changes.{MayFollow};
+ghost use Rattle.cedr_base.specs.Messages.{IsLegal, IsTableOf, changes_of};
+ghost use Rattle.cedr_base.specs.Rows.{in_order};
+ghost use Rattle.cedr_crew.specs.declared.forgotten.PortForgotten.{PortForgotten};
+ghost use Rattle.cedr_crew.specs.Forgettings.{nodes_told, told as as_told};
+ghost use Rattle.cedr_laws.specs.declared.forgotten.Forgotten.{Forgotten};
+ghost use Rattle.cedr_serial.specs.Answers.{answer_text, cause_text, forgotten_line, port_text};
+ghost use Rattle.cedr_stream.specs.Repairs.{AreLegal, IsMoved, Leads};
+ghost use Rattle.cedr_answer.specs.Reports.{told_text};
+
+use cedr_base::{Change, OutOfMemory, Row, Text};
+use cedr_crew::PortForgotten;
+use cedr_laws::{Cause, Forgotten};
+use cedr_plan::PlanNode;
+use cedr_table::{Table, TableFault};
+use cedr_text::{write_forgotten, write_rows};
+use std::alloc::Global;
+
+/// Applies a change that may follow in a table.
+fn apply_one(table: &mut Table, change: &Change) -> Result<(), OutOfMemory>
+    requires { MayFollow table.old [] change.now }
+    ensures { OnOk result (IsMoved change.now table.old table.new) }
+{
+    match table.apply(change) {
+        Ok(()) => Ok(()),
+        Err(TableFault::OutOfMemory) => Err(OutOfMemory),
+        Err(TableFault::NoSuchRow) => unreachable!(),
+    }
+}
+
+/// Applies changes that are legal from a table on.
+fn apply_all(table: &mut Table, changes: &[Change]) -> Result<(), OutOfMemory>
+    requires { AreLegal table.old [] changes.now }
+    ensures { OnOk result (Leads table.old changes.now table.new) }
+{
+    for change in changes {
+        apply_one(table, change)?;
+    }
+    Ok(())
+}
+
+/// The rows that the changes of a legal list lead to, in canonical order. O(n log n).
+pub fn rows_of(alloc: Global, changes: &[Change]) -> Result<Vec<Row>, OutOfMemory>
+    requires { (given : List Message) × IsLegal given × (changes.now ≡ changes_of given) }
+    ensures { IfOk result (λ sorted. (given : List Message) → IsLegal given → changes.now ≡ changes_of given → (rows : List Row) × IsTableOf given rows × (sorted.items ≡ in_order rows)) }
+{
+    let mut table = Table::new(alloc);
+    apply_all(&mut table, changes)?;
+    table.canonical()
+}
+
+fn cause_text(cause: &Cause) -> &'static str
+    ensures { result.now ≡ cause_text cause.now }
+{
+    match cause {
+        Cause::Late => "late",
+        Cause::Orphan => "orphan",
+    }
+}
+
+/// The line of a change that a port forgot.
+fn write_one(
+    name: &Text,
+    port: usize,
+    one: &Forgotten,
+    out: &mut Vec<u8>,
+) -> Result<(), OutOfMemory>
+    ensures { OnOk result (out.new.items ≡ out.old.items ++ forgotten_line name.now port one.now) }
+{
+    let cause = cause_text(&one.cause);
+    write_forgotten(name, port, cause, one.high, &one.change, out)?;
+    Ok(())
+}
+
+/// The lines of what a port forgot.
+fn write_port(
+    name: &Text,
+    port: usize,
+    forgotten: &[Forgotten],
+    out: &mut Vec<u8>,
+) -> Result<(), OutOfMemory>
+    ensures { OnOk result (out.new.items ≡ out.old.items ++ port_text name.now port forgotten.now) }
+{
+    for one in forgotten {
+        write_one(name, port, one, out)?;
+    }
+    Ok(())
+}
+
+/// The lines of what all ports forgot, in the order in which they are told.
+fn write_ports(
+    nodes: &[PlanNode],
+    forgotten: &[PortForgotten],
+    out: &mut Vec<u8>,
+) -> Result<(), OutOfMemory>
+    requires { All (λ (p : PortForgotten). p.node < length nodes.now) forgotten.now }
+    ensures { OnOk result (out.new.items ≡ out.old.items ++ told_text nodes.now (map as_told forgotten.now)) }
+{
+    for told in forgotten {
+        let name = &nodes[told.node].name;
+        write_port(name, told.port, &told.list, out)?;
+    }
+    Ok(())
+}
+
+/// Appends the rows that the changes of a result lead to in canonical order and, where `told`, a line `--` and a line for each
+/// change that a port forgot: in the order of the nodes, then of their ports, then in the order in which the changes came.
+/// Where memory runs out some of the text may stand there. O(n log n) in the changes.
+pub fn write_report(
+    alloc: Global,
+    nodes: &[PlanNode],
+    changes: &[Change],
+    forgotten: &[PortForgotten],
+    told: bool,
+    out: &mut Vec<u8>,
+) -> Result<(), OutOfMemory>
+    requires changes { (given : List Message) × IsLegal given × (changes.now ≡ changes_of given) }
+    requires forgotten { (listed : List (List (List Forgotten))) × (map as_told forgotten.now ≡ nodes_told 0 listed) × (length listed ≡ length nodes.now) }
+    ensures { OnOk result ((given : List Message) (listed : List (List (List Forgotten))) → IsLegal given → changes.now ≡ changes_of given → map as_told forgotten.now ≡ nodes_told 0 listed → length listed ≡ length nodes.now
+        → (rows : List Row) × IsTableOf given rows × (out.new.items ≡ out.old.items ++ answer_text told nodes.now (in_order rows) listed)) }
+{
+    let rows = rows_of(alloc, changes)?;
+    write_rows(rows.as_slice(), out)?;
+    if !told {
+        return Ok(());
+    }
+    out.extend_from_slice(b"--\n")?;
+    write_ports(nodes, forgotten, out)?;
+    Ok(())
+}

@@ -1,0 +1,5 @@
+pub mod RoundLemmas
+pub mod OutcomeLemmas
+pub mod WatchLemmas
+pub mod ReportLemmas
+pub mod RunLemmas

@@ -1,0 +1,4 @@
+pub mod Seats
+pub mod Watching
+pub mod Reports
+pub mod Rooms

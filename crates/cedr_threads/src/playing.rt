@@ -1,0 +1,110 @@
+//! All workers of a plan, from the start of their threads until each has ended.
+ghost use Rattle.std.specs.Prelude.{◌≡◌, ◌≤◌, [], List, length};
+ghost use Rattle.std.specs.List.{All};
+ghost use Rattle.std.specs.Vec.{vec_capacity};
+ghost use Rattle.cedr_serial.specs.Streaming.{ReadsOn};
+ghost use Rattle.cedr_crew.specs.Roles.{Role, AllWorkAs, HasEnded};
+ghost use Rattle.cedr_threads.specs.Seats.{AllSeatAs};
+ghost use Rattle.cedr_threads.specs.Watching.{Watches};
+
+use crate::post::Post;
+use crate::rounds::{join_each, rest, start_each, turn_here, turn_on};
+use crate::seat::Seat;
+use crate::watcher::Watcher;
+use crate::watching::look_once;
+use cedr_crew::Worker;
+use cedr_history::Reader;
+use cedr_io::{Gate, Source};
+use crossbeam_utils::Backoff;
+use std::collections::VecDeque;
+use std::sync::Wait;
+use std::sync::atomic::{AtomicU64, Ordering};
+use std::thread::Threads;
+use std::time::Clock;
+
+/// How many workers have a thread of their own.
+fn count_away<S: Source + Drop, R: Wait + Drop>(seats: &[Seat<S, R>]) -> usize {
+    seats.iter().filter(|seat| seat.is_away()).count()
+}
+
+/// Turns the workers that have no thread and lets the watcher look, in rounds, until each worker has ended. A round in which
+/// nothing happened here is rested over. Whether the watcher may be asked again.
+fn wait_for_each<S: Source + Drop, G: Gate, W: Watcher, R: Wait + Drop, Q: Wait + Clock>(
+    rt: &Q,
+    gate: &G,
+    ended: &AtomicU64,
+    seats: &mut Vec<Seat<S, R>>,
+    reader: &mut Reader,
+    watcher: &mut W,
+) -> bool
+    requires seats { (roles : List Role) × AllSeatAs S.rest S.faults roles seats.old.items }
+    requires watches { Watches W.stands watcher.old reader.old }
+    ensures seats { (roles : List Role) → AllSeatAs S.rest S.faults roles seats.old.items → AllSeatAs S.rest S.faults roles seats.new.items }
+    ensures reads { ReadsOn reader.old reader.new }
+    ensures watches { Watches W.stands watcher.new reader.new }
+{
+    let away = count_away(seats.as_slice()) as u64;
+    let mut looks = true;
+    let backoff = Backoff::new();
+    for _ in rt.forever() {
+        let over = ended.load(Ordering::SeqCst) >= away;
+        let round = turn_here(rt, gate, seats);
+        looks = look_once(looks, reader, watcher);
+        if over && round.ended {
+            return looks;
+        }
+        if round.moved {
+            backoff.reset();
+        } else {
+            rest(rt, &backoff);
+        }
+    }
+    unreachable!()
+}
+
+/// Each worker after it has ended, and whether the watcher may be asked again.
+#[derive(Drop)]
+pub(crate) struct Played<S: Source + Drop, R: Wait + Drop> {
+    pub(crate) workers: Vec<Worker<S, R>>,
+    pub(crate) looks: bool,
+}
+
+/// Starts a thread for each worker, waits until each has ended, and joins the threads. A worker that a thread gave back before
+/// its end is turned here.
+pub(crate) fn play<
+    S: Source + Drop + Send + 'static,
+    G: Gate + Drop + Send + 'static,
+    W: Watcher,
+    R: Threads + Wait + Clock + Copy + Drop + Send + 'static,
+>(
+    rt: R,
+    gate: &G,
+    workers: Vec<Worker<S, R>>,
+    posts: VecDeque<Post<G>>,
+    seats: Vec<Seat<S, R>>,
+    joined: Vec<Worker<S, R>>,
+    ended: &AtomicU64,
+    reader: &mut Reader,
+    watcher: &mut W,
+) -> Played<S, R>
+    requires works { (roles : List Role) × AllWorkAs S.rest S.faults roles workers.items }
+    requires posts { length posts.items ≡ length workers.items }
+    requires seats { (seats.items ≡ []) × (length workers.items ≤ vec_capacity seats) }
+    requires joined { (joined.items ≡ []) × (length workers.items ≤ vec_capacity joined) }
+    requires watches { Watches W.stands watcher.old reader.old }
+    ensures works { (roles : List Role) → AllWorkAs S.rest S.faults roles workers.items → AllWorkAs S.rest S.faults roles result.workers.items }
+    ensures ended { All HasEnded result.workers.items }
+    ensures reads { ReadsOn reader.old reader.new }
+    ensures watches { Watches W.stands watcher.new reader.new }
+{
+    let mut seats = seats;
+    let mut joined = joined;
+    start_each(rt, VecDeque::from_vec(workers), posts, &mut seats);
+    let looks = wait_for_each(&rt, gate, ended, &mut seats, reader, watcher);
+    join_each(&rt, VecDeque::from_vec(seats), &mut joined);
+    turn_on(&rt, gate, &mut joined);
+    Played {
+        workers: joined,
+        looks,
+    }
+}

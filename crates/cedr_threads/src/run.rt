@@ -1,0 +1,75 @@
+ghost use Rattle.std.specs.Prelude.{◌≡◌, [], List, IfErr, IfOk, OnErr, length};
+ghost use Rattle.cedr_plan.specs.Rules.{IsPlan};
+ghost use Rattle.cedr_query.specs.Queries.{source_count};
+ghost use Rattle.cedr_threads.specs.declared.report.Outcome.TheVariants.{Done};
+ghost use Rattle.cedr_threads.specs.Reports.{IsReport};
+
+use crate::playing::play;
+use crate::report::Report;
+use crate::reporting::{Waited, report_on};
+use crate::room::Room;
+use crate::watcher::Watcher;
+use cedr_crew::{Crew, NoMemory, close_all, new_crew};
+use cedr_io::{Gate, Source};
+use cedr_plan::Plan;
+use std::alloc::Global;
+use std::sync::{Arc, Wait};
+use std::thread::Threads;
+use std::time::Clock;
+
+/// Runs a plan over sources, one for each of its source nodes in order, with a thread for each worker. The watcher looks at the
+/// result while it grows, and stands for the whole of it at [`crate::Outcome::Done`].
+///
+/// All edges, the ends of the result and the lists for the threads are made before anything is read; where memory is lacking
+/// for them the sources are handed back. A worker whose thread is refused is turned by the caller, beside the looks of the
+/// watcher. Each turn of a worker passes the gate with the node's place. It returns once each worker has ended and each thread
+/// was joined; that this ever comes isn't promised.
+pub fn run_threads<
+    S: Source + Drop + Send + 'static,
+    G: Gate + Drop + Send + 'static,
+    W: Watcher,
+    R: Threads + Wait + Clock + Copy + Drop + Send + 'static,
+>(
+    rt: R,
+    alloc: Global,
+    plan: &Plan,
+    sources: Vec<S>,
+    watcher: &mut W,
+    gate: &Arc<G, Global>,
+) -> Result<Report<S>, NoMemory<S>>
+    requires plan { IsPlan plan.now }
+    requires sources { length sources.items ≡ source_count plan.now.nodes.items }
+    requires watcher { W.stands watcher.old [] }
+    ensures report { IfOk result (λ report. IsReport S.rest S.faults plan.now.nodes.items sources.items report) }
+    ensures whole { IfOk result (λ report. report.outcome ≡ Done → W.stands watcher.new report.changes.items) }
+    ensures err { IfErr result (λ e. e.sources.items ≡ sources.items) }
+    ensures unwatched { OnErr result (watcher.new ≡ watcher.old) }
+{
+    let Ok(room) = Room::new(alloc, plan.nodes.len(), gate) else {
+        return Err(NoMemory { sources });
+    };
+    let crew = new_crew(alloc, rt, plan, sources)?;
+    let Crew {
+        workers,
+        mut reader,
+        records,
+    } = crew;
+    let played = play(
+        rt,
+        &**gate,
+        workers,
+        room.posts,
+        room.seats,
+        room.joined,
+        &*room.ended,
+        &mut reader,
+        watcher,
+    );
+    let closed = close_all(alloc, plan, played.workers, room.desk, records);
+    let waited = Waited {
+        reader,
+        looks: played.looks,
+        faults: room.faults,
+    };
+    Ok(report_on(&rt, alloc, plan, closed, waited, room.sources, watcher))
+}

@@ -1,0 +1,25 @@
+ghost use Rattle.std.specs.Prelude.{◌≡◌, List, true, false, IfOk, IfSome, OnErr};
+ghost use mathlib.Core.List.{IsPrefix};
+ghost use Rattle.cedr_base.specs.declared.change.Change.{Change};
+ghost use Rattle.cedr_serial.specs.Streaming.{ReadsOn};
+
+use cedr_base::OutOfMemory;
+use cedr_history::Reader;
+
+/// One who reads the result while it grows. It stands for the changes that it has read, in order, of which there are none at
+/// first.
+pub trait Watcher {
+    // the changes that it has read
+    ghost stands: { Self → List Change → Type 0 };
+
+    /// Reads once, and says whether the read was let in. Where it was, the watcher stands for the whole list that the reader
+    /// entered, and else for the same list as before. At `OutOfMemory` it stands for some first changes of what the reader
+    /// has seen, and isn't asked again.
+    fn look(&mut self, reader: &mut Reader) -> Result<bool, OutOfMemory>
+        requires { (list : List Change) × stands self.old list × IsPrefix list reader.old.seen.changes }
+        ensures reads { ReadsOn reader.old reader.new }
+        ensures seen { IfOk result (λ seen. seen ≡ true → stands self.new reader.new.seen.changes) }
+        ensures none { IfOk result (λ seen. seen ≡ false → (list : List Change) → stands self.old list → stands self.new list) }
+        ensures last { IfOk result (λ seen. seen ≡ true → IfSome reader.old.last (λ l. reader.new.seen ≡ l)) }
+        ensures err { OnErr result ((list : List Change) × stands self.new list × IsPrefix list reader.new.seen.changes) };
+}
