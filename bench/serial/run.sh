@@ -1,8 +1,8 @@
 #!/usr/bin/env bash
-# Times `cedr serial` and `cedr stream` on five plans over generated sources of 10,000, 100,000 and 400,000 events each: a
+# Times `cedr serial`, `cedr run` and `cedr stream` on five plans over generated sources of 10,000, 100,000 and 400,000 events each: a
 # join, a join and a group, a sequence, an unless, and a chain of 40 selects. The first two are also answered by Python over
-# SQLite, in the same run, and the bytes compared. Prints seconds of processor time, events a second of that over all sources,
-# the peak of memory in KiB, and rows. A command that takes over 900 seconds is stopped. Build the program first:
+# SQLite, in the same run, and the bytes compared, as those of `serial` and `run` are. Prints seconds of processor time and of
+# wall time, events a second of the first over all sources, the peak of memory in KiB, and rows. A command that takes over 900 seconds is stopped. Build the program first:
 # (cd crates/cedr && rt run -- --version)
 #
 # usage: bench/serial/run.sh [PROGRAM [SIZE..]]
@@ -26,11 +26,11 @@ has_serial() {
 measure() {
   local name=$1 events=$2 output=$3 status=0
   shift 3
-  /usr/bin/time -q -o time -f "%U %S %M" timeout 900 "$@" > "$output" 2> errors || status=$?
+  /usr/bin/time -q -o time -f "%U %S %M %e" timeout 900 "$@" > "$output" 2> errors || status=$?
   if [ "$status" = 0 ]; then
     awk -v name="$name" -v events="$events" -v rows="$(wc -l < "$output")" '{
       seconds = $1 + $2
-      printf "  %-10s %8.2f s  %9d events/s  %9d KiB  %9d rows\n", name, seconds, events / (seconds > 0 ? seconds : 0.01), $3, rows
+      printf "  %-10s %8.2f s  %8.2f s of wall time  %9d events/s  %9d KiB  %9d rows\n", name, seconds, $4, events / (seconds > 0 ? seconds : 0.01), $3, rows
     }' time
   elif [ "$status" = 124 ]; then
     printf "  %-10s over 900 s\n" "$name"
@@ -61,14 +61,16 @@ for size in "${sizes[@]}"; do
     events=$((2 * size))
     if [ "$plan" = chain ]; then events=$size; fi
     echo "$plan, $size events a source"
-    rm -f by_cedr by_sqlite
+    rm -f by_cedr by_run by_sqlite
     if [ -n "${cedr:-}" ]; then
       measure "serial" "$events" by_cedr "$program" serial "$plan.json" || rm -f by_cedr
+      measure "run" "$events" by_run "$program" run "$plan.json" || rm -f by_run
       measure "stream" "$events" by_stream "$program" stream "$plan.json" || true
     fi
     if [ -n "$sqlite" ] && [[ $plan = join* ]]; then
       measure "SQLite" "$events" by_sqlite python3 "$here/on_sqlite.py" "$plan" || rm -f by_sqlite
     fi
+    if [ -f by_cedr ] && [ -f by_run ]; then cmp by_cedr by_run || exit 1; fi
     if [ -f by_cedr ] && [ -f by_sqlite ]; then cmp by_cedr by_sqlite || exit 1; fi
   done
 done

@@ -5,7 +5,9 @@ use cedr_io::{DiskFiles, OpenGate, OutsideFault, StdSink, write_all};
 use cedr_run::{Status, run};
 use std::io::ErrorKind;
 use std::process::ExitCode;
-use std::sync::Wait;
+use std::sync::{Arc, Wait};
+use std::thread::Threads;
+use std::time::Clock;
 use std::{env, io};
 
 const HELP: &str = "usage: cedr history FILE
@@ -28,7 +30,7 @@ the types of the fields of its result. It opens no event file.
 run reads a plan and the files of its sources, and writes the rows of the plan's answer
 over their canonical histories. Where some level of the plan has a finite memory, a line
 -- and a line for each change that came too late to count follow. serial writes the
-same, and stays on one thread whatever run will do.
+same, on one thread.
 
 stream writes the changes of the answer as they come: an added row behind +, and behind
 - a row that ends earlier, with its new end in front.
@@ -52,10 +54,10 @@ const VERSION: &str = "cedr 0.1.0\n";
 
 fn main(rt: HostRuntime) -> ExitCode {
     let status = match words(&rt) {
-        Ok(words) => answer(&rt, &rt, &words),
+        Ok(words) => answer(&rt, rt, &words),
         Err(error) if error.kind() == ErrorKind::OutOfMemory => lacking(&rt),
         // A word that is no text matches no command, as no word does.
-        Err(_) => answer(&rt, &rt, &[]),
+        Err(_) => answer(&rt, rt, &[]),
     };
     ExitCode::from(status.code())
 }
@@ -66,8 +68,13 @@ fn words(rt: &HostRuntime) -> io::Result<Vec<String>> {
     Ok(words)
 }
 
-/// Carries out the command that the words name. `waits` is the runtime again: only `main` can hand it on as what may wait.
-fn answer<R: Wait>(rt: &HostRuntime, waits: &R, words: &[String]) -> Status {
+/// Carries out the command that the words name. `threads` is the runtime again: only `main` can hand it on as what may wait
+/// and start threads.
+fn answer<R: Threads + Wait + Clock + Copy + Drop + Send + 'static>(
+    rt: &HostRuntime,
+    threads: R,
+    words: &[String],
+) -> Status {
     let mut out = StdSink::out(rt);
     if let [word] = words {
         match word.as_str() {
@@ -76,17 +83,13 @@ fn answer<R: Wait>(rt: &HostRuntime, waits: &R, words: &[String]) -> Status {
             _ => {}
         }
     }
+    let alloc = rt.alloc();
+    let Ok(gate) = Arc::new(alloc, OpenGate) else {
+        return lacking(rt);
+    };
     let mut files = DiskFiles::new(rt);
     let mut err = StdSink::err(rt);
-    run(
-        waits,
-        rt.alloc(),
-        words,
-        &mut files,
-        &mut out,
-        &mut err,
-        &OpenGate,
-    )
+    run(threads, alloc, words, &mut files, &mut out, &mut err, &gate).status
 }
 
 /// Prints the text, or tells standard error why not all of it was printed.

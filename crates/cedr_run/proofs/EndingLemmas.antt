@@ -172,6 +172,11 @@ pub is_opened : (files : FilesSeen) (file : List ℕ) (plan : Plan) → OpensPla
 unfolding IsOpened
 is_opened files file plan h told is = opened_plan (files.content file) (told file) plan is.0 h
 
+-- and is that of the file, where this is told
+pub opened_told : (files : FilesSeen) (file : List ℕ) (nodes : List PlanNode) → IsOpened files file nodes → (told : List ℕ → List ℕ) → AreTold files.content told (file ∷ []) → IsPlanOf (told file) nodes
+unfolding IsOpened
+opened_told files file nodes opened = opened
+
 -- and so were its sources
 pub are_opened : (files files' : FilesSeen) (file : List ℕ) (nodes : List PlanNode) (left : Lists) → IsOpened files file nodes → files'.faults ≡ files.faults
     → ((told : List ℕ → List ℕ) → AreTold files.content told (source_files nodes) → AreRead told nodes left []) → AreOpened files files' file nodes left

@@ -4,3 +4,6 @@ pub mod SayingLemmas
 pub mod EndingLemmas
 pub mod ScriptLemmas
 pub mod MakeLemmas
+pub mod FaultLemmas
+pub mod RunLemmas
+pub mod PlanLemmas

@@ -18,7 +18,14 @@ use Rattle.cedr_plan.specs.CheckTexts.{check_text}
 use Rattle.cedr_plan.specs.declared.fault.PlanKind.{PlanKind}
 use Rattle.cedr_plan.specs.declared.plan.PlanNode.{PlanNode}
 use Rattle.cedr_query.specs.Queries.{output_place, query}
-use Rattle.cedr_serial.specs.Queries.{source_nodes, AreAccepted, IsAnswerText, IsStreamText, LeadsTo, MayStream}
+use Rattle.cedr_crew.specs.Wents.{AreRan}
+use Rattle.cedr_edge.specs.Ends.{Carried}
+use Rattle.cedr_runs.specs.Runs.{IsRun}
+use Rattle.cedr_runs.specs.Without.{forgot_in}
+use Rattle.cedr_serial.specs.Answers.{has_memory, answer_text}
+use Rattle.cedr_serial.specs.Queries.{source_nodes, AreAccepted, IsAnswerText, IsStreamText, LeadsTo, MayStream, rows_without}
+use Rattle.cedr_wires.specs.Wires.{carried, ports_of}
+use Rattle.cedr_worker.specs.declared.ran.Ran.{Ran}
 use Rattle.cedr_serial.specs.Sources.{source_files, AreTold, AllHaveGiven, faulty_from}
 use Rattle.cedr_table.specs.Operators.{Tables, table_at}
 use Rattle.cedr_run.specs.declared.command.Job.{Job}
@@ -70,7 +77,18 @@ pub record AnswersQuery (always : Bool) (told : List ℕ → List ℕ) (nodes : 
   pub accepted : AreAccepted told (source_nodes nodes) sources histories
   pub text_is : IsAnswerText always nodes sources histories text
 
--- the same, of the changes of the answer: they lead to the rows of the answer, and where the output is strong they are one
+-- The same, of a run whose workers sent this over its edges: that is a run of the plan over the messages of the sources, and
+-- the text tells what was forgotten in it. The turns of the workers did so much.
+pub record AnswersRun (told : List ℕ → List ℕ) (nodes : List PlanNode) (edges : List Carried) (ran : List Ran) (text : List ℕ) : Type 0 where
+  pub sources : Lists
+  pub histories : Tables
+  pub accepted : AreAccepted told (source_nodes nodes) sources histories
+  pub given : Lists
+  pub run : IsRun nodes sources (ports_of nodes (carried edges)) given
+  pub text_is : text ≡ answer_text (has_memory nodes) nodes (in_order (rows_without nodes (ports_of nodes (carried edges)) histories)) (forgot_in nodes (ports_of nodes (carried edges)))
+  pub ran_is : AreRan nodes edges ran
+
+-- the same as `AnswersQuery`, of the changes of the answer: they lead to the rows of the answer, and where the output is strong they are one
 -- addition for each of these, in canonical order
 pub record AnswersChanges (told : List ℕ → List ℕ) (nodes : List PlanNode) (text : List ℕ) : Type 0 where
   pub sources : Lists

@@ -8,3 +8,4 @@ pub mod Outcomes
 pub mod Steps
 pub mod Ending
 pub mod Codes
+pub mod Threads

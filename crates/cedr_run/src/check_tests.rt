@@ -41,7 +41,7 @@ fn a_plan_is_answered_by_its_nodes_or_its_first_fault(rt: HostRuntime) -> Result
         ("\"op\":\"sort\"", 2, "", "plan fault 4 node 2\n"),
     ] {
         let bytes = plan(alloc, node)?;
-        let (code, told, complaint) = answer(&rt, "check", "p.json", &bytes)?;
+        let (code, told, complaint) = answer(rt, "check", "p.json", &bytes)?;
         assert_eq!(rt; code, status, "{node}");
         assert_eq!(rt; told.as_slice(), out.as_bytes(), "{node}");
         assert_eq!(rt; complaint.as_slice(), err.as_bytes(), "{node}");
@@ -57,7 +57,7 @@ fn a_fault_of_the_document_has_the_node_0(rt: HostRuntime) -> Result<(), Fail> {
         (b"[]", b"plan fault 3 node 0\n"),
         (b"{\"version\":1,\"nodes\":[]}", b"plan fault 13 node 0\n"),
     ] {
-        let (code, told, complaint) = answer(&rt, "check", "p.json", bytes)?;
+        let (code, told, complaint) = answer(rt, "check", "p.json", bytes)?;
         assert_eq!(rt; (code, told.len()), (2, 0));
         assert_eq!(rt; complaint.as_slice(), err);
     }
@@ -68,11 +68,11 @@ fn a_fault_of_the_document_has_the_node_0(rt: HostRuntime) -> Result<(), Fail> {
 fn a_plan_may_have_1048576_bytes(rt: HostRuntime) -> Result<(), Fail> {
     let mut bytes = plan(rt.alloc(), PROJECT)?;
     bytes.resize(1_048_576, b' ')?;
-    let (code, told, _) = answer(&rt, "check", "p.json", &bytes)?;
+    let (code, told, _) = answer(rt, "check", "p.json", &bytes)?;
     assert_eq!(rt; code, 0);
     assert_eq!(rt; told.as_slice(), LINES.as_bytes());
     bytes.push(b' ')?;
-    let (code, told, complaint) = answer(&rt, "check", "p.json", &bytes)?;
+    let (code, told, complaint) = answer(rt, "check", "p.json", &bytes)?;
     assert_eq!(rt; (code, told.len()), (2, 0));
     assert_eq!(rt; complaint.as_slice(), b"plan fault 1 node 0\n".as_slice());
     Ok(())

@@ -6,8 +6,10 @@ use crate::tests::{ended, words};
 use cedr_base::OutOfMemory;
 use cedr_io::{Files, MemFiles, MemSink, OpenGate};
 use std::alloc::Global;
-use std::sync::Wait;
+use std::sync::{Arc, Wait};
 use std::test::Fail;
+use std::thread::Threads;
+use std::time::Clock;
 
 const PASS: &str = r#"{"version":1,"nodes":[
  {"name":"s","op":"source","file":"s.csv","fields":["text"]},
@@ -73,6 +75,13 @@ const ROWS: &str = r#"{"version":1,"nodes":[
  {"name":"n","op":"union","from":["p","p"]},
  {"name":"out","op":"output","from":["n"]}]}"#;
 
+const APART: &str = r#"{"version":1,"nodes":[
+ {"name":"s","op":"source","file":"s.csv","fields":["text"]},
+ {"name":"w","op":"window","from":["s"],"width":4},
+ {"name":"t","op":"source","file":"t.csv","fields":["text"]},
+ {"name":"n","op":"union","from":["w","t"]},
+ {"name":"out","op":"output","from":["n"]}]}"#;
+
 /// Files by their names.
 type Given = &'static [(&'static str, &'static str)];
 
@@ -88,8 +97,8 @@ fn files(alloc: Global, plan: &str, given: Given) -> Result<MemFiles, OutOfMemor
 }
 
 /// Whether a command over a plan and these files is answered so.
-fn gives<R: Wait + AllocGlobal>(
-    rt: &R,
+fn gives<R: Threads + Wait + Clock + Copy + Drop + Send + AllocGlobal + 'static>(
+    rt: R,
     command: &str,
     plan: &str,
     given: Given,
@@ -172,7 +181,7 @@ fn a_plan_is_run_over_its_sources(rt: HostRuntime) -> Result<(), Fail> {
     ];
     for (plan, given, out) in cases {
         for command in ["run", "serial"] {
-            assert!(rt; gives(&rt, command, plan, given, (0, out, ""))?, "{out}");
+            assert!(rt; gives(rt, command, plan, given, (0, out, ""))?, "{out}");
         }
     }
     Ok(())
@@ -184,15 +193,15 @@ fn what_was_forgotten_follows_the_answer(rt: HostRuntime) -> Result<(), Fail> {
     let lines = "--\nout,0,late,20,+,10,40,c\nout,0,orphan,20,-,25,10,40,c\n";
     for command in ["serial", "run", "audit"] {
         let out = "1,2,a\n20,30,b\n--\nout,0,late,20,+,10,40,c\nout,0,orphan,20,-,25,10,40,c\n";
-        assert!(rt; gives(&rt, command, WEAK_PASS, given, (0, out, ""))?);
+        assert!(rt; gives(rt, command, WEAK_PASS, given, (0, out, ""))?);
     }
     assert!(rt; lines.len() > 3);
     let all: Given = &[("s.csv", "+,1,1,2,a\n")];
-    assert!(rt; gives(&rt, "audit", PASS, all, (0, "1,2,a\n--\n", ""))?);
-    assert!(rt; gives(&rt, "run", PASS, all, (0, "1,2,a\n", ""))?);
+    assert!(rt; gives(rt, "audit", PASS, all, (0, "1,2,a\n--\n", ""))?);
+    assert!(rt; gives(rt, "run", PASS, all, (0, "1,2,a\n", ""))?);
     let streamed =
         "+,1,2,a\n+,20,30,b\n--\nout,0,late,20,+,10,40,c\nout,0,orphan,20,-,25,10,40,c\n";
-    assert!(rt; gives(&rt, "stream", WEAK_PASS, given, (0, streamed, ""))?);
+    assert!(rt; gives(rt, "stream", WEAK_PASS, given, (0, streamed, ""))?);
     Ok(())
 }
 
@@ -200,20 +209,20 @@ fn what_was_forgotten_follows_the_answer(rt: HostRuntime) -> Result<(), Fail> {
 fn changes_are_streamed(rt: HostRuntime) -> Result<(), Fail> {
     let given: Given = &[("s.csv", "+,1,1,20,a\n+,2,4,10,b\n=,10\n-,1,10\n")];
     let strong = "+,1,10,a\n+,4,10,b\n";
-    assert!(rt; gives(&rt, "stream", STRONG_PASS, given, (0, strong, ""))?);
+    assert!(rt; gives(rt, "stream", STRONG_PASS, given, (0, strong, ""))?);
     let middle = "+,1,20,a\n+,4,10,b\n-,10,1,20,a\n";
-    assert!(rt; gives(&rt, "stream", PASS, given, (0, middle, ""))?);
+    assert!(rt; gives(rt, "stream", PASS, given, (0, middle, ""))?);
     Ok(())
 }
 
 #[test]
 fn a_script_is_played(rt: HostRuntime) -> Result<(), Fail> {
     let script: Given = &[("x.txt", "s,+,1,1,5,a\ns,+,2,2,9,b\ns,=,6\n?\n")];
-    assert!(rt; gives(&rt, "live", STRONG_PASS, script, (0, "1,5,a\n. 6\n", ""))?);
+    assert!(rt; gives(rt, "live", STRONG_PASS, script, (0, "1,5,a\n. 6\n", ""))?);
     let unknown: Given = &[("x.txt", "t,=,1\n")];
     assert!(rt;
         gives(
-            &rt,
+            rt,
             "live",
             PASS,
             unknown,
@@ -222,13 +231,13 @@ fn a_script_is_played(rt: HostRuntime) -> Result<(), Fail> {
     );
     let stops: Given = &[("x.txt", "s,+,1,1,5,a\n?\ns,-,2,1\n?\n")];
     let told = (3, "1,5,a\n. 0\n", "events x.txt line 3 fault 7\n");
-    assert!(rt; gives(&rt, "live", PASS, stops, told)?);
+    assert!(rt; gives(rt, "live", PASS, stops, told)?);
     let failures: Given = &[(
         "x.txt",
         "install,+,1,1000,inf,m1\ninstall,+,2,2000,inf,m2\nshutdown,+,1,5000,inf,m1\nshutdown,+,2,6000,inf,m2\n?\nrestart,+,1,5100,inf,m1\n?\n",
     )];
     let out = "5300,5301,m1,m1\n6300,6301,m2,m2\n. 0\n6300,6301,m2,m2\n. 0\n";
-    assert!(rt; gives(&rt, "live", FAILURES, failures, (0, out, ""))?);
+    assert!(rt; gives(rt, "live", FAILURES, failures, (0, out, ""))?);
     Ok(())
 }
 
@@ -237,20 +246,12 @@ fn sources_that_are_not_accepted_are_told(rt: HostRuntime) -> Result<(), Fail> {
     let both: Given = &[("u.csv", "+,1,5,4,a\n"), ("v.csv", "-,3,1\n")];
     let told = (3, "", "events u line 1 fault 4\nevents v line 1 fault 7\n");
     for command in ["run", "serial", "audit", "stream"] {
-        assert!(rt; gives(&rt, command, UNION, both, told)?);
-        assert!(rt; gives(&rt, command, PASS, &[], (4, "", "read fault\n"))?);
-        assert!(rt; gives(&rt, command, "{}", &[], (2, "", "plan fault 3 node 0\n"))?);
+        assert!(rt; gives(rt, command, UNION, both, told)?);
+        assert!(rt; gives(rt, command, PASS, &[], (4, "", "read fault\n"))?);
+        assert!(rt; gives(rt, command, "{}", &[], (2, "", "plan fault 3 node 0\n"))?);
     }
     let number: Given = &[("s.csv", "+,1,0,4,x,y\n")];
-    assert!(rt;
-        gives(
-            &rt,
-            "run",
-            SUM,
-            number,
-            (3, "", "events s line 1 fault 5\n")
-        )?
-    );
+    assert!(rt; gives(rt, "run", SUM, number, (3, "", "events s line 1 fault 5\n"))?);
     Ok(())
 }
 
@@ -260,7 +261,7 @@ fn the_files_are_asked_for_in_the_order_of_the_plan(rt: HostRuntime) -> Result<(
     let given: Given = &[("u.csv", "+,1,1,2,a\n"), ("v.csv", "")];
     let mut files = files(alloc, UNION, given)?;
     let words = words(alloc, &["run", "p.json"])?;
-    let (code, out, _) = ended(&rt, &words, &mut files)?;
+    let (code, out, _) = ended(rt, &words, &mut files)?;
     assert_eq!(rt; (code, out.as_slice()), (0, b"1,2,a\n".as_slice()));
     let [plan, first, second] = files.asked() else {
         return Err("three files are asked for")?;
@@ -282,7 +283,7 @@ fn a_read_that_fails_later_is_told_and_nothing_is_written(rt: HostRuntime) -> Re
         files.set_piece(8);
         files.fail_read("v.csv", 3)?;
         let words = words(alloc, &[command, "p.json"])?;
-        let (code, out, err) = ended(&rt, &words, &mut files)?;
+        let (code, out, err) = ended(rt, &words, &mut files)?;
         assert_eq!(rt; (code, out.len()), (4, 0));
         assert_eq!(rt; err.as_slice(), b"read fault\n".as_slice());
     }
@@ -305,9 +306,8 @@ fn a_stream_and_a_script_leave_what_they_wrote(rt: HostRuntime) -> Result<(), Fa
         let (mut out, mut err) = (MemSink::new(alloc), MemSink::new(alloc));
         out.fail_write(2)?;
         let words = words(alloc, texts)?;
-        let status = run(
-            &rt, alloc, &words, &mut files, &mut out, &mut err, &OpenGate,
-        );
+        let gate = Arc::new(alloc, OpenGate)?;
+        let status = run(rt, alloc, &words, &mut files, &mut out, &mut err, &gate).status;
         assert_eq!(rt; status, Status::Write);
         assert_eq!(rt; out.written(), left.as_bytes());
         assert_eq!(rt; err.written(), b"write fault\n".as_slice());
@@ -325,9 +325,56 @@ fn a_workload_is_summed_up(rt: HostRuntime) -> Result<(), Fail> {
     ] {
         let mut files = MemFiles::new(alloc);
         let words = words(alloc, &["make", events])?;
-        let (code, out, err) = ended(&rt, &words, &mut files)?;
+        let (code, out, err) = ended(rt, &words, &mut files)?;
         assert_eq!(rt; (code, err.len(), files.asked().len()), (0, 0, 0));
         assert_eq!(rt; out.as_slice(), told.as_bytes());
+    }
+    Ok(())
+}
+
+#[test]
+fn a_faulty_source_is_told_by_its_own_name(rt: HostRuntime) -> Result<(), Fail> {
+    let cases: [(Given, &str); 3] = [
+        (
+            &[("s.csv", "+,1,1,20,a\n"), ("t.csv", "*\n")],
+            "events t line 1 fault 2\n",
+        ),
+        (
+            &[("s.csv", "\n*\n"), ("t.csv", "+,1,1,20,a\n")],
+            "events s line 2 fault 2\n",
+        ),
+        (
+            &[("s.csv", "\n*\n"), ("t.csv", "*\n")],
+            "events s line 2 fault 2\nevents t line 1 fault 2\n",
+        ),
+    ];
+    for (given, told) in cases {
+        for command in ["run", "serial", "stream"] {
+            let answered = gives(rt, command, APART, given, (3, "", told))?;
+            assert!(rt; answered, "{command} {told}");
+        }
+    }
+    Ok(())
+}
+
+#[test]
+fn a_run_tells_what_went_over_its_edges(rt: HostRuntime) -> Result<(), Fail> {
+    let alloc = rt.alloc();
+    let given: Given = &[("s.csv", "+,1,1,20,a\n+,2,4,10,b\n=,5\n")];
+    for (command, edges, workers) in [("run", 2, 3), ("serial", 0, 0), ("stream", 0, 0)] {
+        let mut files = files(alloc, GROUP, given)?;
+        let (mut out, mut err) = (MemSink::new(alloc), MemSink::new(alloc));
+        let words = words(alloc, &[command, "p.json"])?;
+        let gate = Arc::new(alloc, OpenGate)?;
+        let ending = run(rt, alloc, &words, &mut files, &mut out, &mut err, &gate);
+        assert_eq!(rt; ending.status, Status::Done);
+        assert_eq!(rt; (ending.edges.len(), ending.ran.len()), (edges, workers));
+        if let ([first, last], [s, g, output]) = (ending.edges.as_slice(), ending.ran.as_slice()) {
+            assert_eq!(rt; (s.number(), g.number(), output.number()), (0, 1, 2));
+            assert_eq!(rt; (s.taken(), s.put()), (0, first.count()));
+            assert_eq!(rt; (g.taken(), g.put()), (first.count(), last.count()));
+            assert_eq!(rt; (output.taken(), output.put()), (last.count(), 0));
+        }
     }
     Ok(())
 }

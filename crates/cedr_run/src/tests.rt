@@ -7,8 +7,10 @@ use super::*;
 use cedr_base::OutOfMemory;
 use cedr_io::{Files, MemFiles, MemSink, OpenGate};
 use std::alloc::Global;
-use std::sync::Wait;
+use std::sync::{Arc, Wait};
 use std::test::Fail;
+use std::thread::Threads;
+use std::time::Clock;
 
 const USAGE: &str =
     "usage: cedr history FILE | check PLAN | serial PLAN | run PLAN | stream PLAN | audit PLAN | live PLAN SCRIPT | make N\n";
@@ -24,16 +26,16 @@ pub(crate) fn words(alloc: Global, texts: &[&str]) -> Result<Vec<String>, OutOfM
 }
 
 /// What `history e.csv` answers and writes for a file of these bytes.
-fn history<R: Wait + AllocGlobal>(
-    rt: &R,
+fn history<R: Threads + Wait + Clock + Copy + Drop + Send + AllocGlobal + 'static>(
+    rt: R,
     bytes: &[u8],
 ) -> Result<(u8, Vec<u8>, Vec<u8>), OutOfMemory> {
     answer(rt, "history", "e.csv", bytes)
 }
 
 /// The status, and what out and err are told, where a command has this one file.
-pub(crate) fn answer<R: Wait + AllocGlobal>(
-    rt: &R,
+pub(crate) fn answer<R: Threads + Wait + Clock + Copy + Drop + Send + AllocGlobal + 'static>(
+    rt: R,
     command: &str,
     file: &str,
     bytes: &[u8],
@@ -46,8 +48,8 @@ pub(crate) fn answer<R: Wait + AllocGlobal>(
 }
 
 /// The status, and what out and err are told, where these words are carried out.
-pub(crate) fn ended<R: Wait + AllocGlobal>(
-    rt: &R,
+pub(crate) fn ended<R: Threads + Wait + Clock + Copy + Drop + Send + AllocGlobal + 'static>(
+    rt: R,
     words: &[String],
     files: &mut MemFiles,
 ) -> Result<(u8, Vec<u8>, Vec<u8>), OutOfMemory>
@@ -55,10 +57,11 @@ pub(crate) fn ended<R: Wait + AllocGlobal>(
 {
     let alloc = rt.alloc();
     let (mut out, mut err) = (MemSink::new(alloc), MemSink::new(alloc));
-    let status = run(rt, alloc, words, files, &mut out, &mut err, &OpenGate);
+    let gate = Arc::new(alloc, OpenGate)?;
+    let ending = run(rt, alloc, words, files, &mut out, &mut err, &gate);
     let written = Vec::from_slice(alloc, out.written())?;
     Ok((
-        status.code(),
+        ending.status.code(),
         written,
         Vec::from_slice(alloc, err.written())?,
     ))
@@ -68,7 +71,10 @@ pub(crate) fn ended<R: Wait + AllocGlobal>(
 type Case = (&'static [u8], u8, &'static str, &'static str);
 
 /// Whether each file is answered so.
-fn are_answered<R: Wait + AllocGlobal>(rt: &R, cases: &[Case]) -> Result<bool, OutOfMemory> {
+fn are_answered<R: Threads + Wait + Clock + Copy + Drop + Send + AllocGlobal + 'static>(
+    rt: R,
+    cases: &[Case],
+) -> Result<bool, OutOfMemory> {
     for (bytes, status, rows, told) in cases {
         let (code, out, err) = history(rt, bytes)?;
         if code != *status
@@ -84,7 +90,7 @@ fn are_answered<R: Wait + AllocGlobal>(rt: &R, cases: &[Case]) -> Result<bool, O
 #[test]
 fn a_file_gives_its_canonical_history(rt: HostRuntime) -> Result<(), Fail> {
     let answered = are_answered(
-        &rt,
+        rt,
         &[
             (b"", 0, "", ""),
             (EVENTS, 0, "1,5,a\n3,inf,b\n", ""),
@@ -127,7 +133,7 @@ fn a_file_gives_its_canonical_history(rt: HostRuntime) -> Result<(), Fail> {
 #[test]
 fn a_faulty_file_is_told_its_first_fault(rt: HostRuntime) -> Result<(), Fail> {
     let answered = are_answered(
-        &rt,
+        rt,
         &[
             (b"*\n", 3, "", "events e.csv line 1 fault 2\n"),
             (b"+,1,1,2,a\r\r\n", 3, "", "events e.csv line 1 fault 2\n"),
@@ -193,9 +199,8 @@ fn a_file_is_read_the_same_in_pieces_of_any_size(rt: HostRuntime) -> Result<(), 
         files.set_piece(piece);
         let (mut out, mut err) = (MemSink::new(alloc), MemSink::new(alloc));
         let words = words(alloc, &["history", "e.csv"])?;
-        let status = run(
-            &rt, alloc, &words, &mut files, &mut out, &mut err, &OpenGate,
-        );
+        let gate = Arc::new(alloc, OpenGate)?;
+        let status = run(rt, alloc, &words, &mut files, &mut out, &mut err, &gate).status;
         assert_eq!(rt; status, Status::Done, "piece {piece}");
         assert_eq!(rt; out.written(), b"1,5,\"a,b\"\n5,inf,c\n".as_slice());
     }
@@ -207,10 +212,10 @@ fn a_line_may_have_65536_bytes(rt: HostRuntime) -> Result<(), Fail> {
     let mut bytes = Vec::from_slice(rt.alloc(), b"\n+,1,1,2,")?;
     bytes.resize(65_537, b'a')?;
     bytes.push(b'\n')?;
-    let (code, out, _) = history(&rt, &bytes)?;
+    let (code, out, _) = history(rt, &bytes)?;
     assert_eq!(rt; (code, out.len()), (0, 65_533));
     bytes.insert(9, b'a')?;
-    let (code, out, err) = history(&rt, &bytes)?;
+    let (code, out, err) = history(rt, &bytes)?;
     assert_eq!(rt; (code, out.len()), (3, 0));
     assert_eq!(rt; err.as_slice(), b"events e.csv line 2 fault 1\n".as_slice());
     Ok(())
@@ -240,9 +245,8 @@ fn words_that_match_no_command_are_told_the_usage(rt: HostRuntime) -> Result<(),
         let mut files = MemFiles::new(alloc);
         let (mut out, mut err) = (MemSink::new(alloc), MemSink::new(alloc));
         let words = words(alloc, texts)?;
-        let status = run(
-            &rt, alloc, &words, &mut files, &mut out, &mut err, &OpenGate,
-        );
+        let gate = Arc::new(alloc, OpenGate)?;
+        let status = run(rt, alloc, &words, &mut files, &mut out, &mut err, &gate).status;
         assert_eq!(rt; status.code(), 1);
         assert_eq!(rt; err.written(), USAGE.as_bytes());
         assert_eq!(rt; out.written().len() + files.asked().len(), 0);
@@ -294,9 +298,8 @@ fn what_the_outside_refuses_is_told(rt: HostRuntime) -> Result<(), Fail> {
         files.fail_find(find)?;
         files.fail_read("e.csv", read)?;
         let (mut out, mut err) = (MemSink::new(alloc), MemSink::new(alloc));
-        let ended = run(
-            &rt, alloc, &words, &mut files, &mut out, &mut err, &OpenGate,
-        );
+        let gate = Arc::new(alloc, OpenGate)?;
+        let ended = run(rt, alloc, &words, &mut files, &mut out, &mut err, &gate).status;
         assert_eq!(rt; ended, status);
         assert_eq!(rt; err.written(), told.as_bytes());
         assert_eq!(rt; files.asked().len(), 1);
@@ -317,9 +320,8 @@ fn rows_are_written_in_parts_up_to_a_refused_write(rt: HostRuntime) -> Result<()
             let (mut out, mut err) = (MemSink::new(alloc), MemSink::new(alloc));
             out.set_piece(piece);
             out.fail_write(refused)?;
-            let ended = run(
-                &rt, alloc, &words, &mut files, &mut out, &mut err, &OpenGate,
-            );
+            let gate = Arc::new(alloc, OpenGate)?;
+            let ended = run(rt, alloc, &words, &mut files, &mut out, &mut err, &gate).status;
             let taken = usize::try_from(refused)?
                 .saturating_sub(1)
                 .saturating_mul(piece);
@@ -345,9 +347,8 @@ fn a_refused_error_text_leaves_the_status(rt: HostRuntime) -> Result<(), Fail> {
     err.set_piece(3);
     err.fail_write(2)?;
     let words = words(alloc, &["history", "e.csv"])?;
-    let ended = run(
-        &rt, alloc, &words, &mut files, &mut out, &mut err, &OpenGate,
-    );
+    let gate = Arc::new(alloc, OpenGate)?;
+    let ended = run(rt, alloc, &words, &mut files, &mut out, &mut err, &gate).status;
     assert_eq!(rt; ended, Status::Events);
     assert_eq!(rt; err.written(), b"eve".as_slice());
     Ok(())

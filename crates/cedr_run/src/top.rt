@@ -1,44 +1,115 @@
-ghost use Rattle.std.specs.Prelude.{◌≡◌, ◌≢◌, ◌<◌, IfSome, map, option_map};
+ghost use Rattle.std.specs.Prelude.{◌≡◌, ◌≢◌, ◌<◌, ℕ, List, IfSome, Some, map, option_map};
 ghost use Rattle.std.specs.String.{string_bytes};
 ghost use Rattle.cedr_io.specs.Counts.{last_count};
-ghost use Rattle.cedr_run.specs.declared.command.Job.TheVariants.{Stream};
+ghost use Rattle.cedr_run.specs.declared.command.Job.TheVariants.{Run, Stream};
 ghost use Rattle.cedr_run.specs.Commands.{Command, command_of, IsAlone, IsMakeable};
 ghost use Rattle.cedr_run.specs.Seen.{seen_files, seen_sink};
 ghost use Rattle.cedr_run.specs.Ending.{Ends};
+ghost use Rattle.cedr_run.specs.Threads.{AreBare, HasRun};
 
 use crate::carry_out::carry_out;
 use crate::command::{Job, command};
+use crate::ending::Ending;
 use crate::outcome::Outcome;
 use crate::sources::stream;
 use crate::status::Status;
+use crate::threads::{Threaded, on_threads};
 use cedr_io::{Files, Gate, Sink};
 use std::alloc::Global;
-use std::sync::Wait;
+use std::sync::{Arc, Wait};
+use std::thread::Threads;
+use std::time::Clock;
 
-/// Carries out the command that the words name, and answers how it ended. `stream` may wait, and so need not return.
-/// `gate` is for the commands that run threads, of which there is none yet.
-pub fn run<R: Wait, F: Files, K: Sink, E: Sink, G: Gate>(
-    rt: &R,
+/// Carries out the command that the words name, and answers how it ended. `stream` and `run` may wait, and so need not return.
+/// `run` turns the workers of its plan on threads of their own, and each of their turns passes the gate.
+pub fn run<
+    R: Threads + Wait + Clock + Copy + Drop + Send + 'static,
+    F: Files,
+    K: Sink,
+    E: Sink,
+    G: Gate + Drop + Send + 'static,
+>(
+    rt: R,
     alloc: Global,
     words: &[String],
     files: &mut F,
     out: &mut K,
     err: &mut E,
-    _gate: &G,
-) -> Status
+    gate: &Arc<G, Global>,
+) -> Ending
+where
+    F::Source: Drop + 'static,
     requires files_count { F.faults files.old < last_count }
     requires out_counts { K.faults out.old < last_count }
-    ensures { Ends (command_of (map string_bytes words.now))
+    ensures ends { Ends (command_of (map string_bytes words.now))
         (seen_files F.content F.faults F.asked files.old) (seen_files F.content F.faults F.asked files.new)
         (seen_sink K.written K.faults out.old) (seen_sink K.written K.faults out.new)
-        (seen_sink E.written E.faults err.old) (seen_sink E.written E.faults err.new) result }
+        (seen_sink E.written E.faults err.old) (seen_sink E.written E.faults err.new) result.status }
+    ensures ran { HasRun (command_of (map string_bytes words.now))
+        (seen_files F.content F.faults F.asked files.old)
+        (seen_sink K.written K.faults out.old) (seen_sink K.written K.faults out.new)
+        result.status result.edges.items result.ran.items }
 {
     match command(words) {
-        Some((Job::Stream, file, _)) => {
-            stream(rt, alloc, file.as_bytes(), files, out).report(alloc, err)
+        Some((Job::Run, file, _)) => {
+            call_threads(rt, alloc, file.as_bytes(), files, out, err, gate)
         }
-        named => call(alloc, named, files, out, err),
+        Some((Job::Stream, file, _)) => {
+            let status = stream(&rt, alloc, file.as_bytes(), files, out).report(alloc, err);
+            bare(alloc, status)
+        }
+        named => bare(alloc, call(alloc, named, files, out, err)),
     }
+}
+
+/// A command that ran no worker ended so.
+fn bare(alloc: Global, status: Status) -> Ending
+    ensures status { result.status ≡ status }
+    ensures bare { AreBare result.edges.items result.ran.items }
+{
+    Ending {
+        status,
+        edges: Vec::new(alloc),
+        ran: Vec::new(alloc),
+    }
+}
+
+/// Carries out `run`, and answers how it ended.
+fn call_threads<
+    R: Threads + Wait + Clock + Copy + Drop + Send + 'static,
+    F: Files,
+    K: Sink,
+    E: Sink,
+    G: Gate + Drop + Send + 'static,
+>(
+    rt: R,
+    alloc: Global,
+    file: &[u8],
+    files: &mut F,
+    out: &mut K,
+    err: &mut E,
+    gate: &Arc<G, Global>,
+) -> Ending
+where
+    F::Source: Drop + 'static,
+    requires files_count { F.faults files.old < last_count }
+    requires out_counts { K.faults out.old < last_count }
+    ensures ends { (script : List ℕ) → Ends (Some (record { job = Run; file = file.now; script = script }))
+        (seen_files F.content F.faults F.asked files.old) (seen_files F.content F.faults F.asked files.new)
+        (seen_sink K.written K.faults out.old) (seen_sink K.written K.faults out.new)
+        (seen_sink E.written E.faults err.old) (seen_sink E.written E.faults err.new) result.status }
+    ensures ran { (script : List ℕ) → HasRun (Some (record { job = Run; file = file.now; script = script }))
+        (seen_files F.content F.faults F.asked files.old)
+        (seen_sink K.written K.faults out.old) (seen_sink K.written K.faults out.new)
+        result.status result.edges.items result.ran.items }
+{
+    let Threaded {
+        outcome,
+        edges,
+        ran,
+    } = on_threads(rt, alloc, file, files, out, gate);
+    let status = outcome.report(alloc, err);
+    Ending { status, edges, ran }
 }
 
 /// The same for all words but `run PLAN` and `stream PLAN`: it starts no thread and waits for nobody.

@@ -1,0 +1,279 @@
+-- How a run on threads ends, by what is reported of it.
+use Rattle.std.proofs.Common.{◌≡◌, ℕ, zero, suc, ◌+◌, ◌<◌, ◌≤◌, inl, inr, List, [], ◌∷◌, ◌++◌, Bool, true, false, length, map, get_or, refl, ap, sym, ◌∙◌, subst, arith}
+use Rattle.std.specs.Prelude.{Option, None, Some, ◌||◌, cond, if◌then◌else◌}
+use Rattle.std.specs.Io.KnownBytes.{Keeps}
+use Rattle.std.specs.List.{list_any}
+use Rattle.std.proofs.lemmas.List.Elements.{All-tail}
+use Rattle.cedr_answer.specs.Finds.{count_with}
+use Rattle.cedr_answer.specs.Tellings.{AreEnded, fault_in, node_faults, source_in, source_lists}
+use Rattle.cedr_answer.proofs.EndLemmas.{all_given, all_judged, all_read, ended_kept, ended_rose, same_sources, so_went, some_faulty}
+use Rattle.cedr_answer.proofs.FindLemmas.{count_more}
+use Rattle.cedr_base.specs.declared.change.Change.{Change}
+use Rattle.cedr_base.specs.declared.change.Message.{Message}
+use Rattle.cedr_base.specs.declared.row.Row.{Row}
+use Rattle.cedr_base.specs.Messages.{IsTableOf}
+use Rattle.cedr_base.specs.Rows.{in_order}
+use Rattle.cedr_crew.specs.declared.forgotten.PortForgotten.{PortForgotten}
+use Rattle.cedr_crew.specs.Forgettings.{told as as_told}
+use Rattle.cedr_crew.specs.Stopping.{is_short, is_unread, stop_in}
+use Rattle.cedr_crew.specs.Wents.{HaveClosed, SourceWent}
+use Rattle.cedr_edge.specs.Ends.{Carried}
+use Rattle.cedr_guard.specs.Sources.{messages_of}
+use Rattle.cedr_io.specs.Counts.{last_count}
+use Rattle.cedr_laws.specs.declared.forgotten.Forgotten.{Forgotten}
+use Rattle.cedr_laws.specs.Lists.{AreTables, Lists, list_at}
+use Rattle.cedr_plan.specs.declared.plan.Plan.{Plan}
+use Rattle.cedr_plan.specs.declared.plan.PlanNode.{PlanNode}
+use Rattle.cedr_plan.specs.Rules.{IsPlan}
+use Rattle.cedr_query.specs.Queries.{output_place, source_count}
+use Rattle.cedr_query.proofs.PlaceLemmas.{place_within, sources_behind}
+use Rattle.cedr_runs.specs.Runs.{AllWhole, IsWhole, sources_in}
+use Rattle.cedr_runs.specs.Without.{forgot_in}
+use Rattle.cedr_runs.proofs.Closed.{closed_table, closed_whole}
+use Rattle.cedr_runs.proofs.Ports.{one_table}
+use Rattle.cedr_serial.specs.Answers.{answer_text, has_memory}
+use Rattle.cedr_serial.specs.Queries.{AreAccepted, rows_without, source_nodes}
+use Rattle.cedr_serial.specs.Sources.{AreRead, AreTold, source_files}
+use Rattle.cedr_serial.proofs.AcceptedLemmas.{one_canonical}
+use Rattle.cedr_threads.specs.declared.report.Outcome.{Outcome as Came}
+use Rattle.cedr_threads.specs.declared.report.Outcome.TheVariants as came
+use Rattle.cedr_threads.specs.declared.report.Report.{Report}
+use Rattle.cedr_threads.specs.declared.report.SourceFault.{SourceFault}
+use Rattle.cedr_threads.specs.Reports.{CameTo, IsDone, faults_from}
+use Rattle.cedr_wires.specs.Wires.{carried, ports_of}
+use Rattle.cedr_worker.specs.declared.ran.Ran.{Ran}
+use Rattle.cedr_worker.specs.declared.source.SourceEnd.{SourceEnd}
+use Rattle.cedr_worker.specs.declared.stop.SourceStop.{SourceStop}
+use Rattle.cedr_worker.specs.declared.stop.SourceStop.TheVariants as stop
+use Rattle.cedr_worker.specs.Stops.{StoppedAs, meant}
+use Rattle.op_planned.specs.Ready.{is_source}
+use Rattle.cedr_run.specs.declared.outcome.Outcome.{Outcome}
+use Rattle.cedr_run.specs.declared.outcome.Outcome.TheVariants as outcome
+use Rattle.cedr_run.specs.Answers.{Contents, RefusesSources}
+use Rattle.cedr_run.specs.Seen.{FilesSeen, SinkSeen}
+use Rattle.cedr_run.specs.Steps.{Says, WritesText}
+use Rattle.cedr_run.specs.Threads.{AnswersSo, CanTell, IsReported, RunEnds, Tells, WritesRun, faults_said}
+use Rattle.cedr_run.proofs.EndingLemmas.{AcceptedLeft, kept_itself}
+use Rattle.cedr_run.proofs.FaultLemmas.{any_stop, said_all, some_listed}
+
+-- where none is faulty the sources of a plan are accepted
+abbrev pub Accepts : Type 0
+Accepts = (told : List ℕ → List ℕ) (nodes : List PlanNode) (left : Lists) → AreRead told nodes left [] → AcceptedLeft told nodes left
+
+-- ---- sources that closed are whole
+
+-- the list of one node more, which is a source or not
+whole_more : (b : Bool) (l : List Message) (lists : Lists) (count more : ℕ) → more ≡ cond b 1 0 + count → (b ≡ true → IsWhole l) → AllWhole count lists → AllWhole more (cond b (l ∷ lists) lists)
+whole_more true l lists count more is one all zero within = one refl
+whole_more true l lists count more is one all (suc k) within = all k (omega (arith, is, within))
+whole_more false l lists count more is one all k within = all k (omega (arith, is, within))
+
+-- where the list of each source is whole, all are
+whole_each : (nodes : List PlanNode) (given : Lists) → ((before after : List PlanNode) (n : PlanNode) → nodes ≡ before ++ n ∷ after → is_source n.kind ≡ true → IsWhole (list_at given (length before))) → AllWhole (source_count nodes) (sources_in nodes given)
+whole_each [] given each = λ k within. absurd (omega (arith, within))
+whole_each (n ∷ nodes) [] each =
+    whole_more (is_source n.kind) [] (sources_in nodes []) (source_count nodes) (source_count (n ∷ nodes)) (count_more n nodes) (each [] nodes n refl)
+    (whole_each nodes [] (λ before after m whole. each (n ∷ before) after m (ap (λ (ns : List PlanNode). n ∷ ns) whole)))
+whole_each (n ∷ nodes) (g ∷ given) each =
+    whole_more (is_source n.kind) g (sources_in nodes given) (source_count nodes) (source_count (n ∷ nodes)) (count_more n nodes) (each [] nodes n refl)
+    (whole_each nodes given (λ before after m whole. each (n ∷ before) after m (ap (λ (ns : List PlanNode). n ∷ ns) whole)))
+
+-- a source that closed gave a whole list
+closed_source : {S : Type 0} (rest : S → Option (List ℕ)) (faults : S → ℕ) → Accepts → (n : PlanNode) (s : S) (e : SourceEnd S) (given : List Message) → is_source n.kind ≡ true → SourceWent rest faults n s e given → e.stop ≡ stop.Closed → IsWhole given
+closed_source rest faults accepts n s e given is went closed =
+    let ends = went.ends in
+    let stopped = subst (λ (s : SourceStop). StoppedAs s went.shape ends.bytes ends.given ends.ended) closed ends.stopped in
+    let all : given ≡ messages_of went.shape ends.bytes = went.given_is ∙ (ap (λ (s : SourceStop). meant ends.given (Some s)) closed ∙ stopped.all) in
+    let read : AreRead (λ name. ends.bytes) (n ∷ []) (given ∷ []) [] = record {
+      faults = None ∷ [];
+      given = (record { source = λ really. (went.shape, went.types, stopped.faultless, λ none. all); other = λ isnt. absurd (cc (is, isnt)) }, tt);
+      faulty_are = refl;
+    } in
+    let whole = (accepts (λ name. ends.bytes) (n ∷ []) (given ∷ []) read).2 in
+    let one : cond {A = ℕ} (is_source n.kind) 1 0 ≡ 1 = ap {B = ℕ} (λ (b : Bool). cond {A = ℕ} b 1 0) is in
+    let first : list_at (sources_in (n ∷ []) (given ∷ [])) 0 ≡ given = ap (λ (b : Bool). list_at (if b then given ∷ [] else []) 0) is in
+    subst IsWhole first (whole 0 (omega (arith, one, count_more n [])))
+
+-- the same of all sources
+pub closed_sources : {S : Type 0} (rest : S → Option (List ℕ)) (faults : S → ℕ) → Accepts → (nodes : List PlanNode) (sources : List S) (given : Lists) (ends : List (SourceEnd S)) → AreEnded rest faults nodes sources given ends → HaveClosed ends → AllWhole (source_count nodes) (sources_in nodes given)
+closed_sources rest faults accepts nodes sources given [] ended closed =
+    whole_each nodes given (λ before after n whole is. absurd (omega (arith, ended.ends_count, sources_behind nodes before after n whole is)))
+closed_sources rest faults accepts nodes sources given (d ∷ ends) ended closed =
+    whole_each nodes given (λ before after n whole is.
+    let within = sources_behind nodes before after n whole is in
+    closed_source rest faults accepts n (get_or sources (source_count before) d.source) (get_or (d ∷ ends) (source_count before) d) (list_at given (length before)) is (ended.went before after n whole is d.source d)
+    (closed (source_count before) d (omega (arith, ended.ends_count, within))))
+
+-- none of them was refused a read
+closed_unread : {S : Type 0} (ends : List (SourceEnd S)) → HaveClosed ends → list_any is_unread (map stop_in ends) ≡ false
+closed_unread [] closed = refl
+closed_unread {S = S} (e ∷ ends) closed =
+    let here : e.stop ≡ stop.Closed = closed 0 e (omega arith) in
+    ap (λ (s : SourceStop). is_unread s || list_any is_unread (map stop_in ends)) here ∙ closed_unread ends (All-tail (λ (e : SourceEnd S). e.stop ≡ stop.Closed) e ends closed)
+
+-- ---- what ports forgot
+
+-- it is told of each node
+pub forgot_count : (nodes : List PlanNode) (ports : List Lists) → length (forgot_in nodes ports) ≡ length nodes
+forgot_count [] ports = refl
+forgot_count (n ∷ nodes) [] = ap suc (forgot_count nodes [])
+forgot_count (n ∷ nodes) (p ∷ ports) = ap suc (forgot_count nodes ports)
+
+-- ---- what is handed on
+
+-- what can be told of nodes, changes and ports can be told of them as they are handed on
+pub can_tell_as : (nodes seen_nodes : List PlanNode) (changes seen_changes : List Change) (forgotten seen : List PortForgotten) (given : List Message) (listed : List (List (List Forgotten))) → seen_nodes ≡ nodes → seen_changes ≡ changes → seen ≡ forgotten
+    → CanTell nodes changes forgotten given listed → CanTell seen_nodes seen_changes seen given listed
+can_tell_as nodes seen_nodes changes seen_changes forgotten seen given listed nodes_are changes_are seen_are can = record {
+  legal = can.legal;
+  changes_are = changes_are ∙ can.changes_are;
+  forgotten_are = ap (map as_told) seen_are ∙ can.forgotten_are;
+  count = can.count ∙ sym (ap (λ (ns : List PlanNode). length ns) nodes_are);
+}
+
+-- and what was told of them so was told of them
+pub tells_as : (how : Came) (nodes seen_nodes : List PlanNode) (changes seen_changes : List Change) (forgotten seen : List PortForgotten) (out out' : SinkSeen) (o : Outcome) → seen_nodes ≡ nodes → seen_changes ≡ changes → seen ≡ forgotten
+    → Tells how seen_nodes seen_changes seen out out' o → Tells how nodes changes forgotten out out' o
+tells_as how nodes seen_nodes changes seen_changes forgotten seen out out' o nodes_are changes_are seen_are tells =
+    subst (λ (ns : List PlanNode). Tells how ns changes forgotten out out' o) nodes_are
+    (subst (λ (cs : List Change). Tells how seen_nodes cs forgotten out out' o) changes_are (subst (λ (ps : List PortForgotten). Tells how seen_nodes seen_changes ps out out' o) seen_are tells))
+
+-- ---- how a run ends
+
+-- a text was written, or a front of it
+wrote_ends : (nodes : List PlanNode) (files files' : FilesSeen) (out out' : SinkSeen) (edges : List Carried) (ran : List Ran) (text : List ℕ) (o : Outcome) → files'.faults ≡ files.faults → AnswersSo files.content nodes edges ran text → WritesText o out out' text → RunEnds nodes files files' out out' edges ran o
+wrote_ends nodes files files' out out' edges ran text outcome.Done same answers h = (record { files_count = same; out_count = h.0 }, record { text = text; answers = answers; wrote = h.1 })
+wrote_ends nodes files files' out out' edges ran text outcome.Write same answers h = (h.0, record { text = text; answers = answers; wrote = h.1 })
+wrote_ends nodes files files' out out' edges ran text outcome.OutOfMemory same answers h = inr (record { text = text; answers = answers; wrote = h })
+wrote_ends nodes files files' out out' edges ran text outcome.Usage same answers h = absurd h
+wrote_ends nodes files files' out out' edges ran text (outcome.Events said) same answers h = absurd h
+wrote_ends nodes files files' out out' edges ran text (outcome.BadPlan kind node) same answers h = absurd h
+wrote_ends nodes files files' out out' edges ran text outcome.Read same answers h = absurd h
+
+-- a sink that is the same gained nothing
+kept_same : (out out' : SinkSeen) → out' ≡ out → Keeps out.written out'.written
+kept_same out out' same = subst (λ (o : SinkSeen). Keeps out.written o.written) (sym same) (kept_itself out.written)
+
+-- memory ran out before anything was written
+pub lacking_ends : (nodes : List PlanNode) (files files' : FilesSeen) (out out' : SinkSeen) (edges : List Carried) (ran : List Ran) (o : Outcome) → o ≡ outcome.OutOfMemory → out' ≡ out → RunEnds nodes files files' out out' edges ran o
+lacking_ends nodes files files' out out' edges ran o lacks same = subst (λ (o : Outcome). RunEnds nodes files files' out out' edges ran o) (sym lacks) (inl (kept_same out out' same))
+
+-- a find or a read was refused
+pub read_ends : (nodes : List PlanNode) (files files' : FilesSeen) (out out' : SinkSeen) (edges : List Carried) (ran : List Ran) (o : Outcome) → o ≡ outcome.Read → files.faults < files'.faults → out' ≡ out → RunEnds nodes files files' out out' edges ran o
+read_ends nodes files files' out out' edges ran o refused rose same = subst (λ (o : Outcome). RunEnds nodes files files' out out' edges ran o) (sym refused) (rose, kept_same out out' same)
+
+-- some source isn't accepted
+said_ends : (nodes : List PlanNode) (files files' : FilesSeen) (out out' : SinkSeen) (edges : List Carried) (ran : List Ran) (text : List ℕ) (o : Outcome) → files'.faults ≡ files.faults → out' ≡ out
+    → ((said : List ℕ) → said ≡ text → (told : List ℕ → List ℕ) → AreTold files.content told (source_files nodes) → RefusesSources told nodes said) → Says o text → RunEnds nodes files files' out out' edges ran o
+said_ends nodes files files' out out' edges ran text (outcome.Events said) counted same refuses h = (record { files_count = counted; out_count = ap (λ (o : SinkSeen). o.faults) same }, kept_same out out' same, refuses said.items h)
+said_ends nodes files files' out out' edges ran text outcome.OutOfMemory counted same refuses h = inl (kept_same out out' same)
+said_ends nodes files files' out out' edges ran text outcome.Done counted same refuses h = absurd h
+said_ends nodes files files' out out' edges ran text outcome.Usage counted same refuses h = absurd h
+said_ends nodes files files' out out' edges ran text (outcome.BadPlan kind node) counted same refuses h = absurd h
+said_ends nodes files files' out out' edges ran text outcome.Read counted same refuses h = absurd h
+said_ends nodes files files' out out' edges ran text outcome.Write counted same refuses h = absurd h
+
+-- ---- one report
+
+module _ {S : Type 0} (rest : S → Option (List ℕ)) (faults : S → ℕ) (accepts : Accepts) (plan : Plan) (is : IsPlan plan) (content : Contents) (report : Report S) (reported : IsReported rest faults content plan.nodes.items report) where
+  abbrev nodes : List PlanNode
+  nodes = plan.nodes.items
+
+  abbrev ports : List Lists
+  ports = ports_of nodes (carried report.edges.items)
+
+  abbrev given : Lists
+  given = reported.reported.given
+
+  abbrev ends : List (SourceEnd S)
+  ends = report.sources.items
+
+  -- how its sources ended
+  ended : AreEnded rest faults nodes reported.sources given ends
+  ended = record { sources_count = reported.count; ends_count = reported.reported.count; fresh = reported.fresh; went = reported.reported.went.source }
+
+  -- ---- a run that is done
+
+  module _ (done : report.outcome ≡ came.Done) where
+    abbrev is_done : IsDone nodes given report
+    is_done = reported.reported.done done
+
+    whole : AllWhole (source_count nodes) (sources_in nodes given)
+    whole = closed_sources rest faults accepts nodes reported.sources given ends ended is_done.closed
+
+    -- its text can be told
+    pub can_tell : CanTell nodes report.changes.items report.forgotten.items (list_at given (output_place nodes)) (forgot_in nodes ports)
+    can_tell = record {
+      legal = (closed_whole nodes (sources_in nodes given) ports given is.nodes is_done.run whole (output_place nodes) (place_within plan is)).legal;
+      changes_are = is_done.changes;
+      forgotten_are = is_done.forgotten;
+      count = forgot_count nodes ports;
+    }
+
+    -- and is that of the run
+    pub answers_so : (rows : List Row) → IsTableOf (list_at given (output_place nodes)) rows → AnswersSo content nodes report.edges.items report.ran.items (answer_text (has_memory nodes) nodes (in_order rows) (forgot_in nodes ports))
+    answers_so rows table told known =
+        let read = all_read rest faults content told nodes reported.sources given ends (reported.count, reported.reported.count) (so_went rest faults nodes reported.sources given ends ended) reported.found known is_done.closed in
+        let got = accepts told nodes (source_lists nodes given) read in
+        let same = same_sources nodes given in
+        let tables = subst (λ (ls : Lists). AreTables ls got.0) same got.3 in
+        let closed = closed_table nodes (sources_in nodes given) got.0 ports given is.nodes is_done.run whole tables (output_place nodes) (place_within plan is) in
+        record {
+          sources = sources_in nodes given;
+          histories = got.0;
+          accepted = subst (λ (ls : Lists). AreAccepted told (source_nodes nodes) ls got.0) same got.1;
+          given = given;
+          run = is_done.run;
+          text_is = ap (λ (ordered : List Row). answer_text (has_memory nodes) nodes ordered (forgot_in nodes ports)) (one_canonical rows (rows_without nodes ports got.0) (one_table (list_at given (output_place nodes)) rows (rows_without nodes ports got.0) table closed));
+          ran_is = reported.reported.ran;
+        }
+
+    -- none of its sources was refused a read
+    pub none_rose : (count : ℕ) → count ≤ last_count → count_with faults count (map source_in ends) ≡ count
+    none_rose count few = ended_kept rest faults nodes reported.sources given ends count ended (closed_unread ends is_done.closed) few
+
+  -- ---- a run with a refused read
+
+  pub some_rose : list_any (λ (e : SourceEnd S). is_unread e.stop) ends ≡ true → (count : ℕ) → count < last_count → count < count_with faults count (map source_in ends)
+  some_rose unread count few = ended_rose rest faults nodes reported.sources given ends count ended (sym (any_stop is_unread ends) ∙ unread) few
+
+  -- ---- a run with faulty sources
+
+  module _ (read : list_any (λ (e : SourceEnd S). is_unread e.stop) ends ≡ false) where
+    pub faulty_kept : (count : ℕ) → count ≤ last_count → count_with faults count (map source_in ends) ≡ count
+    faulty_kept count few = ended_kept rest faults nodes reported.sources given ends count ended (sym (any_stop is_unread ends) ∙ read) few
+
+    -- they are told
+    pub refuses_so : list_any (λ (e : SourceEnd S). is_short e.stop) ends ≡ false → (listed : List SourceFault) → listed ≡ faults_from 0 ends → 0 < length listed → (said : List ℕ) → said ≡ faults_said (source_nodes nodes) listed
+        → (told : List ℕ → List ℕ) → AreTold content told (source_files nodes) → RefusesSources told nodes said
+    refuses_so found listed listed_are some said said_is told known =
+        let judged = all_judged rest faults ends (sym (any_stop is_short ends) ∙ found) (sym (any_stop is_unread ends) ∙ read) in
+        record {
+          left = source_lists nodes given;
+          faults = node_faults nodes (map fault_in ends);
+          given = all_given rest faults content told nodes reported.sources given ends (reported.count, reported.reported.count) (so_went rest faults nodes reported.sources given ends ended) reported.found known judged;
+          some = some_faulty rest faults nodes 0 ends reported.reported.count (some_listed 0 ends (subst (λ (fs : List SourceFault). 0 < length fs) listed_are some));
+          said_is = said_is ∙ (ap (faults_said (source_nodes nodes)) listed_are ∙ said_all nodes ends reported.reported.count);
+        }
+
+module _ {S : Type 0} (rest : S → Option (List ℕ)) (faults : S → ℕ) (accepts : Accepts) (plan : Plan) (is : IsPlan plan) (files files' : FilesSeen) (out out' : SinkSeen) (report : Report S) (reported : IsReported rest faults files.content plan.nodes.items report)
+    (few : files.faults < last_count) (counted : files'.faults ≡ count_with faults files.faults (map source_in report.sources.items)) (o : Outcome) where
+  -- a run that is done ends with its text
+  done_ends : report.outcome ≡ came.Done → WritesRun plan.nodes.items (list_at reported.reported.given (output_place plan.nodes.items)) (forgot_in plan.nodes.items (ports_of plan.nodes.items (carried report.edges.items))) out out' o → RunEnds plan.nodes.items files files' out out' report.edges.items report.ran.items o
+  done_ends done (inl lacks) = lacking_ends plan.nodes.items files files' out out' report.edges.items report.ran.items o lacks.0 lacks.1
+  done_ends done (inr wrote) =
+      wrote_ends plan.nodes.items files files' out out' report.edges.items report.ran.items _ o (counted ∙ none_rose rest faults accepts plan is files.content report reported done files.faults (omega (arith, few)))
+      (answers_so rest faults accepts plan is files.content report reported done wrote.0 wrote.1.0) wrote.1.1
+
+  ends_as : (how : Came) → report.outcome ≡ how → (short : Bool) → CameTo report.sources.items short how → Tells how plan.nodes.items report.changes.items report.forgotten.items out out' o → RunEnds plan.nodes.items files files' out out' report.edges.items report.ran.items o
+  ends_as came.Done is_how short so tells = done_ends is_how (tells (list_at reported.reported.given (output_place plan.nodes.items)) (forgot_in plan.nodes.items (ports_of plan.nodes.items (carried report.edges.items))) (can_tell rest faults accepts plan is files.content report reported is_how))
+  ends_as came.Memory is_how short so tells = lacking_ends plan.nodes.items files files' out out' report.edges.items report.ran.items o tells.0 tells.1
+  ends_as came.Read is_how short so tells =
+      read_ends plan.nodes.items files files' out out' report.edges.items report.ran.items o tells.0 (subst (λ (n : ℕ). files.faults < n) (sym counted) (some_rose rest faults accepts plan is files.content report reported so.2 files.faults few)) tells.1
+  ends_as (came.Events listed) is_how short so tells =
+      said_ends plan.nodes.items files files' out out' report.edges.items report.ran.items (faults_said (source_nodes plan.nodes.items) listed.items) o (counted ∙ faulty_kept rest faults accepts plan is files.content report reported so.2 files.faults (omega (arith, few))) tells.1
+      (refuses_so rest faults accepts plan is files.content report reported so.2 so.1 listed.items so.3 so.4) tells.0
+
+  -- a run ends as is told of it
+  pub run_ends : Tells report.outcome plan.nodes.items report.changes.items report.forgotten.items out out' o → RunEnds plan.nodes.items files files' out out' report.edges.items report.ran.items o
+  run_ends tells = ends_as report.outcome refl reported.reported.short reported.reported.came tells

@@ -1,0 +1,39 @@
+ghost use Rattle.std.specs.Prelude.{◌≡◌, [], length};
+
+use cedr_base::{Change, OutOfMemory};
+use cedr_history::Reader;
+use cedr_threads::Watcher;
+use std::alloc::Global;
+
+/// A watcher that writes nothing: it only counts the changes.
+#[derive(Drop)]
+pub(crate) struct Quiet {
+    count: usize,
+    /// What its looks take, which is nothing.
+    taken: Vec<Change>,
+}
+
+impl Quiet {
+    pub(crate) fn new(alloc: Global) -> Quiet
+        ensures { ⟦<Quiet as Watcher>⟧.stands result [] }
+    {
+        Quiet {
+            count: 0,
+            taken: Vec::new(alloc),
+        }
+    }
+}
+
+impl Watcher for Quiet {
+    ghost stands = { λ w list. w.count ≡ length list };
+
+    fn look(&mut self, reader: &mut Reader) -> Result<bool, OutOfMemory> {
+        match reader.read(self.count, 0, &mut self.taken)? {
+            Some(seen) => {
+                self.count = seen.len;
+                Ok(true)
+            }
+            None => Ok(false),
+        }
+    }
+}
