@@ -1,0 +1,46 @@
+#!/usr/bin/env python3
+"""`cedr run` gives the same bytes where all of its threads are refused, where some are, and where none is.
+
+Each thread asks for 8 MiB of addresses, and a plan's run for one thread a node. The limit on addresses that the program is run
+under leaves room for none, for some, or for all of the seven threads of `examples/failed_restarts.json`, whose rows are those
+that README.md shows.
+"""
+import os
+import resource
+import subprocess
+import sys
+
+TOP = os.path.dirname(os.path.dirname(os.path.abspath(__file__)))
+PROGRAM = os.path.join(TOP, "crates", "cedr", "out", "cedr")
+ROWS = b"30300,30301,oven-1\n42300,42301,belt-1\n68300,68301,press-1\n"
+# kilobytes of addresses: no thread, one, two, three, and so on; and no limit
+LIMITS = [8_000, 12_000, 20_000, 30_000, 40_000, 50_000, 60_000, 70_000, None]
+TIMES = 20
+
+
+def run(limit):
+    """The status and what the program wrote under this limit."""
+
+    def under():
+        if limit is not None:
+            resource.setrlimit(resource.RLIMIT_AS, (limit * 1024, limit * 1024))
+
+    words = [PROGRAM, "run", "failed_restarts.json"]
+    ran = subprocess.run(words, cwd=os.path.join(TOP, "examples"), capture_output=True, timeout=60, preexec_fn=under)
+    return ran.returncode, ran.stdout, ran.stderr
+
+
+def main():
+    wrong = 0
+    for limit in LIMITS:
+        for _ in range(TIMES):
+            told = run(limit)
+            if told != (0, ROWS, b""):
+                wrong += 1
+                print(f"refused_threads: under {limit} kilobytes of addresses: {told}")
+    print(f"refused_threads: {len(LIMITS)} limits, each {TIMES} times: {wrong} wrong")
+    return 1 if wrong else 0
+
+
+if __name__ == "__main__":
+    sys.exit(main())
