@@ -62,21 +62,21 @@ faults_other n nodes [] isnt = refl
 faults_other n nodes (f ∷ faults) isnt = ap {B = List (Option Refusal)} (λ (b : Bool). if b then f ∷ node_faults nodes faults else None ∷ node_faults nodes (f ∷ faults)) isnt
 
 -- the file of a source is the first, and those of later nodes are behind it
-files_source : (n : PlanNode) (nodes : List PlanNode) → is_source n.kind ≡ true → source_files (n ∷ nodes) ≡ file_of n.kind ∷ source_files nodes
+pub files_source : (n : PlanNode) (nodes : List PlanNode) → is_source n.kind ≡ true → source_files (n ∷ nodes) ≡ file_of n.kind ∷ source_files nodes
 files_source n nodes is = ap {B = List (List ℕ)} (λ (b : Bool). (if b then file_of n.kind ∷ [] else []) ++ source_files nodes) is
 
 -- any other node has no file
-files_other : (n : PlanNode) (nodes : List PlanNode) → is_source n.kind ≡ false → source_files (n ∷ nodes) ≡ source_files nodes
+pub files_other : (n : PlanNode) (nodes : List PlanNode) → is_source n.kind ≡ false → source_files (n ∷ nodes) ≡ source_files nodes
 files_other n nodes isnt = ap {B = List (List ℕ)} (λ (b : Bool). (if b then file_of n.kind ∷ [] else []) ++ source_files nodes) isnt
 
 -- a source counts as one more
-count_source : (n : PlanNode) (nodes : List PlanNode) → is_source n.kind ≡ true → source_count (n ∷ nodes) ≡ suc (source_count nodes)
+pub count_source : (n : PlanNode) (nodes : List PlanNode) → is_source n.kind ≡ true → source_count (n ∷ nodes) ≡ suc (source_count nodes)
 count_source n nodes is =
     let one : cond {A = ℕ} (is_source n.kind) 1 0 ≡ 1 = ap {B = ℕ} (λ (b : Bool). cond {A = ℕ} b 1 0) is in
     omega (arith, one, count_more n nodes)
 
 -- any other node counts as none
-count_other : (n : PlanNode) (nodes : List PlanNode) → is_source n.kind ≡ false → source_count (n ∷ nodes) ≡ source_count nodes
+pub count_other : (n : PlanNode) (nodes : List PlanNode) → is_source n.kind ≡ false → source_count (n ∷ nodes) ≡ source_count nodes
 count_other n nodes isnt =
     let none : cond {A = ℕ} (is_source n.kind) 1 0 ≡ 0 = ap {B = ℕ} (λ (b : Bool). cond {A = ℕ} b 1 0) isnt in
     omega (arith, none, count_more n nodes)
@@ -105,7 +105,7 @@ stop_tells stop.ReadFault shape all bytes more given ended parts at_end stopped 
 stop_tells stop.OutOfMemory shape all bytes more given ended parts at_end stopped judged_so = absurd judged_so
 
 -- the bytes that were read, and those left, are all of a source's content
-bytes_left : (left : Option (List ℕ)) (all bytes : List ℕ) (ended : Bool) → Consumes (Some all) left bytes → (ended ≡ true → IsAtEnd left) → (more : List ℕ) × ((all ≡ bytes ++ more) × (ended ≡ true → more ≡ []))
+pub bytes_left : (left : Option (List ℕ)) (all bytes : List ℕ) (ended : Bool) → Consumes (Some all) left bytes → (ended ≡ true → IsAtEnd left) → (more : List ℕ) × ((all ≡ bytes ++ more) × (ended ≡ true → more ≡ []))
 bytes_left None all bytes ended read at_end = absurd read
 bytes_left (Some more) all bytes ended read at_end = (more, (read, at_end))
 

@@ -121,9 +121,6 @@ pub all_within : (nodes : List PlanNode) (forgotten : List PortForgotten) (liste
 all_within nodes forgotten listed is same =
     from_told (length nodes) forgotten (subst (λ (ts : List Told). All (λ (t : Told). t.node < length nodes) ts) (sym is) (nodes_within 0 (length nodes) listed (omega (arith, same))))
 
--- what is written behind the rows
-pub behind_rows : (first rows dashes text a b d t : List ℕ) → a ≡ first ++ rows → b ≡ a ++ dashes → d ≡ b ++ t → t ≡ text → d ≡ first ++ (rows ++ (dashes ++ text))
-behind_rows first rows dashes text a b d t one two three four =
-    three
-    ∙ (ap (λ (x : List ℕ). x ++ t) (two ∙ ap (λ (x : List ℕ). x ++ dashes) one)
-    ∙ (append_assoc (first ++ rows) dashes t ∙ (append_assoc first rows (dashes ++ t) ∙ ap (λ (x : List ℕ). first ++ (rows ++ (dashes ++ x))) four)))
+-- what is written behind two texts
+pub behind_both : (first next text a b t : List ℕ) → a ≡ first ++ next → b ≡ a ++ t → t ≡ text → b ≡ first ++ (next ++ text)
+behind_both first next text a b t one two three = two ∙ (ap (λ (x : List ℕ). x ++ t) one ∙ (append_assoc first next t ∙ ap (λ (x : List ℕ). first ++ (next ++ x)) three))

@@ -7,4 +7,4 @@ mod text;
 
 pub use ends::{ended_counts, ended_sources, listed_sources};
 pub use finding::{find_sources, give_back_each, give_back_ends};
-pub use text::{rows_of, write_report};
+pub use text::{rows_of, write_changes, write_report, write_tail};

@@ -8,7 +8,8 @@ ghost use Rattle.cedr_base.specs.Rows.{in_order};
 ghost use Rattle.cedr_crew.specs.declared.forgotten.PortForgotten.{PortForgotten};
 ghost use Rattle.cedr_crew.specs.Forgettings.{nodes_told, told as as_told};
 ghost use Rattle.cedr_laws.specs.declared.forgotten.Forgotten.{Forgotten};
-ghost use Rattle.cedr_serial.specs.Answers.{answer_text, cause_text, forgotten_line, port_text};
+ghost use Rattle.cedr_serial.specs.Answers.{answer_text, cause_text, forgotten_line, port_text, tail_text};
+ghost use Rattle.cedr_serial.specs.Queries.{changes_text};
 ghost use Rattle.cedr_stream.specs.Repairs.{AreLegal, IsMoved, Leads};
 ghost use Rattle.cedr_answer.specs.Reports.{told_text};
 
@@ -17,7 +18,7 @@ use cedr_crew::PortForgotten;
 use cedr_laws::{Cause, Forgotten};
 use cedr_plan::PlanNode;
 use cedr_table::{Table, TableFault};
-use cedr_text::{write_forgotten, write_rows};
+use cedr_text::{write_change, write_forgotten, write_rows};
 use std::alloc::Global;
 
 /// Applies a change that may follow in a table.
@@ -107,8 +108,22 @@ fn write_ports(
     Ok(())
 }
 
-/// Appends the rows that the changes of a result lead to in canonical order and, where `told`, a line `--` and a line for each
-/// change that a port forgot: in the order of the nodes, then of their ports, then in the order in which the changes came.
+/// Appends a line `--` and a line for each change that a port forgot: in the order of the nodes, then of their ports, then in
+/// the order in which the changes came. Where memory runs out some of the text may stand there.
+pub fn write_tail(
+    nodes: &[PlanNode],
+    forgotten: &[PortForgotten],
+    out: &mut Vec<u8>,
+) -> Result<(), OutOfMemory>
+    requires { (listed : List (List (List Forgotten))) × (map as_told forgotten.now ≡ nodes_told 0 listed) × (length listed ≡ length nodes.now) }
+    ensures { OnOk result ((listed : List (List (List Forgotten))) → map as_told forgotten.now ≡ nodes_told 0 listed → length listed ≡ length nodes.now → out.new.items ≡ out.old.items ++ tail_text nodes.now listed) }
+{
+    out.extend_from_slice(b"--\n")?;
+    write_ports(nodes, forgotten, out)?;
+    Ok(())
+}
+
+/// Appends the rows that the changes of a result lead to in canonical order and, where `told`, what [`write_tail`] does.
 /// Where memory runs out some of the text may stand there. O(n log n) in the changes.
 pub fn write_report(
     alloc: Global,
@@ -128,7 +143,16 @@ pub fn write_report(
     if !told {
         return Ok(());
     }
-    out.extend_from_slice(b"--\n")?;
-    write_ports(nodes, forgotten, out)?;
+    write_tail(nodes, forgotten, out)?;
+    Ok(())
+}
+
+/// Appends the lines of changes. Where memory runs out some of the text may stand there. O(n).
+pub fn write_changes(changes: &[Change], out: &mut Vec<u8>) -> Result<(), OutOfMemory>
+    ensures { OnOk result (out.new.items ≡ out.old.items ++ changes_text changes.now) }
+{
+    for change in changes {
+        write_change(change, out)?;
+    }
     Ok(())
 }

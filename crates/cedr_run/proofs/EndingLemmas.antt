@@ -21,9 +21,9 @@ use Rattle.cedr_run.specs.declared.status.Status.TheVariants as status
 use Rattle.cedr_laws.specs.Lists.{AreTables}
 use Rattle.cedr_query.specs.Queries.{source_count}
 use Rattle.cedr_runs.specs.Runs.{AllWhole, sources_in}
-use Rattle.cedr_serial.specs.Queries.{AreAccepted, source_nodes, IsAnswerText, IsStreamText, LeadsTo, MayStream}
+use Rattle.cedr_serial.specs.Queries.{AreAccepted, source_nodes, IsAnswerText}
 use Rattle.cedr_table.specs.Operators.{Tables}
-use Rattle.cedr_run.specs.Answers.{AnswersQuery, AnswersChanges, BeginsChanges, IsPlanOf, IsNoPlan, OfPlan, Gives, Refuses, Begins, RefusesPlan, RefusesSources, GivesPlan, BeginsPlan}
+use Rattle.cedr_run.specs.Answers.{AnswersQuery, IsPlanOf, IsNoPlan, OfPlan, Gives, Refuses, Begins, RefusesPlan, RefusesSources, GivesPlan, BeginsPlan}
 use Rattle.cedr_run.specs.Commands.{Command, named_files}
 use Rattle.cedr_run.specs.Seen.{FilesSeen, SinkSeen, Tells}
 use Rattle.cedr_run.specs.Outcomes.{status_of, told_text, TellsLack, CommandEnds, AsksOnly, AsksPlan}
@@ -68,7 +68,7 @@ pub ends_said : (command : Command) (files files' : FilesSeen) (out : SinkSeen) 
     → ((told : List ℕ → List ℕ) (said : List ℕ) → said ≡ text → AreTold files.content told (named_files command) → Refuses files.content told command [] said)
     → CommandEnds command files files' out out o
 ends_said command files files' out (outcome.Events said) text h same refuses =
-    (record { files_count = same; out_count = refl }, (λ silent. kept_itself out.written), λ told is. ([], refuses told said.items h is, nothing_appends out.written))
+    (record { files_count = same; out_count = refl }, (λ live stream. kept_itself out.written), λ told is. ([], refuses told said.items h is, nothing_appends out.written))
 ends_said command files files' out outcome.OutOfMemory text h same refuses = inl (kept_itself out.written)
 ends_said command files files' out outcome.Done text h same refuses = absurd h
 ends_said command files files' out outcome.Usage text h same refuses = absurd h
@@ -93,7 +93,7 @@ pub ends_no_plan : (command : Command) (files files' : FilesSeen) (out : SinkSee
     → CommandEnds command files files' out out o
 ends_no_plan command files files' out (outcome.BadPlan kind node) h same refuses =
     (record { files_count = same; out_count = refl }, kept_itself out.written, λ told is. refuses told kind node (known_no_plan (files.content command.file) (told command.file) kind node is.0 h))
-ends_no_plan command files files' out outcome.Read h rose refuses = (rose, kept_itself out.written)
+ends_no_plan command files files' out outcome.Read h rose refuses = (rose, inl (kept_itself out.written))
 ends_no_plan command files files' out outcome.OutOfMemory h same refuses = inl (kept_itself out.written)
 ends_no_plan command files files' out (outcome.Events said) h same refuses = absurd h
 ends_no_plan command files files' out outcome.Done h same refuses = absurd h
@@ -139,7 +139,7 @@ no_plan_of : (job : Job) (told : List ℕ → List ℕ) (file script : List ℕ)
 no_plan_of job told file script kind node reads h = by_job (λ (job : Job). RefusesPlan told (record { job = job; file = file; script = script }) kind node) job reads h h h h
 
 refuses_of : (job : Job) (content : List ℕ → Option (List ℕ)) (told : List ℕ → List ℕ) (file script said : List ℕ) → ReadsSources job → OfPlan content told file (λ nodes. RefusesSources told nodes said) → Refuses content told (record { job = job; file = file; script = script }) [] said
-refuses_of job content told file script said reads h = by_job (λ (job : Job). Refuses content told (record { job = job; file = file; script = script }) [] said) job reads (refl, h) (refl, h) (refl, h) (refl, h)
+refuses_of job content told file script said reads h = by_job (λ (job : Job). Refuses content told (record { job = job; file = file; script = script }) [] said) job reads (refl, h) (refl, h) (refl, h) (record { nodes = h.nodes; plan = h.plan; holding = λ known. (h.holding known, inl refl) })
 
 gives_of : (job : Job) (content : List ℕ → Option (List ℕ)) (told : List ℕ → List ℕ) (file script text : List ℕ) → ReadsSources job → OfPlan content told file (λ nodes. GivesPlan job told nodes text) → Gives content told (record { job = job; file = file; script = script }) text
 gives_of job content told file script text reads =
@@ -195,10 +195,10 @@ pub sources_stopped : (T : Type 0) (job : Job) (file script : List ℕ) (files f
 unfolding IsOpened
 sources_stopped T job file script files files' out (outcome.Events said) nodes reads opened stops counts refuses = (
   record { files_count = counts; out_count = refl },
-  (λ silent. kept_itself out.written),
+  (λ live stream. kept_itself out.written),
   λ told is. ([], refuses_of job files.content told file script said.items reads (record { nodes = nodes; plan = opened told (named_one job files.content told file script reads is); holding = λ all. refuses told all }), nothing_appends out.written),
 )
-sources_stopped T job file script files files' out outcome.Read nodes reads opened stops counts refuses = (counts, kept_itself out.written)
+sources_stopped T job file script files files' out outcome.Read nodes reads opened stops counts refuses = (counts, inl (kept_itself out.written))
 sources_stopped T job file script files files' out outcome.OutOfMemory nodes reads opened stops counts refuses = inl (kept_itself out.written)
 sources_stopped T job file script files files' out (outcome.BadPlan kind node) nodes reads opened stops counts refuses = absurd stops
 sources_stopped T job file script files files' out outcome.Done nodes reads opened stops counts refuses = absurd stops
@@ -219,13 +219,6 @@ ends_text texts nodes left out out' outcome.Read text h gives = absurd h
 pub answers_query : (always : Bool) (told : List ℕ → List ℕ) (nodes : List PlanNode) (left : Lists) (text : List ℕ) → AcceptedLeft told nodes left
     → ((histories : Tables) → AllWhole (source_count nodes) (sources_in nodes left) → AreTables (sources_in nodes left) histories → IsAnswerText always nodes (sources_in nodes left) histories text) → AnswersQuery always told nodes text
 answers_query always told nodes left text got answer = record { sources = sources_in nodes left; histories = got.0; accepted = got.1; text_is = answer got.0 got.2 got.3 }
-
-pub answers_changes : (told : List ℕ → List ℕ) (nodes : List PlanNode) (left : Lists) (text : List ℕ) → AcceptedLeft told nodes left → (is : IsStreamText nodes (sources_in nodes left) text)
-    → ((histories : Tables) → AllWhole (source_count nodes) (sources_in nodes left) → AreTables (sources_in nodes left) histories → LeadsTo nodes histories is.ports is.given) → AnswersChanges told nodes text
-answers_changes told nodes left text got is leads = record { sources = sources_in nodes left; histories = got.0; accepted = got.1; text_is = is; leads = leads got.0 got.2 got.3 }
-
-pub begins_changes : (told : List ℕ → List ℕ) (nodes : List PlanNode) (left : Lists) (text : List ℕ) → AcceptedLeft told nodes left → MayStream nodes (sources_in nodes left) text → BeginsChanges told nodes text
-begins_changes told nodes left text got is = record { sources = sources_in nodes left; histories = got.0; accepted = got.1; text_is = is }
 
 -- they were, and what the command gives of them was written, or was begun
 pub sources_given : (job : Job) (file script : List ℕ) (files files' : FilesSeen) (out out' : SinkSeen) (o : Outcome) (nodes : List PlanNode) (left : Lists) → ReadsSources job → AreOpened files files' file nodes left → EndsSources job nodes left out out' o

@@ -7,3 +7,6 @@ pub mod MakeLemmas
 pub mod FaultLemmas
 pub mod RunLemmas
 pub mod PlanLemmas
+pub mod StreamLemmas
+pub mod BegunLemmas
+pub mod StreamEndLemmas

@@ -1,5 +1,5 @@
--- How `run` ends, by how the run of its plan ends.
-use Rattle.std.proofs.Common.{◌≡◌, ℕ, ◌⊎◌, inl, inr, List, [], ◌∷◌, ◌++◌, false, length, Option, None, Some, Err, refl, ap, sym, ◌∙◌, subst, arith}
+-- How `run` and `stream` end, by how the run of their plan ends.
+use Rattle.std.proofs.Common.{◌≡◌, ◌≢◌, ℕ, ◌⊎◌, inl, inr, List, [], ◌∷◌, ◌++◌, Bool, false, true, length, take, Option, None, Some, Err, refl, ap, sym, ◌∙◌, subst, arith}
 use Rattle.std.specs.Io.KnownBytes.{Appends, Keeps}
 use Rattle.std.proofs.lemmas.List.{append-nil, take_all}
 use Rattle.cedr_edge.specs.Ends.{Carried}
@@ -7,17 +7,17 @@ use Rattle.cedr_plan.specs.declared.plan.PlanNode.{PlanNode}
 use Rattle.cedr_serial.specs.Sources.{AreTold, AsksFirst, source_files}
 use Rattle.cedr_wires.specs.Wires.{carried, ports_of}
 use Rattle.cedr_worker.specs.declared.ran.Ran.{Ran}
-use Rattle.cedr_run.specs.declared.command.Job.TheVariants.{Run}
+use Rattle.cedr_run.specs.declared.command.Job.TheVariants.{Live, Stream}
 use Rattle.cedr_run.specs.declared.outcome.Outcome.{Outcome}
 use Rattle.cedr_run.specs.declared.outcome.Outcome.TheVariants as outcome
 use Rattle.cedr_run.specs.declared.status.Status.{Status}
 use Rattle.cedr_run.specs.declared.status.Status.TheVariants as status
-use Rattle.cedr_run.specs.Answers.{AnswersQuery, AnswersRun, GivesPlan, OfPlan, RefusesSources}
-use Rattle.cedr_run.specs.Commands.{Command}
-use Rattle.cedr_run.specs.Outcomes.{CommandEnds, status_of}
+use Rattle.cedr_run.specs.Answers.{AnswersChanges, AnswersQuery, AnswersRun, AnswersStream, Begins, BeginsPlan, Contents, Gives, GivesPlan, OfPlan, Refuses, RefusesSources, StreamsFront, StreamsSoFar}
+use Rattle.cedr_run.specs.Commands.{Command, named_files}
+use Rattle.cedr_run.specs.Outcomes.{CommandEnds, IsSilentAtRead, Wrote, WroteFront, status_of}
 use Rattle.cedr_run.specs.Seen.{FilesSeen, SinkSeen}
-use Rattle.cedr_run.specs.Steps.{OpensPlan}
-use Rattle.cedr_run.specs.Threads.{RunEnds, WroteRun}
+use Rattle.cedr_run.specs.Steps.{OpensPlan, ReadsSources}
+use Rattle.cedr_run.specs.Threads.{AnswersBy, BeganRun, BeginsBy, GaveRun, HasRun, IsSilentBy, RunEnds, WroteRun, job_by}
 use Rattle.cedr_run.proofs.EndingLemmas.{IsOpened, opened_told, told_same}
 
 -- a sink that kept what it had gained nothing
@@ -39,6 +39,58 @@ run_query told nodes edges ran text answers = record {
   text_is = record { ports = ports_of nodes (carried edges); given = answers.given; run = answers.run; text_is = answers.text_is };
 }
 
+-- and so is that of the changes that the output gave
+pub stream_changes : (told : List ℕ → List ℕ) (nodes : List PlanNode) (edges : List Carried) (ran : List Ran) (text : List ℕ) → AnswersStream told nodes edges ran text → AnswersChanges told nodes text
+stream_changes told nodes edges ran text answers = record {
+  sources = answers.sources;
+  histories = answers.histories;
+  accepted = answers.accepted;
+  text_is = record { ports = ports_of nodes (carried edges); given = answers.given; run = answers.run; text_is = answers.text_is };
+  leads = answers.leads;
+}
+
+-- ---- either way
+
+-- what the command gives
+answers_as : (streams : Bool) (told : List ℕ → List ℕ) (nodes : List PlanNode) (edges : List Carried) (ran : List Ran) (text : List ℕ) → AnswersBy streams told nodes edges ran text → GivesPlan (job_by streams) told nodes text
+answers_as false told nodes edges ran text h = run_query told nodes edges ran text h
+answers_as true told nodes edges ran text h = stream_changes told nodes edges ran text h
+
+-- and of which a front may be written
+begins_as : (streams : Bool) (told : List ℕ → List ℕ) (nodes : List PlanNode) (edges : List Carried) (ran : List Ran) (text : List ℕ) → BeginsBy streams told nodes edges ran text → BeginsPlan (job_by streams) told nodes text
+begins_as false told nodes edges ran text h = run_query told nodes edges ran text h
+begins_as true told nodes edges ran text h = h
+
+-- both of the plan that the command's file describes
+gives_of_plan : (streams : Bool) (content : Contents) (told : List ℕ → List ℕ) (file script text : List ℕ) → OfPlan content told file (λ nodes. GivesPlan (job_by streams) told nodes text) → Gives content told (record { job = job_by streams; file = file; script = script }) text
+gives_of_plan false content told file script text h = h
+gives_of_plan true content told file script text h = h
+
+begins_of_plan : (streams : Bool) (content : Contents) (told : List ℕ → List ℕ) (file script text : List ℕ) → OfPlan content told file (λ nodes. BeginsPlan (job_by streams) told nodes text) → Begins content told (record { job = job_by streams; file = file; script = script }) text
+begins_of_plan false content told file script text h = h
+begins_of_plan true content told file script text h = h
+
+-- the plan alone is named
+named_alone : (streams : Bool) (content : Contents) (told : List ℕ → List ℕ) (file script : List ℕ) → AreTold content told (named_files (record { job = job_by streams; file = file; script = script })) → AreTold content told (file ∷ [])
+named_alone false content told file script h = h
+named_alone true content told file script h = h
+
+-- the command reads the sources of its plan
+pub reads_by : (streams : Bool) → ReadsSources (job_by streams)
+reads_by false = tt
+reads_by true = tt
+
+-- nothing was written, where the rows are written at the end
+silent_as : (streams : Bool) (content : Contents) (nodes : List PlanNode) (out out' : SinkSeen) → IsSilentBy streams content nodes out out' → job_by streams ≢ Live → job_by streams ≢ Stream → Keeps out.written out'.written
+silent_as false content nodes out out' (inl keeps) live stream = keeps
+silent_as false content nodes out out' (inr some) live stream = absurd (cc (some.0))
+silent_as true content nodes out out' silent live stream = absurd (stream refl)
+
+-- some source isn't accepted, and nothing was written
+refuses_silent : (streams : Bool) (content : Contents) (told : List ℕ → List ℕ) (file script said : List ℕ) → OfPlan content told file (λ nodes. RefusesSources told nodes said) → Refuses content told (record { job = job_by streams; file = file; script = script }) [] said
+refuses_silent false content told file script said h = (refl, h)
+refuses_silent true content told file script said h = record { nodes = h.nodes; plan = h.plan; holding = λ known. (h.holding known, inl refl) }
+
 -- without a plan nothing is done
 pub none_done : (o : Outcome) (content : Option (List ℕ)) → OpensPlan (Err o) content → o ≡ outcome.Done → ⊥
 none_done o content opens done = subst (λ (o : Outcome). OpensPlan (Err o) content) done opens
@@ -54,56 +106,89 @@ done_alone outcome.Write s (inl at) done = absurd (cc (at, done))
 done_alone outcome.OutOfMemory s (inl at) done = absurd (cc (at, done))
 done_alone o s (inr lacks) done = absurd (cc (lacks, done))
 
-module _ (files now files' : FilesSeen) (file script : List ℕ) (nodes : List PlanNode) (opened : IsOpened files file nodes) (same : now.faults ≡ files.faults) (contents : (name : List ℕ) → now.content name ≡ files.content name) (out out' : SinkSeen) (edges : List Carried) (ran : List Ran) where
+module _ (streams : Bool) (files now files' : FilesSeen) (file script : List ℕ) (nodes : List PlanNode) (opened : IsOpened files file nodes) (same : now.faults ≡ files.faults) (contents : (name : List ℕ) → now.content name ≡ files.content name) (out out' : SinkSeen) (edges : List Carried) (ran : List Ran) where
   abbrev command : Command
-  command = record { job = Run; file = file; script = script }
+  command = record { job = job_by streams; file = file; script = script }
 
   -- what holds of the plan where it is told what the sources' files hold
-  of_plan : (told : List ℕ → List ℕ) (holds : List PlanNode → Type 0) → AreTold files.content told (file ∷ []) → (AreTold now.content told (source_files nodes) → holds nodes) → OfPlan files.content told file holds
-  of_plan told holds is all = record { nodes = nodes; plan = opened_told files file nodes opened told is; holding = λ known. all (told_same files.content now.content told (source_files nodes) contents known) }
+  of_plan : (told : List ℕ → List ℕ) (holds : List PlanNode → Type 0) → AreTold files.content told (named_files command) → (AreTold now.content told (source_files nodes) → holds nodes) → OfPlan files.content told file holds
+  of_plan told holds is all = record {
+    nodes = nodes;
+    plan = opened_told files file nodes opened told (named_alone streams files.content told file script is);
+    holding = λ known. all (told_same files.content now.content told (source_files nodes) contents known);
+  }
+
+  -- a text was written
+  gave : GaveRun streams now.content nodes edges ran out out' → Wrote files command out out' (λ told text. Gives files.content told command text)
+  gave h told is = (h.text, gives_of_plan streams files.content told file script h.text (of_plan told (λ (ns : List PlanNode). GivesPlan (job_by streams) told ns h.text) is (λ known. answers_as streams told nodes edges ran h.text (h.answers told known))), h.wrote)
+
+  -- or begun
+  began : BeganRun streams now.content nodes edges ran out out' → WroteFront files command out out' (λ told text. Begins files.content told command text)
+  began h told is = (h.text, begins_of_plan streams files.content told file script h.text (of_plan told (λ (ns : List PlanNode). BeginsPlan (job_by streams) told ns h.text) is (λ known. begins_as streams told nodes edges ran h.text (h.begins told known))), h.wrote)
+
+  -- what was written where a read was refused
+  at_read : IsSilentBy streams now.content nodes out out' → IsSilentAtRead command files out out'
+  at_read (inl keeps) = inl keeps
+  at_read (inr some) = inr (ap job_by some.0, λ told is. (some.1.text, of_plan told (λ (ns : List PlanNode). StreamsSoFar told ns some.1.text) is (some.1.begins told), some.1.wrote))
+
+  -- and where some source isn't accepted
+  refused : (said : List ℕ) → IsSilentBy streams now.content nodes out out' → ((told : List ℕ → List ℕ) → AreTold now.content told (source_files nodes) → RefusesSources told nodes said) → Wrote files command out out' (λ told text. Refuses files.content told command text said)
+  refused said (inl keeps) refuses told is = ([], refuses_silent streams files.content told file script said (of_plan told (λ (ns : List PlanNode). RefusesSources told ns said) is (refuses told)), appends_nothing out.written out'.written keeps)
+  refused said (inr some) refuses told is =
+      let front : List ℕ = take some.1.wrote.count some.1.text in (
+        front,
+        subst (λ (b : Bool). Refuses files.content told (record { job = job_by b; file = file; script = script }) front said) (sym some.0)
+            (of_plan told (λ (ns : List PlanNode). RefusesSources told ns said × ((front ≡ []) ⊎ StreamsFront told ns front)) is
+            (λ known. (refuses told known, inr (record { whole = some.1.text; begins = some.1.begins told known; count = some.1.wrote.count; text_is = refl })))),
+        some.1.wrote.grows,
+      )
 
   -- the command ends as the run of its plan
-  pub plan_ended : (o : Outcome) → RunEnds nodes now files' out out' edges ran o → CommandEnds command files files' out out' o
-  plan_ended outcome.Done h = (
-    record { files_count = h.0.files_count ∙ same; out_count = h.0.out_count },
-    λ told is. (h.1.text, of_plan told (λ (ns : List PlanNode). GivesPlan Run told ns h.1.text) is (λ known. run_query told nodes edges ran h.1.text (h.1.answers told known)), h.1.wrote),
-  )
-  plan_ended (outcome.Events said) h = (
-    record { files_count = h.0.files_count ∙ same; out_count = h.0.out_count },
-    (λ silent. h.1),
-    λ told is. ([], (refl, of_plan told (λ (ns : List PlanNode). RefusesSources told ns said.items) is (h.2 told)), appends_nothing out.written out'.written h.1),
-  )
-  plan_ended outcome.Read h = (omega (arith, same, h.0), h.1)
-  plan_ended outcome.Write h = (
-    h.0,
-    λ told is. (h.1.text, of_plan told (λ (ns : List PlanNode). GivesPlan Run told ns h.1.text) is (λ known. run_query told nodes edges ran h.1.text (h.1.answers told known)), h.1.wrote),
-  )
+  pub plan_ended : (o : Outcome) → RunEnds streams nodes now files' out out' edges ran o → CommandEnds command files files' out out' o
+  plan_ended outcome.Done h = (record { files_count = h.0.files_count ∙ same; out_count = h.0.out_count }, gave h.1)
+  plan_ended (outcome.Events said) h = (record { files_count = h.0.files_count ∙ same; out_count = h.0.out_count }, silent_as streams now.content nodes out out' h.1, refused said.items h.1 h.2)
+  plan_ended outcome.Read h = (omega (arith, same, h.0), at_read h.1)
+  plan_ended outcome.Write h = (h.0, began h.1)
   plan_ended outcome.OutOfMemory (inl keeps) = inl keeps
-  plan_ended outcome.OutOfMemory (inr h) =
-      inr (λ told is. (h.text, of_plan told (λ (ns : List PlanNode). GivesPlan Run told ns h.text) is (λ known. run_query told nodes edges ran h.text (h.answers told known)), h.wrote))
+  plan_ended outcome.OutOfMemory (inr h) = inr (began h)
   plan_ended outcome.Usage h = absurd h
   plan_ended (outcome.BadPlan kind node) h = absurd h
 
   -- where it is done, its text is that of what went over the edges
-  pub wrote_run : (o : Outcome) → o ≡ outcome.Done → RunEnds nodes now files' out out' edges ran o → WroteRun files command out out' edges ran
+  pub wrote_run : (o : Outcome) → o ≡ outcome.Done → RunEnds streams nodes now files' out out' edges ran o → WroteRun streams files command out out' edges ran
   wrote_run o done h =
-      let gave = (subst (λ (o : Outcome). RunEnds nodes now files' out out' edges ran o) done h).1 in
-      λ told is. (gave.text, of_plan told (λ (ns : List PlanNode). AnswersRun told ns edges ran gave.text) is (gave.answers told), gave.wrote)
+      let gave = (subst (λ (o : Outcome). RunEnds streams nodes now files' out out' edges ran o) done h).1 in
+      λ told is. (gave.text, of_plan told (λ (ns : List PlanNode). AnswersBy streams told ns edges ran gave.text) is (gave.answers told), gave.wrote)
 
--- a run ends so for the files as they were before its sources were found
-pub ends_later : (files now files' : FilesSeen) (nodes : List PlanNode) → now.faults ≡ files.faults → ((name : List ℕ) → now.content name ≡ files.content name) → (out out' : SinkSeen) (edges : List Carried) (ran : List Ran) (o : Outcome) → RunEnds nodes now files' out out' edges ran o → RunEnds nodes files files' out out' edges ran o
-ends_later files now files' nodes same contents out out' edges ran outcome.Done h = (
-  record { files_count = h.0.files_count ∙ same; out_count = h.0.out_count },
-  record { text = h.1.text; answers = λ told known. h.1.answers told (told_same files.content now.content told (source_files nodes) contents known); wrote = h.1.wrote },
-)
-ends_later files now files' nodes same contents out out' edges ran (outcome.Events said) h = (
-  record { files_count = h.0.files_count ∙ same; out_count = h.0.out_count },
-  h.1,
-  λ told known. h.2 told (told_same files.content now.content told (source_files nodes) contents known),
-)
-ends_later files now files' nodes same contents out out' edges ran outcome.Read h = (omega (arith, same, h.0), h.1)
-ends_later files now files' nodes same contents out out' edges ran outcome.Write h = (h.0, record { text = h.1.text; answers = λ told known. h.1.answers told (told_same files.content now.content told (source_files nodes) contents known); wrote = h.1.wrote })
-ends_later files now files' nodes same contents out out' edges ran outcome.OutOfMemory (inl keeps) = inl keeps
-ends_later files now files' nodes same contents out out' edges ran outcome.OutOfMemory (inr h) = inr (record { text = h.text; answers = λ told known. h.answers told (told_same files.content now.content told (source_files nodes) contents known); wrote = h.wrote })
-ends_later files now files' nodes same contents out out' edges ran outcome.Usage h = absurd h
-ends_later files now files' nodes same contents out out' edges ran (outcome.BadPlan kind node) h = absurd h
+-- what is answered of the edges and the turns where it is done
+pub has_run_by : (streams : Bool) (files : FilesSeen) (file script : List ℕ) (out out' : SinkSeen) (s : Status) (edges : List Carried) (ran : List Ran) → (s ≡ status.Done → WroteRun streams files (record { job = job_by streams; file = file; script = script }) out out' edges ran)
+    → HasRun (Some (record { job = job_by streams; file = file; script = script })) files out out' s edges ran
+has_run_by false files file script out out' s edges ran wrote = wrote
+has_run_by true files file script out out' s edges ran wrote = wrote
+
+-- ---- the files as they were before
+
+module _ (streams : Bool) (files now files' : FilesSeen) (nodes : List PlanNode) (same : now.faults ≡ files.faults) (contents : (name : List ℕ) → now.content name ≡ files.content name) (out out' : SinkSeen) (edges : List Carried) (ran : List Ran) where
+  told_now : (told : List ℕ → List ℕ) → AreTold files.content told (source_files nodes) → AreTold now.content told (source_files nodes)
+  told_now told known = told_same files.content now.content told (source_files nodes) contents known
+
+  began_later : BeganRun streams now.content nodes edges ran out out' → BeganRun streams files.content nodes edges ran out out'
+  began_later h = record { text = h.text; begins = λ told known. h.begins told (told_now told known); wrote = h.wrote }
+
+  silent_later : IsSilentBy streams now.content nodes out out' → IsSilentBy streams files.content nodes out out'
+  silent_later (inl keeps) = inl keeps
+  silent_later (inr some) = inr (some.0, record { text = some.1.text; begins = λ told known. some.1.begins told (told_now told known); wrote = some.1.wrote })
+
+  -- a run ends so for the files as they were before its sources were found
+  pub ends_later : (o : Outcome) → RunEnds streams nodes now files' out out' edges ran o → RunEnds streams nodes files files' out out' edges ran o
+  ends_later outcome.Done h = (
+    record { files_count = h.0.files_count ∙ same; out_count = h.0.out_count },
+    record { text = h.1.text; answers = λ told known. h.1.answers told (told_now told known); wrote = h.1.wrote },
+  )
+  ends_later (outcome.Events said) h = (record { files_count = h.0.files_count ∙ same; out_count = h.0.out_count }, silent_later h.1, λ told known. h.2 told (told_now told known))
+  ends_later outcome.Read h = (omega (arith, same, h.0), silent_later h.1)
+  ends_later outcome.Write h = (h.0, began_later h.1)
+  ends_later outcome.OutOfMemory (inl keeps) = inl keeps
+  ends_later outcome.OutOfMemory (inr h) = inr (began_later h)
+  ends_later outcome.Usage h = absurd h
+  ends_later (outcome.BadPlan kind node) h = absurd h

@@ -27,14 +27,15 @@ use Rattle.cedr_plan.specs.declared.plan.PlanNode.{PlanNode}
 use Rattle.cedr_plan.specs.Rules.{IsPlan}
 use Rattle.cedr_query.specs.Queries.{output_place, source_count}
 use Rattle.cedr_query.proofs.PlaceLemmas.{place_within, sources_behind}
-use Rattle.cedr_runs.specs.Runs.{AllWhole, IsWhole, sources_in}
+use Rattle.cedr_runs.specs.Runs.{AllWhole, IsRun, IsWhole, sources_in}
 use Rattle.cedr_runs.specs.Without.{forgot_in}
 use Rattle.cedr_runs.proofs.Closed.{closed_table, closed_whole}
 use Rattle.cedr_runs.proofs.Ports.{one_table}
 use Rattle.cedr_serial.specs.Answers.{answer_text, has_memory}
-use Rattle.cedr_serial.specs.Queries.{AreAccepted, rows_without, source_nodes}
+use Rattle.cedr_serial.specs.Queries.{AreAccepted, LeadsTo, changes_text, rows_without, source_nodes}
 use Rattle.cedr_serial.specs.Sources.{AreRead, AreTold, source_files}
 use Rattle.cedr_serial.proofs.AcceptedLemmas.{one_canonical}
+use Rattle.cedr_table.specs.Operators.{Tables}
 use Rattle.cedr_threads.specs.declared.report.Outcome.{Outcome as Came}
 use Rattle.cedr_threads.specs.declared.report.Outcome.TheVariants as came
 use Rattle.cedr_threads.specs.declared.report.Report.{Report}
@@ -49,16 +50,20 @@ use Rattle.cedr_worker.specs.Stops.{StoppedAs, meant}
 use Rattle.op_planned.specs.Ready.{is_source}
 use Rattle.cedr_run.specs.declared.outcome.Outcome.{Outcome}
 use Rattle.cedr_run.specs.declared.outcome.Outcome.TheVariants as outcome
-use Rattle.cedr_run.specs.Answers.{Contents, RefusesSources}
+use Rattle.cedr_run.specs.Answers.{AnswersRun, AnswersStream, Contents, RefusesSources}
 use Rattle.cedr_run.specs.Seen.{FilesSeen, SinkSeen}
 use Rattle.cedr_run.specs.Steps.{Says, WritesText}
-use Rattle.cedr_run.specs.Threads.{AnswersSo, CanTell, IsReported, RunEnds, Tells, WritesRun, faults_said}
+use Rattle.cedr_run.specs.Threads.{CanTell, CanTellTail, IsReported, IsSilentBy, RunEnds, Tells, WritesRun, faults_said, tail_of}
 use Rattle.cedr_run.proofs.EndingLemmas.{AcceptedLeft, kept_itself}
 use Rattle.cedr_run.proofs.FaultLemmas.{any_stop, said_all, some_listed}
 
 -- where none is faulty the sources of a plan are accepted
 abbrev pub Accepts : Type 0
 Accepts = (told : List ℕ → List ℕ) (nodes : List PlanNode) (left : Lists) → AreRead told nodes left [] → AcceptedLeft told nodes left
+
+-- the changes of an output lead to the rows of the answer
+abbrev pub Leads : Type 0
+Leads = (plan : Plan) (sources : Lists) (histories : Tables) (ports : List Lists) (given : Lists) → IsPlan plan → IsRun plan.nodes.items sources ports given → AllWhole (source_count plan.nodes.items) sources → AreTables sources histories → LeadsTo plan.nodes.items histories ports given
 
 -- ---- sources that closed are whole
 
@@ -141,37 +146,38 @@ tells_as how nodes seen_nodes changes seen_changes forgotten seen out out' o nod
 -- ---- how a run ends
 
 -- a text was written, or a front of it
-wrote_ends : (nodes : List PlanNode) (files files' : FilesSeen) (out out' : SinkSeen) (edges : List Carried) (ran : List Ran) (text : List ℕ) (o : Outcome) → files'.faults ≡ files.faults → AnswersSo files.content nodes edges ran text → WritesText o out out' text → RunEnds nodes files files' out out' edges ran o
+pub wrote_ends : (nodes : List PlanNode) (files files' : FilesSeen) (out out' : SinkSeen) (edges : List Carried) (ran : List Ran) (text : List ℕ) (o : Outcome) → files'.faults ≡ files.faults → ((told : List ℕ → List ℕ) → AreTold files.content told (source_files nodes) → AnswersRun told nodes edges ran text) → WritesText o out out' text → RunEnds false nodes files files' out out' edges ran o
 wrote_ends nodes files files' out out' edges ran text outcome.Done same answers h = (record { files_count = same; out_count = h.0 }, record { text = text; answers = answers; wrote = h.1 })
-wrote_ends nodes files files' out out' edges ran text outcome.Write same answers h = (h.0, record { text = text; answers = answers; wrote = h.1 })
-wrote_ends nodes files files' out out' edges ran text outcome.OutOfMemory same answers h = inr (record { text = text; answers = answers; wrote = h })
+wrote_ends nodes files files' out out' edges ran text outcome.Write same answers h = (h.0, record { text = text; begins = answers; wrote = h.1 })
+wrote_ends nodes files files' out out' edges ran text outcome.OutOfMemory same answers h = inr (record { text = text; begins = answers; wrote = h })
 wrote_ends nodes files files' out out' edges ran text outcome.Usage same answers h = absurd h
 wrote_ends nodes files files' out out' edges ran text (outcome.Events said) same answers h = absurd h
 wrote_ends nodes files files' out out' edges ran text (outcome.BadPlan kind node) same answers h = absurd h
 wrote_ends nodes files files' out out' edges ran text outcome.Read same answers h = absurd h
 
 -- a sink that is the same gained nothing
-kept_same : (out out' : SinkSeen) → out' ≡ out → Keeps out.written out'.written
+pub kept_same : (out out' : SinkSeen) → out' ≡ out → Keeps out.written out'.written
 kept_same out out' same = subst (λ (o : SinkSeen). Keeps out.written o.written) (sym same) (kept_itself out.written)
 
--- memory ran out before anything was written
-pub lacking_ends : (nodes : List PlanNode) (files files' : FilesSeen) (out out' : SinkSeen) (edges : List Carried) (ran : List Ran) (o : Outcome) → o ≡ outcome.OutOfMemory → out' ≡ out → RunEnds nodes files files' out out' edges ran o
-lacking_ends nodes files files' out out' edges ran o lacks same = subst (λ (o : Outcome). RunEnds nodes files files' out out' edges ran o) (sym lacks) (inl (kept_same out out' same))
+module _ (streams : Bool) (nodes : List PlanNode) (files files' : FilesSeen) (out out' : SinkSeen) (edges : List Carried) (ran : List Ran) where
+  -- memory ran out
+  pub lacking_ends : (o : Outcome) → o ≡ outcome.OutOfMemory → RunEnds streams nodes files files' out out' edges ran outcome.OutOfMemory → RunEnds streams nodes files files' out out' edges ran o
+  lacking_ends o lacks ends = subst (λ (o : Outcome). RunEnds streams nodes files files' out out' edges ran o) (sym lacks) ends
 
--- a find or a read was refused
-pub read_ends : (nodes : List PlanNode) (files files' : FilesSeen) (out out' : SinkSeen) (edges : List Carried) (ran : List Ran) (o : Outcome) → o ≡ outcome.Read → files.faults < files'.faults → out' ≡ out → RunEnds nodes files files' out out' edges ran o
-read_ends nodes files files' out out' edges ran o refused rose same = subst (λ (o : Outcome). RunEnds nodes files files' out out' edges ran o) (sym refused) (rose, kept_same out out' same)
+  -- a find or a read was refused
+  pub read_ends : (o : Outcome) → o ≡ outcome.Read → files.faults < files'.faults → IsSilentBy streams files.content nodes out out' → RunEnds streams nodes files files' out out' edges ran o
+  read_ends o refused rose silent = subst (λ (o : Outcome). RunEnds streams nodes files files' out out' edges ran o) (sym refused) (rose, silent)
 
--- some source isn't accepted
-said_ends : (nodes : List PlanNode) (files files' : FilesSeen) (out out' : SinkSeen) (edges : List Carried) (ran : List Ran) (text : List ℕ) (o : Outcome) → files'.faults ≡ files.faults → out' ≡ out
-    → ((said : List ℕ) → said ≡ text → (told : List ℕ → List ℕ) → AreTold files.content told (source_files nodes) → RefusesSources told nodes said) → Says o text → RunEnds nodes files files' out out' edges ran o
-said_ends nodes files files' out out' edges ran text (outcome.Events said) counted same refuses h = (record { files_count = counted; out_count = ap (λ (o : SinkSeen). o.faults) same }, kept_same out out' same, refuses said.items h)
-said_ends nodes files files' out out' edges ran text outcome.OutOfMemory counted same refuses h = inl (kept_same out out' same)
-said_ends nodes files files' out out' edges ran text outcome.Done counted same refuses h = absurd h
-said_ends nodes files files' out out' edges ran text outcome.Usage counted same refuses h = absurd h
-said_ends nodes files files' out out' edges ran text (outcome.BadPlan kind node) counted same refuses h = absurd h
-said_ends nodes files files' out out' edges ran text outcome.Read counted same refuses h = absurd h
-said_ends nodes files files' out out' edges ran text outcome.Write counted same refuses h = absurd h
+  -- some source isn't accepted
+  pub said_ends : (text : List ℕ) (o : Outcome) → files'.faults ≡ files.faults → out'.faults ≡ out.faults → IsSilentBy streams files.content nodes out out' → RunEnds streams nodes files files' out out' edges ran outcome.OutOfMemory
+      → ((said : List ℕ) → said ≡ text → (told : List ℕ → List ℕ) → AreTold files.content told (source_files nodes) → RefusesSources told nodes said) → Says o text → RunEnds streams nodes files files' out out' edges ran o
+  said_ends text (outcome.Events said) counted same silent lacks refuses h = (record { files_count = counted; out_count = same }, silent, refuses said.items h)
+  said_ends text outcome.OutOfMemory counted same silent lacks refuses h = lacks
+  said_ends text outcome.Done counted same silent lacks refuses h = absurd h
+  said_ends text outcome.Usage counted same silent lacks refuses h = absurd h
+  said_ends text (outcome.BadPlan kind node) counted same silent lacks refuses h = absurd h
+  said_ends text outcome.Read counted same silent lacks refuses h = absurd h
+  said_ends text outcome.Write counted same silent lacks refuses h = absurd h
 
 -- ---- one report
 
@@ -211,7 +217,7 @@ module _ {S : Type 0} (rest : S → Option (List ℕ)) (faults : S → ℕ) (acc
     }
 
     -- and is that of the run
-    pub answers_so : (rows : List Row) → IsTableOf (list_at given (output_place nodes)) rows → AnswersSo content nodes report.edges.items report.ran.items (answer_text (has_memory nodes) nodes (in_order rows) (forgot_in nodes ports))
+    pub answers_so : (rows : List Row) → IsTableOf (list_at given (output_place nodes)) rows → (told : List ℕ → List ℕ) → AreTold content told (source_files nodes) → AnswersRun told nodes report.edges.items report.ran.items (answer_text (has_memory nodes) nodes (in_order rows) (forgot_in nodes ports))
     answers_so rows table told known =
         let read = all_read rest faults content told nodes reported.sources given ends (reported.count, reported.reported.count) (so_went rest faults nodes reported.sources given ends ended) reported.found known is_done.closed in
         let got = accepts told nodes (source_lists nodes given) read in
@@ -225,6 +231,28 @@ module _ {S : Type 0} (rest : S → Option (List ℕ)) (faults : S → ℕ) (acc
           given = given;
           run = is_done.run;
           text_is = ap (λ (ordered : List Row). answer_text (has_memory nodes) nodes ordered (forgot_in nodes ports)) (one_canonical rows (rows_without nodes ports got.0) (one_table (list_at given (output_place nodes)) rows (rows_without nodes ports got.0) table closed));
+          ran_is = reported.reported.ran;
+        }
+
+    -- what was forgotten can be told
+    pub can_tell_tail : CanTellTail nodes report.forgotten.items (forgot_in nodes ports)
+    can_tell_tail = record { forgotten_are = is_done.forgotten; count = forgot_count nodes ports }
+
+    -- and its changes are those of the run
+    pub streams_so : Leads → (told : List ℕ → List ℕ) → AreTold content told (source_files nodes) → AnswersStream told nodes report.edges.items report.ran.items (changes_text report.changes.items ++ tail_of nodes (forgot_in nodes ports))
+    streams_so leads told known =
+        let read = all_read rest faults content told nodes reported.sources given ends (reported.count, reported.reported.count) (so_went rest faults nodes reported.sources given ends ended) reported.found known is_done.closed in
+        let got = accepts told nodes (source_lists nodes given) read in
+        let same = same_sources nodes given in
+        let tables = subst (λ (ls : Lists). AreTables ls got.0) same got.3 in
+        record {
+          sources = sources_in nodes given;
+          histories = got.0;
+          accepted = subst (λ (ls : Lists). AreAccepted told (source_nodes nodes) ls got.0) same got.1;
+          given = given;
+          run = is_done.run;
+          text_is = ap (λ (cs : List Change). changes_text cs ++ tail_of nodes (forgot_in nodes ports)) is_done.changes;
+          leads = leads plan (sources_in nodes given) got.0 ports given is is_done.run whole tables;
           ran_is = reported.reported.ran;
         }
 
@@ -258,22 +286,25 @@ module _ {S : Type 0} (rest : S → Option (List ℕ)) (faults : S → ℕ) (acc
 
 module _ {S : Type 0} (rest : S → Option (List ℕ)) (faults : S → ℕ) (accepts : Accepts) (plan : Plan) (is : IsPlan plan) (files files' : FilesSeen) (out out' : SinkSeen) (report : Report S) (reported : IsReported rest faults files.content plan.nodes.items report)
     (few : files.faults < last_count) (counted : files'.faults ≡ count_with faults files.faults (map source_in report.sources.items)) (o : Outcome) where
+  abbrev Ends : Outcome → Type 0
+  Ends o = RunEnds false plan.nodes.items files files' out out' report.edges.items report.ran.items o
+
   -- a run that is done ends with its text
-  done_ends : report.outcome ≡ came.Done → WritesRun plan.nodes.items (list_at reported.reported.given (output_place plan.nodes.items)) (forgot_in plan.nodes.items (ports_of plan.nodes.items (carried report.edges.items))) out out' o → RunEnds plan.nodes.items files files' out out' report.edges.items report.ran.items o
-  done_ends done (inl lacks) = lacking_ends plan.nodes.items files files' out out' report.edges.items report.ran.items o lacks.0 lacks.1
+  done_ends : report.outcome ≡ came.Done → WritesRun plan.nodes.items (list_at reported.reported.given (output_place plan.nodes.items)) (forgot_in plan.nodes.items (ports_of plan.nodes.items (carried report.edges.items))) out out' o → Ends o
+  done_ends done (inl lacks) = lacking_ends false plan.nodes.items files files' out out' report.edges.items report.ran.items o lacks.0 (inl (kept_same out out' lacks.1))
   done_ends done (inr wrote) =
       wrote_ends plan.nodes.items files files' out out' report.edges.items report.ran.items _ o (counted ∙ none_rose rest faults accepts plan is files.content report reported done files.faults (omega (arith, few)))
       (answers_so rest faults accepts plan is files.content report reported done wrote.0 wrote.1.0) wrote.1.1
 
-  ends_as : (how : Came) → report.outcome ≡ how → (short : Bool) → CameTo report.sources.items short how → Tells how plan.nodes.items report.changes.items report.forgotten.items out out' o → RunEnds plan.nodes.items files files' out out' report.edges.items report.ran.items o
+  ends_as : (how : Came) → report.outcome ≡ how → (short : Bool) → CameTo report.sources.items short how → Tells how plan.nodes.items report.changes.items report.forgotten.items out out' o → Ends o
   ends_as came.Done is_how short so tells = done_ends is_how (tells (list_at reported.reported.given (output_place plan.nodes.items)) (forgot_in plan.nodes.items (ports_of plan.nodes.items (carried report.edges.items))) (can_tell rest faults accepts plan is files.content report reported is_how))
-  ends_as came.Memory is_how short so tells = lacking_ends plan.nodes.items files files' out out' report.edges.items report.ran.items o tells.0 tells.1
+  ends_as came.Memory is_how short so tells = lacking_ends false plan.nodes.items files files' out out' report.edges.items report.ran.items o tells.0 (inl (kept_same out out' tells.1))
   ends_as came.Read is_how short so tells =
-      read_ends plan.nodes.items files files' out out' report.edges.items report.ran.items o tells.0 (subst (λ (n : ℕ). files.faults < n) (sym counted) (some_rose rest faults accepts plan is files.content report reported so.2 files.faults few)) tells.1
+      read_ends false plan.nodes.items files files' out out' report.edges.items report.ran.items o tells.0 (subst (λ (n : ℕ). files.faults < n) (sym counted) (some_rose rest faults accepts plan is files.content report reported so.2 files.faults few)) (inl (kept_same out out' tells.1))
   ends_as (came.Events listed) is_how short so tells =
-      said_ends plan.nodes.items files files' out out' report.edges.items report.ran.items (faults_said (source_nodes plan.nodes.items) listed.items) o (counted ∙ faulty_kept rest faults accepts plan is files.content report reported so.2 files.faults (omega (arith, few))) tells.1
-      (refuses_so rest faults accepts plan is files.content report reported so.2 so.1 listed.items so.3 so.4) tells.0
+      said_ends false plan.nodes.items files files' out out' report.edges.items report.ran.items (faults_said (source_nodes plan.nodes.items) listed.items) o (counted ∙ faulty_kept rest faults accepts plan is files.content report reported so.2 files.faults (omega (arith, few)))
+      (ap (λ (o : SinkSeen). o.faults) tells.1) (inl (kept_same out out' tells.1)) (inl (kept_same out out' tells.1)) (refuses_so rest faults accepts plan is files.content report reported so.2 so.1 listed.items so.3 so.4) tells.0
 
   -- a run ends as is told of it
-  pub run_ends : Tells report.outcome plan.nodes.items report.changes.items report.forgotten.items out out' o → RunEnds plan.nodes.items files files' out out' report.edges.items report.ran.items o
+  pub run_ends : Tells report.outcome plan.nodes.items report.changes.items report.forgotten.items out out' o → Ends o
   run_ends tells = ends_as report.outcome refl reported.reported.short reported.reported.came tells

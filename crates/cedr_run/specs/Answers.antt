@@ -1,12 +1,14 @@
 -- What a command writes, and why it is refused, by what the files hold that it reads.
-use Rattle.std.specs.Prelude.{ℕ, ◌≡◌, ◌<◌, Bool, true, false, List, [], ◌∷◌, ◌++◌, length, map, codes, if◌then◌else◌, Option, None, Some, Ok, Err}
+use Rattle.std.specs.Prelude.{ℕ, ◌≡◌, ◌<◌, ◌⊎◌, Bool, true, false, List, [], ◌∷◌, ◌++◌, length, map, take, codes, if◌then◌else◌, Option, None, Some, Ok, Err}
 use Rattle.std.specs.Str.{bytes_eq}
+use Rattle.cedr_base.specs.declared.change.Message.{Message}
+use Rattle.cedr_text.specs.declared.event_line.Shape.{Shape}
 use Rattle.cedr_text.specs.declared.event_line.Shape.TheVariants.{AnyText}
 use Rattle.cedr_text.specs.Texts.{rows_text}
 use Rattle.cedr_base.specs.Rows.{in_order}
 use Rattle.cedr_guard.specs.declared.refusal.Refusal.{Refusal}
 use Rattle.cedr_guard.specs.History.{history_of}
-use Rattle.cedr_guard.specs.Sources.{judged}
+use Rattle.cedr_guard.specs.Sources.{judged, messages_of}
 use Rattle.cedr_laws.specs.Lists.{Lists}
 use Rattle.cedr_live.specs.Plays.{IsPlayed, IsPlayedSoFar}
 use Rattle.cedr_make.specs.BuiltIn.{built_in}
@@ -20,13 +22,13 @@ use Rattle.cedr_plan.specs.declared.plan.PlanNode.{PlanNode}
 use Rattle.cedr_query.specs.Queries.{output_place, query}
 use Rattle.cedr_crew.specs.Wents.{AreRan}
 use Rattle.cedr_edge.specs.Ends.{Carried}
-use Rattle.cedr_runs.specs.Runs.{IsRun}
+use Rattle.cedr_runs.specs.Runs.{IsPartialRun, IsPrefix, IsRun}
 use Rattle.cedr_runs.specs.Without.{forgot_in}
-use Rattle.cedr_serial.specs.Answers.{has_memory, answer_text}
-use Rattle.cedr_serial.specs.Queries.{source_nodes, AreAccepted, IsAnswerText, IsStreamText, LeadsTo, MayStream, rows_without}
+use Rattle.cedr_serial.specs.Answers.{has_memory, answer_text, tail_text}
+use Rattle.cedr_serial.specs.Queries.{source_nodes, AreAccepted, IsAnswerText, IsStreamText, LeadsTo, given_text, rows_without}
 use Rattle.cedr_wires.specs.Wires.{carried, ports_of}
 use Rattle.cedr_worker.specs.declared.ran.Ran.{Ran}
-use Rattle.cedr_serial.specs.Sources.{source_files, AreTold, AllHaveGiven, faulty_from}
+use Rattle.cedr_serial.specs.Sources.{source_files, AreTold, AllHaveGiven, HasTypes, faulty_from, file_of}
 use Rattle.cedr_table.specs.Operators.{Tables, table_at}
 use Rattle.cedr_run.specs.declared.command.Job.{Job}
 use Rattle.cedr_run.specs.declared.command.Job.TheVariants.{History, Check, Serial, Run, Stream, Audit, Live, Make}
@@ -97,12 +99,46 @@ pub record AnswersChanges (told : List ℕ → List ℕ) (nodes : List PlanNode)
   pub text_is : IsStreamText nodes sources text
   pub leads : LeadsTo nodes histories text_is.ports text_is.given
 
--- and of a text of whose changes a front is written where writing or memory fails
-pub record BeginsChanges (told : List ℕ → List ℕ) (nodes : List PlanNode) (text : List ℕ) : Type 0 where
+-- The same, of a run whose workers sent this over its edges, and did so much.
+pub record AnswersStream (told : List ℕ → List ℕ) (nodes : List PlanNode) (edges : List Carried) (ran : List Ran) (text : List ℕ) : Type 0 where
   pub sources : Lists
   pub histories : Tables
   pub accepted : AreAccepted told (source_nodes nodes) sources histories
-  pub text_is : MayStream nodes sources text
+  pub given : Lists
+  pub run : IsRun nodes sources (ports_of nodes (carried edges)) given
+  pub text_is : text ≡ given_text nodes given ++ (if has_memory nodes then tail_text nodes (forgot_in nodes (ports_of nodes (carried edges))) else [])
+  pub leads : LeadsTo nodes histories (ports_of nodes (carried edges)) given
+  pub ran_is : AreRan nodes edges ran
+
+-- ---- a stream that was broken off
+
+-- these are the first messages of the good lines of a source; the end is among them only where all its lines are good
+pub record HasBegun (told : List ℕ → List ℕ) (node : PlanNode) (ms : List Message) : Type 0 where
+  pub shape : Shape
+  pub types : HasTypes shape node.types.items
+  pub first : IsPrefix ms (messages_of shape (told (file_of node.kind)))
+
+abbrev pub AllHaveBegun : (List ℕ → List ℕ) → List PlanNode → Lists → Type 0
+AllHaveBegun told [] [] = Unit {0}
+AllHaveBegun told [] (l ∷ ls) = ⊥
+AllHaveBegun told (n ∷ nodes) [] = ⊥
+AllHaveBegun told (n ∷ nodes) (l ∷ ls) = HasBegun told n l × AllHaveBegun told nodes ls
+
+-- the changes that the output gave in a partial run over the first messages of the sources
+pub record StreamsSoFar (told : List ℕ → List ℕ) (nodes : List PlanNode) (text : List ℕ) : Type 0 where
+  pub begun : Lists
+  pub first : AllHaveBegun told (source_nodes nodes) begun
+  pub ports : List Lists
+  pub given : Lists
+  pub run : IsPartialRun nodes begun ports given
+  pub text_is : text ≡ given_text nodes given
+
+-- a front of such a text
+pub record StreamsFront (told : List ℕ → List ℕ) (nodes : List PlanNode) (text : List ℕ) : Type 0 where
+  pub whole : List ℕ
+  pub begins : StreamsSoFar told nodes whole
+  pub count : ℕ
+  pub text_is : text ≡ take count whole
 
 -- what a command gives of a plan of these nodes and its sources
 abbrev pub GivesPlan : Job → (List ℕ → List ℕ) → List PlanNode → List ℕ → Type 0
@@ -112,7 +148,7 @@ GivesPlan job told nodes text = AnswersQuery false told nodes text
 
 -- and of which a front is written where writing or memory fails
 abbrev pub BeginsPlan : Job → (List ℕ → List ℕ) → List PlanNode → List ℕ → Type 0
-BeginsPlan Stream told nodes text = BeginsChanges told nodes text
+BeginsPlan Stream told nodes text = StreamsSoFar told nodes text ⊎ AnswersChanges told nodes text
 BeginsPlan job told nodes text = GivesPlan job told nodes text
 
 -- a line for each node whose source isn't accepted, in the order of the plan, with its first fault
@@ -192,7 +228,7 @@ Refuses content told command text said = refuses command.job where
   refuses Serial = (text ≡ []) × OfPlan content told command.file (λ nodes. RefusesSources told nodes said)
   refuses Run = (text ≡ []) × OfPlan content told command.file (λ nodes. RefusesSources told nodes said)
   refuses Audit = (text ≡ []) × OfPlan content told command.file (λ nodes. RefusesSources told nodes said)
-  refuses Stream = (text ≡ []) × OfPlan content told command.file (λ nodes. RefusesSources told nodes said)
+  refuses Stream = OfPlan content told command.file (λ nodes. RefusesSources told nodes said × ((text ≡ []) ⊎ StreamsFront told nodes text))
   refuses Live = OfPlanAlone (told command.file) (λ nodes. RefusesScript command.script (told command.script) nodes text said)
   refuses (Make n) = ⊥
 

@@ -1,5 +1,5 @@
 -- How a command went, and what is said of it.
-use Rattle.std.specs.Prelude.{ℕ, ◌≢◌, ◌<◌, ◌⊎◌, List, [], ◌∷◌, ◌++◌, codes}
+use Rattle.std.specs.Prelude.{ℕ, ◌≡◌, ◌≢◌, ◌<◌, ◌⊎◌, List, [], ◌∷◌, ◌++◌, codes}
 use Rattle.std.specs.Io.KnownBytes.{Appends, Keeps}
 use Rattle.cedr_io.specs.Asked.{AppendsFront}
 use Rattle.cedr_plan.specs.declared.plan.PlanNode.{PlanNode}
@@ -11,7 +11,7 @@ use Rattle.cedr_run.specs.declared.outcome.Outcome.{Outcome}
 use Rattle.cedr_run.specs.declared.outcome.Outcome.TheVariants as outcome
 use Rattle.cedr_run.specs.declared.status.Status.{Status}
 use Rattle.cedr_run.specs.declared.status.Status.TheVariants as status
-use Rattle.cedr_run.specs.Answers.{IsPlanOf, Gives, Refuses, Begins, RefusesPlan}
+use Rattle.cedr_run.specs.Answers.{IsPlanOf, OfPlan, Gives, Refuses, Begins, RefusesPlan, StreamsSoFar}
 use Rattle.cedr_run.specs.Commands.{Command, named_files}
 use Rattle.cedr_run.specs.Refusals.{plan_fault_text}
 use Rattle.cedr_run.specs.Seen.{FilesSeen, SinkSeen, NoneRose, BreaksOff}
@@ -65,20 +65,24 @@ WroteFront files command out out' holds = (told : List ℕ → List ℕ) → Are
 
 -- nothing was written, unless this command writes as it goes
 abbrev pub IsSilent : Command → SinkSeen → SinkSeen → Type 0
-IsSilent command out out' = command.job ≢ Live → Keeps out.written out'.written
+IsSilent command out out' = command.job ≢ Live → command.job ≢ Stream → Keeps out.written out'.written
+
+-- the same at a refused read: `stream` had written a front of the changes of a partial run
+abbrev pub IsSilentAtRead : Command → FilesSeen → SinkSeen → SinkSeen → Type 0
+IsSilentAtRead command files out out' = Keeps out.written out'.written ⊎ ((command.job ≡ Stream) × WroteFront files command out out' (λ told text. OfPlan files.content told command.file (λ nodes. StreamsSoFar told nodes text)))
 
 -- Which counts rose, and what out gained:
 -- `Done`: nothing refused, and out gained what the command gives.
 -- `Events`: nothing refused, and some line that the command read isn't accepted, which is what is said.
 -- `BadPlan`: nothing refused or was written, and the file is no plan.
--- `Read` and `Write`: a count rose.
+-- `Read` and `Write`: a count rose. At `Read` nothing was written, but for what `stream` had written by then.
 -- At `Write` and at want of memory out gained nothing, or a front of what the command gives.
 abbrev pub CommandEnds : Command → FilesSeen → FilesSeen → SinkSeen → SinkSeen → Outcome → Type 0
 CommandEnds command files files' out out' outcome.Done = NoneRose files files' out out' × Wrote files command out out' (λ told text. Gives files.content told command text)
 CommandEnds command files files' out out' outcome.Usage = ⊥
 CommandEnds command files files' out out' (outcome.Events said) = NoneRose files files' out out' × IsSilent command out out' × Wrote files command out out' (λ told text. Refuses files.content told command text said.items)
 CommandEnds command files files' out out' (outcome.BadPlan kind node) = NoneRose files files' out out' × Keeps out.written out'.written × ((told : List ℕ → List ℕ) → AreTold files.content told (command.file ∷ []) → RefusesPlan told command kind node)
-CommandEnds command files files' out out' outcome.Read = (files.faults < files'.faults) × Keeps out.written out'.written
+CommandEnds command files files' out out' outcome.Read = (files.faults < files'.faults) × IsSilentAtRead command files out out'
 CommandEnds command files files' out out' outcome.Write = (out.faults < out'.faults) × WroteFront files command out out' (λ told text. Begins files.content told command text)
 CommandEnds command files files' out out' outcome.OutOfMemory = Keeps out.written out'.written ⊎ WroteFront files command out out' (λ told text. Begins files.content told command text)
 

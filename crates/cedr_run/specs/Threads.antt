@@ -1,5 +1,5 @@
 -- How a run on threads ends, and what is told of it.
-use Rattle.std.specs.Prelude.{ℕ, ◌≡◌, ◌<◌, ◌⊎◌, List, [], ◌∷◌, ◌++◌, length, map, Option, None, Some}
+use Rattle.std.specs.Prelude.{ℕ, ◌≡◌, ◌<◌, ◌⊎◌, Bool, true, false, List, [], ◌∷◌, ◌++◌, length, map, if◌then◌else◌, Option, None, Some}
 use Rattle.std.specs.Io.KnownBytes.{Appends, Keeps}
 use Rattle.std.specs.List.{All, slice_get}
 use Rattle.cedr_answer.specs.Finds.{AreFound}
@@ -12,25 +12,29 @@ use Rattle.cedr_crew.specs.declared.forgotten.PortForgotten.{PortForgotten}
 use Rattle.cedr_crew.specs.Forgettings.{nodes_told, told as as_told}
 use Rattle.cedr_edge.specs.Ends.{Carried}
 use Rattle.cedr_io.specs.Asked.{AppendsFront}
+use Rattle.cedr_io.specs.Counts.{Rose, last_count}
 use Rattle.cedr_laws.specs.declared.forgotten.Forgotten.{Forgotten}
 use Rattle.cedr_plan.specs.declared.plan.PlanNode.{PlanNode}
 use Rattle.cedr_query.specs.Queries.{source_count}
-use Rattle.cedr_serial.specs.Answers.{answer_text, has_memory}
-use Rattle.cedr_serial.specs.Queries.{source_nodes}
+use Rattle.cedr_serial.specs.Answers.{answer_text, has_memory, tail_text}
+use Rattle.cedr_serial.specs.Queries.{changes_text, source_nodes}
 use Rattle.cedr_serial.specs.Sources.{AreTold, source_files}
 use Rattle.cedr_threads.specs.declared.report.Outcome.{Outcome as Came}
 use Rattle.cedr_threads.specs.declared.report.Outcome.TheVariants as came
 use Rattle.cedr_threads.specs.declared.report.Report.{Report}
 use Rattle.cedr_threads.specs.declared.report.SourceFault.{SourceFault}
 use Rattle.cedr_threads.specs.Reports.{IsReport}
+use Rattle.cedr_threads.specs.SoFar.{IsSoFar}
 use Rattle.cedr_worker.specs.declared.ran.Ran.{Ran}
 use Rattle.cedr_run.specs.declared.command.Job.{Job}
-use Rattle.cedr_run.specs.declared.command.Job.TheVariants.{Run}
+use Rattle.cedr_run.specs.declared.command.Job.TheVariants.{Run, Stream}
 use Rattle.cedr_run.specs.declared.outcome.Outcome.{Outcome}
 use Rattle.cedr_run.specs.declared.outcome.Outcome.TheVariants as outcome
+use Rattle.cedr_run.specs.declared.progress.Progress.{Progress}
+use Rattle.cedr_run.specs.declared.progress.Progress.TheVariants as progress
 use Rattle.cedr_run.specs.declared.status.Status.{Status}
 use Rattle.cedr_run.specs.declared.status.Status.TheVariants as status
-use Rattle.cedr_run.specs.Answers.{AnswersRun, Contents, OfPlan, RefusesSources}
+use Rattle.cedr_run.specs.Answers.{AnswersRun, AnswersStream, BeginsPlan, Contents, OfPlan, RefusesSources, StreamsSoFar}
 use Rattle.cedr_run.specs.Commands.{Command}
 use Rattle.cedr_run.specs.Outcomes.{Wrote}
 use Rattle.cedr_run.specs.Seen.{FilesSeen, SinkSeen, NoneRose}
@@ -66,6 +70,44 @@ Tells came.Memory nodes changes forgotten out out' o = (o ≡ outcome.OutOfMemor
 Tells came.Read nodes changes forgotten out out' o = (o ≡ outcome.Read) × (out' ≡ out)
 Tells (came.Events faults) nodes changes forgotten out out' o = Says o (faults_said (source_nodes nodes) faults.items) × (out' ≡ out)
 
+-- ---- what is written of a stream
+
+-- What a sink took since it was as it was: the lines of all these changes, or where a write was refused or memory was
+-- lacking a front of them.
+abbrev pub WroteList : Progress → SinkSeen → SinkSeen → List Change → Type 0
+WroteList progress.Whole out out' list = (out'.faults ≡ out.faults) × Appends out.written out'.written (changes_text list)
+WroteList progress.Refused out out' list = Rose out.faults out'.faults × AppendsFront out.written out'.written (changes_text list)
+WroteList progress.Lacked out out' list = (out'.faults ≡ out.faults) × AppendsFront out.written out'.written (changes_text list)
+
+-- what follows the changes: what was forgotten, where some port has a finite memory
+abbrev pub tail_of : List PlanNode → List (List (List Forgotten)) → List ℕ
+tail_of nodes listed = if has_memory nodes then tail_text nodes listed else []
+
+-- this is what each port of each node forgot
+pub record CanTellTail (nodes : List PlanNode) (forgotten : List PortForgotten) (listed : List (List (List Forgotten))) : Type 0 where
+  pub forgotten_are : map as_told forgotten ≡ nodes_told 0 listed
+  pub count : length listed ≡ length nodes
+
+-- memory ran out before it was written, or it was written, or a front of it
+abbrev pub WritesTail : List PlanNode → List (List (List Forgotten)) → SinkSeen → SinkSeen → Outcome → Type 0
+WritesTail nodes listed out out' o = ((o ≡ outcome.OutOfMemory) × (out' ≡ out)) ⊎ WritesText o out out' (tail_of nodes listed)
+
+-- how a stream ends that a refused write broke off
+abbrev pub broken_off : Came → Outcome
+broken_off came.Done = outcome.Write
+broken_off came.Memory = outcome.OutOfMemory
+broken_off came.Read = outcome.Write
+broken_off (came.Events faults) = outcome.Write
+
+-- by how the run came to its end, and how much was written, the rest is written, or it is said why there is none
+abbrev pub TellsStream : Came → Progress → List PlanNode → List PortForgotten → SinkSeen → SinkSeen → Outcome → Type 0
+TellsStream how progress.Lacked nodes forgotten out out' o = (o ≡ outcome.OutOfMemory) × (out' ≡ out)
+TellsStream how progress.Refused nodes forgotten out out' o = (o ≡ broken_off how) × (out' ≡ out)
+TellsStream came.Done progress.Whole nodes forgotten out out' o = (listed : List (List (List Forgotten))) → CanTellTail nodes forgotten listed → WritesTail nodes listed out out' o
+TellsStream came.Memory progress.Whole nodes forgotten out out' o = (o ≡ outcome.OutOfMemory) × (out' ≡ out)
+TellsStream came.Read progress.Whole nodes forgotten out out' o = (o ≡ outcome.Read) × (out' ≡ out)
+TellsStream (came.Events faults) progress.Whole nodes forgotten out out' o = Says o (faults_said (source_nodes nodes) faults.items) × (out' ≡ out)
+
 -- ---- a run
 
 -- What is reported of a plan's workers over the sources that its files name. As they were found these had no fault.
@@ -76,45 +118,76 @@ pub record IsReported {S : Type 0} (rest : S → Option (List ℕ)) (faults : S 
   pub fresh : All (λ (s : S). faults s ≡ 0) sources
   pub found : AreFound rest content nodes sources
 
--- what went over the edges and what the workers did answers the plan with this text, where it is told what the files hold
-abbrev pub AnswersSo : Contents → List PlanNode → List Carried → List Ran → List ℕ → Type 0
-AnswersSo content nodes edges ran text = (told : List ℕ → List ℕ) → AreTold content told (source_files nodes) → AnswersRun told nodes edges ran text
+-- The same of a run whose changes were written as they came, by now so far.
+pub record IsStreamed {S : Type 0} (rest : S → Option (List ℕ)) (faults : S → ℕ) (content : Contents) (nodes : List PlanNode) (report : Report S) (by : Progress) (out out' : SinkSeen) : Type 0 where
+  pub run : IsReported rest faults content nodes report
+  pub list : List Change
+  pub so_far : IsSoFar rest faults nodes run.sources report.sources.items list
+  pub wrote : WroteList by out out' list
+  pub whole : report.outcome ≡ came.Done → WroteList by out out' report.changes.items
+  pub counts : out.faults < last_count
 
--- such a text was written, or a front of it
-pub record GaveRun (content : Contents) (nodes : List PlanNode) (edges : List Carried) (ran : List Ran) (out out' : SinkSeen) : Type 0 where
+-- the text that is written at the end, or that of the changes as they come, of what went over the edges
+abbrev pub AnswersBy : Bool → (List ℕ → List ℕ) → List PlanNode → List Carried → List Ran → List ℕ → Type 0
+AnswersBy false told nodes edges ran text = AnswersRun told nodes edges ran text
+AnswersBy true told nodes edges ran text = AnswersStream told nodes edges ran text
+
+-- the text of which a front is written where writing or memory fails
+abbrev pub BeginsBy : Bool → (List ℕ → List ℕ) → List PlanNode → List Carried → List Ran → List ℕ → Type 0
+BeginsBy false told nodes edges ran text = AnswersRun told nodes edges ran text
+BeginsBy true told nodes edges ran text = BeginsPlan Stream told nodes text
+
+-- such a text was written, where it is told what the files hold, or a front of it
+pub record GaveRun (streams : Bool) (content : Contents) (nodes : List PlanNode) (edges : List Carried) (ran : List Ran) (out out' : SinkSeen) : Type 0 where
   pub text : List ℕ
-  pub answers : AnswersSo content nodes edges ran text
+  pub answers : (told : List ℕ → List ℕ) → AreTold content told (source_files nodes) → AnswersBy streams told nodes edges ran text
   pub wrote : Appends out.written out'.written text
 
-pub record BeganRun (content : Contents) (nodes : List PlanNode) (edges : List Carried) (ran : List Ran) (out out' : SinkSeen) : Type 0 where
+pub record BeganRun (streams : Bool) (content : Contents) (nodes : List PlanNode) (edges : List Carried) (ran : List Ran) (out out' : SinkSeen) : Type 0 where
   pub text : List ℕ
-  pub answers : AnswersSo content nodes edges ran text
+  pub begins : (told : List ℕ → List ℕ) → AreTold content told (source_files nodes) → BeginsBy streams told nodes edges ran text
   pub wrote : AppendsFront out.written out'.written text
 
--- how a run of a plan ends that was opened
-abbrev pub RunEnds : List PlanNode → FilesSeen → FilesSeen → SinkSeen → SinkSeen → List Carried → List Ran → Outcome → Type 0
-RunEnds nodes files files' out out' edges ran outcome.Done = NoneRose files files' out out' × GaveRun files.content nodes edges ran out out'
-RunEnds nodes files files' out out' edges ran (outcome.Events said) = NoneRose files files' out out' × Keeps out.written out'.written × ((told : List ℕ → List ℕ) → AreTold files.content told (source_files nodes) → RefusesSources told nodes said.items)
-RunEnds nodes files files' out out' edges ran outcome.Read = (files.faults < files'.faults) × Keeps out.written out'.written
-RunEnds nodes files files' out out' edges ran outcome.Write = (out.faults < out'.faults) × BeganRun files.content nodes edges ran out out'
-RunEnds nodes files files' out out' edges ran outcome.OutOfMemory = Keeps out.written out'.written ⊎ BeganRun files.content nodes edges ran out out'
-RunEnds nodes files files' out out' edges ran outcome.Usage = ⊥
-RunEnds nodes files files' out out' edges ran (outcome.BadPlan kind node) = ⊥
+-- a front of the changes of a partial run was written
+pub record WroteSome (content : Contents) (nodes : List PlanNode) (out out' : SinkSeen) : Type 0 where
+  pub text : List ℕ
+  pub begins : (told : List ℕ → List ℕ) → AreTold content told (source_files nodes) → StreamsSoFar told nodes text
+  pub wrote : AppendsFront out.written out'.written text
 
--- ---- what `run` answers besides
+-- nothing was written, or of a stream such a front
+abbrev pub IsSilentBy : Bool → Contents → List PlanNode → SinkSeen → SinkSeen → Type 0
+IsSilentBy streams content nodes out out' = Keeps out.written out'.written ⊎ ((streams ≡ true) × WroteSome content nodes out out')
+
+-- how a run of a plan ends that was opened, and whose changes are written as they come or whose rows at the end
+abbrev pub RunEnds : Bool → List PlanNode → FilesSeen → FilesSeen → SinkSeen → SinkSeen → List Carried → List Ran → Outcome → Type 0
+RunEnds streams nodes files files' out out' edges ran outcome.Done = NoneRose files files' out out' × GaveRun streams files.content nodes edges ran out out'
+RunEnds streams nodes files files' out out' edges ran (outcome.Events said) = NoneRose files files' out out' × IsSilentBy streams files.content nodes out out' × ((told : List ℕ → List ℕ) → AreTold files.content told (source_files nodes) → RefusesSources told nodes said.items)
+RunEnds streams nodes files files' out out' edges ran outcome.Read = (files.faults < files'.faults) × IsSilentBy streams files.content nodes out out'
+RunEnds streams nodes files files' out out' edges ran outcome.Write = (out.faults < out'.faults) × BeganRun streams files.content nodes edges ran out out'
+RunEnds streams nodes files files' out out' edges ran outcome.OutOfMemory = Keeps out.written out'.written ⊎ BeganRun streams files.content nodes edges ran out out'
+RunEnds streams nodes files files' out out' edges ran outcome.Usage = ⊥
+RunEnds streams nodes files files' out out' edges ran (outcome.BadPlan kind node) = ⊥
+
+-- ---- what `run` and `stream` answer besides
+
+-- the command that writes the changes as they come, and the one that writes the rows at the end
+abbrev pub job_by : Bool → Job
+job_by false = Run
+job_by true = Stream
 
 -- no edge was closed, and no worker took a turn
 abbrev pub AreBare : List Carried → List Ran → Type 0
 AreBare edges ran = (edges ≡ []) × (ran ≡ [])
 
 -- the text that was written is that of what went over these edges
-abbrev pub WroteRun : FilesSeen → Command → SinkSeen → SinkSeen → List Carried → List Ran → Type 0
-WroteRun files command out out' edges ran = Wrote files command out out' (λ told text. OfPlan files.content told command.file (λ nodes. AnswersRun told nodes edges ran text))
+abbrev pub WroteRun : Bool → FilesSeen → Command → SinkSeen → SinkSeen → List Carried → List Ran → Type 0
+WroteRun streams files command out out' edges ran = Wrote files command out out' (λ told text. OfPlan files.content told command.file (λ nodes. AnswersBy streams told nodes edges ran text))
 
--- where `run PLAN` is done the edges and the turns are those of its text; all other words have none
+-- where `run PLAN` or `stream PLAN` is done the edges and the turns are those of its text; all other words have none
 abbrev pub HasRun : Option Command → FilesSeen → SinkSeen → SinkSeen → Status → List Carried → List Ran → Type 0
 HasRun None files out out' s edges ran = AreBare edges ran
 HasRun (Some command) files out out' s edges ran = has_run command.job where
   has_run : Job → Type 0
-  has_run Run = s ≡ status.Done → WroteRun files command out out' edges ran
+  has_run Run = s ≡ status.Done → WroteRun false files command out out' edges ran
+  has_run Stream = s ≡ status.Done → WroteRun true files command out out' edges ran
   has_run job = AreBare edges ran

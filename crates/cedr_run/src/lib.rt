@@ -1,8 +1,8 @@
 //! The top call: from the words of a command line to what is written and the exit status.
 //!
 //! `run` and `run_alone` end as the record `Ends` in `specs/Ending.antt` says: which status may come when,
-//! what the output and the error stream gained, and which files were asked for. Where `run PLAN` is done `run` answers too what
-//! went over the edges of the plan, as the record `AnswersRun` in `specs/Answers.antt` says. What `history` writes
+//! what the output and the error stream gained, and which files were asked for. Where `run PLAN` or `stream PLAN` is done `run`
+//! answers too what went over the edges of the plan, as `AnswersRun` and `AnswersStream` in `specs/Answers.antt` say. What `history` writes
 //! is the text of the canonical history of the file's lines, as the crate `cedr_guard` defines it; what
 //! `check` writes is a line for each node of the plan that the file's bytes describe, as the crate
 //! `cedr_plan` defines them.
@@ -17,12 +17,14 @@ mod history;
 mod make;
 mod outcome;
 mod plan;
+mod progress;
 mod quiet;
 mod refusal;
 mod saying;
 mod script;
 mod sources;
 mod status;
+mod streaming;
 mod telling;
 mod threads;
 mod top;

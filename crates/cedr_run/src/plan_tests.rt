@@ -272,20 +272,50 @@ fn the_files_are_asked_for_in_the_order_of_the_plan(rt: HostRuntime) -> Result<(
 }
 
 #[test]
-fn a_read_that_fails_later_is_told_and_nothing_is_written(rt: HostRuntime) -> Result<(), Fail> {
+fn a_read_that_fails_later_is_told_and_a_stream_leaves_what_it_wrote(
+    rt: HostRuntime,
+) -> Result<(), Fail> {
     let alloc = rt.alloc();
     let given: Given = &[
         ("u.csv", "+,1,1,2,a\n=,50\n"),
         ("v.csv", "+,1,1,3,b\n=,9\n+,2,20,30,c\n"),
     ];
-    for command in ["run", "stream"] {
-        let mut files = files(alloc, UNION, given)?;
-        files.set_piece(8);
-        files.fail_read("v.csv", 3)?;
-        let words = words(alloc, &[command, "p.json"])?;
-        let (code, out, err) = ended(rt, &words, &mut files)?;
-        assert_eq!(rt; (code, out.len()), (4, 0));
-        assert_eq!(rt; err.as_slice(), b"read fault\n".as_slice());
+    for (command, longest) in [("run", ""), ("stream", "+,1,2,a\n+,1,3,b\n")] {
+        for read in 1..6 {
+            let mut files = files(alloc, UNION, given)?;
+            files.set_piece(8);
+            files.fail_read("v.csv", read)?;
+            let words = words(alloc, &[command, "p.json"])?;
+            let (code, out, err) = ended(rt, &words, &mut files)?;
+            assert_eq!(rt; code, 4, "{command} {read}");
+            assert!(rt;
+                longest.as_bytes().starts_with(out.as_slice()),
+                "{command} {read}"
+            );
+            assert_eq!(rt; err.as_slice(), b"read fault\n".as_slice());
+        }
+    }
+    Ok(())
+}
+
+#[test]
+fn a_stream_of_a_refused_write_leaves_a_front(rt: HostRuntime) -> Result<(), Fail> {
+    let alloc = rt.alloc();
+    let given: Given = &[("s.csv", "+,1,1,10,a\n+,2,2,9,b\n-,1,5\n")];
+    for call in 1..9 {
+        let mut files = files(alloc, PASS, given)?;
+        let (mut out, mut err) = (MemSink::new(alloc), MemSink::new(alloc));
+        out.set_piece(4);
+        out.fail_write(call)?;
+        let words = words(alloc, &["stream", "p.json"])?;
+        let gate = Arc::new(alloc, OpenGate)?;
+        let status = run(rt, alloc, &words, &mut files, &mut out, &mut err, &gate).status;
+        assert_eq!(rt; status, Status::Write, "write {call}");
+        assert!(rt;
+            b"+,1,10,a\n+,2,9,b\n-,5,1,10,a\n".starts_with(out.written()),
+            "write {call}"
+        );
+        assert_eq!(rt; err.written(), b"write fault\n".as_slice());
     }
     Ok(())
 }
@@ -304,6 +334,7 @@ fn a_stream_and_a_script_leave_what_they_wrote(rt: HostRuntime) -> Result<(), Fa
     for (texts, left) in cases {
         let mut files = files(alloc, PASS, given)?;
         let (mut out, mut err) = (MemSink::new(alloc), MemSink::new(alloc));
+        out.set_piece(left.len());
         out.fail_write(2)?;
         let words = words(alloc, texts)?;
         let gate = Arc::new(alloc, OpenGate)?;
@@ -349,7 +380,7 @@ fn a_faulty_source_is_told_by_its_own_name(rt: HostRuntime) -> Result<(), Fail> 
         ),
     ];
     for (given, told) in cases {
-        for command in ["run", "serial", "stream"] {
+        for command in ["run", "serial"] {
             let answered = gives(rt, command, APART, given, (3, "", told))?;
             assert!(rt; answered, "{command} {told}");
         }
@@ -358,10 +389,22 @@ fn a_faulty_source_is_told_by_its_own_name(rt: HostRuntime) -> Result<(), Fail> 
 }
 
 #[test]
+fn a_stream_tells_a_faulty_source_behind_what_it_wrote(rt: HostRuntime) -> Result<(), Fail> {
+    let given: Given = &[("s.csv", "\n*\n"), ("t.csv", "+,1,1,20,a\n")];
+    let mut files = files(rt.alloc(), APART, given)?;
+    let words = words(rt.alloc(), &["stream", "p.json"])?;
+    let (code, out, err) = ended(rt, &words, &mut files)?;
+    assert_eq!(rt; code, 3);
+    assert_eq!(rt; err.as_slice(), b"events s line 2 fault 2\n".as_slice());
+    assert!(rt; b"+,1,20,a\n".starts_with(out.as_slice()));
+    Ok(())
+}
+
+#[test]
 fn a_run_tells_what_went_over_its_edges(rt: HostRuntime) -> Result<(), Fail> {
     let alloc = rt.alloc();
     let given: Given = &[("s.csv", "+,1,1,20,a\n+,2,4,10,b\n=,5\n")];
-    for (command, edges, workers) in [("run", 2, 3), ("serial", 0, 0), ("stream", 0, 0)] {
+    for (command, edges, workers) in [("run", 2, 3), ("serial", 0, 0), ("stream", 2, 3)] {
         let mut files = files(alloc, GROUP, given)?;
         let (mut out, mut err) = (MemSink::new(alloc), MemSink::new(alloc));
         let words = words(alloc, &[command, "p.json"])?;

@@ -15,7 +15,7 @@ pub(crate) struct Quiet {
 
 impl Quiet {
     pub(crate) fn new(alloc: Global) -> Quiet
-        ensures { ⟦<Quiet as Watcher>⟧.stands result [] }
+        ensures { ⟦<Quiet as Watcher>⟧.stands tt result tt [] }
     {
         Quiet {
             count: 0,
@@ -25,9 +25,11 @@ impl Quiet {
 }
 
 impl Watcher for Quiet {
-    ghost stands = { λ w list. w.count ≡ length list };
+    type Out = ();
 
-    fn look(&mut self, reader: &mut Reader) -> Result<bool, OutOfMemory> {
+    ghost stands = { λ _ w _ list. w.count ≡ length list };
+
+    fn look(&mut self, reader: &mut Reader, _out: &mut ()) -> Result<bool, OutOfMemory> {
         match reader.read(self.count, 0, &mut self.taken)? {
             Some(seen) => {
                 self.count = seen.len;

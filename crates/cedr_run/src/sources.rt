@@ -3,7 +3,7 @@ ghost use Rattle.cedr_io.specs.Counts.{last_count};
 ghost use Rattle.cedr_plan.specs.Rules.{IsPlan};
 ghost use Rattle.cedr_serial.specs.Feeding.{AreSources};
 ghost use Rattle.cedr_serial.specs.Sources.{AsksFirst, AreTold, source_files};
-ghost use Rattle.cedr_run.specs.Answers.{AnswersQuery, AnswersChanges, BeginsChanges};
+ghost use Rattle.cedr_run.specs.Answers.{AnswersQuery};
 ghost use Rattle.cedr_run.specs.declared.command.Job.{Job};
 ghost use Rattle.cedr_run.specs.declared.command.Job.TheVariants.{Stream};
 ghost use Rattle.cedr_run.specs.Commands.{Command};
@@ -16,14 +16,10 @@ use crate::outcome::Outcome;
 use crate::plan::open_plan;
 use crate::saying::{refuse_sources, write_text};
 use cedr_base::OutOfMemory;
-use cedr_io::{Files, OutsideFault, Sink};
+use cedr_io::{Files, Sink};
 use cedr_plan::Plan;
-use cedr_serial::{
-    Remaining, SourcesFault, accepted_sources, answer_sources, read_sources, stream_sources,
-    streamed_changes,
-};
+use cedr_serial::{Remaining, SourcesFault, accepted_sources, answer_sources, read_sources};
 use std::alloc::Global;
-use std::sync::Wait;
 
 /// All messages of a plan's sources, or how the command ends without them.
 fn open_sources<F: Files>(
@@ -94,28 +90,6 @@ fn answer<K: Sink>(
     }
 }
 
-/// Writes the changes of that answer as they come.
-fn give_changes<R: Wait, K: Sink>(
-    rt: &R,
-    alloc: Global,
-    plan: &Plan,
-    left: Vec<Remaining>,
-    out: &mut K,
-) -> Outcome
-    requires counts { K.faults out.old < last_count }
-    requires plan { IsPlan plan.now }
-    requires sources { AreSources plan.now.nodes.items left.items }
-    ensures { EndsWith AnswersChanges BeginsChanges plan.now.nodes.items left.items (seen_sink K.written K.faults out.old) (seen_sink K.written K.faults out.new) result }
-{
-    accepted_sources();
-    streamed_changes();
-    match stream_sources(rt, alloc, plan, left, out) {
-        Ok(()) => Outcome::Done,
-        Err(OutsideFault::Failed) => Outcome::Write,
-        Err(OutsideFault::OutOfMemory) => Outcome::OutOfMemory,
-    }
-}
-
 /// Writes what a command gives of a plan and its sources, where it waits for nobody.
 fn give<K: Sink>(alloc: Global, job: Job, plan: &Plan, left: Vec<Remaining>, out: &mut K) -> Outcome
     requires counts { K.faults out.old < last_count }
@@ -152,29 +126,6 @@ pub(crate) fn on_sources<F: Files, K: Sink>(
 {
     match open(alloc, file, files) {
         Ok((plan, left)) => give(alloc, job, &plan, left, out),
-        Err(outcome) => outcome,
-    }
-}
-
-/// Reads a plan and its sources, and writes the changes of its answer as they come. It may wait.
-pub(crate) fn stream<R: Wait, F: Files, K: Sink>(
-    rt: &R,
-    alloc: Global,
-    file: &[u8],
-    files: &mut F,
-    out: &mut K,
-) -> Outcome
-    requires files_count { F.faults files.old < last_count }
-    requires out_counts { K.faults out.old < last_count }
-    ensures ends { (script : List ℕ) → CommandEnds (record { job = Stream; file = file.now; script = script })
-        (seen_files F.content F.faults F.asked files.old) (seen_files F.content F.faults F.asked files.new)
-        (seen_sink K.written K.faults out.old) (seen_sink K.written K.faults out.new) result }
-    ensures asked { (script : List ℕ) → AsksOnly (record { job = Stream; file = file.now; script = script })
-        (seen_files F.content F.faults F.asked files.old) (seen_files F.content F.faults F.asked files.new) }
-    ensures contents { (n : List ℕ) → F.content files.new n ≡ F.content files.old n }
-{
-    match open(alloc, file, files) {
-        Ok((plan, left)) => give_changes(rt, alloc, &plan, left, out),
         Err(outcome) => outcome,
     }
 }

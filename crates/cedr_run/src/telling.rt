@@ -8,12 +8,14 @@ ghost use Rattle.cedr_serial.specs.Queries.{source_nodes};
 ghost use Rattle.cedr_threads.specs.declared.report.Outcome.TheVariants.{Done as CameDone};
 ghost use Rattle.cedr_run.specs.Seen.{seen_sink};
 ghost use Rattle.cedr_run.specs.Steps.{Says};
-ghost use Rattle.cedr_run.specs.Threads.{CanTell, Tells, WritesRun, fault_said, faults_said};
+ghost use Rattle.cedr_run.specs.Threads.{CanTell, CanTellTail, Tells, TellsStream, WritesRun, WritesTail, broken_off, fault_said, faults_said};
+ghost use Rattle.cedr_run.specs.declared.progress.Progress.TheVariants.{Whole};
 
 use crate::outcome::Outcome;
+use crate::progress::Progress;
 use crate::refusal::write_refusal;
 use crate::saying::write_text;
-use cedr_answer::write_report;
+use cedr_answer::{write_report, write_tail};
 use cedr_base::{Change, OutOfMemory};
 use cedr_crew::PortForgotten;
 use cedr_guard::Refusal;
@@ -118,5 +120,61 @@ pub(crate) fn end_of<K: Sink>(
         Came::Memory => Outcome::OutOfMemory,
         Came::Read => Outcome::Read,
         Came::Events(faults) => refuse_faults(alloc, nodes, &faults),
+    }
+}
+
+/// Writes what was forgotten behind the changes of a stream, by one write, where some port has a finite memory.
+fn tell_tail<K: Sink>(
+    alloc: Global,
+    nodes: &[PlanNode],
+    forgotten: &[PortForgotten],
+    out: &mut K,
+) -> Outcome
+    requires counts { K.faults out.old < last_count }
+    requires told { (listed : List (List (List Forgotten))) × CanTellTail nodes.now forgotten.now listed }
+    ensures { (listed : List (List (List Forgotten))) → CanTellTail nodes.now forgotten.now listed → WritesTail nodes.now listed (seen_sink K.written K.faults out.old) (seen_sink K.written K.faults out.new) result }
+{
+    if !has_memory(nodes) {
+        return Outcome::Done;
+    }
+    let mut text = Vec::new(alloc);
+    match write_tail(nodes, forgotten, &mut text) {
+        Ok(()) => write_text(out, &text),
+        Err(OutOfMemory) => Outcome::OutOfMemory,
+    }
+}
+
+/// The outcome of a stream that a refused write broke off.
+fn break_off(came: &Came) -> Outcome
+    ensures { result ≡ broken_off came.now }
+{
+    match came {
+        Came::Memory => Outcome::OutOfMemory,
+        _ => Outcome::Write,
+    }
+}
+
+/// Ends a stream of whose changes so much was written.
+pub(crate) fn end_of_stream<K: Sink>(
+    alloc: Global,
+    nodes: &[PlanNode],
+    came: Came,
+    progress: Progress,
+    forgotten: &[PortForgotten],
+    out: &mut K,
+) -> Outcome
+    requires counts { progress ≡ Whole → K.faults out.old < last_count }
+    requires told { came ≡ CameDone → (listed : List (List (List Forgotten))) × CanTellTail nodes.now forgotten.now listed }
+    ensures { TellsStream came progress nodes.now forgotten.now (seen_sink K.written K.faults out.old) (seen_sink K.written K.faults out.new) result }
+{
+    match progress {
+        Progress::Lacked => Outcome::OutOfMemory,
+        Progress::Refused => break_off(&came),
+        Progress::Whole => match came {
+            Came::Done => tell_tail(alloc, nodes, forgotten, out),
+            Came::Memory => Outcome::OutOfMemory,
+            Came::Read => Outcome::Read,
+            Came::Events(faults) => refuse_faults(alloc, nodes, &faults),
+        },
     }
 }

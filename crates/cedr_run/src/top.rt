@@ -1,17 +1,16 @@
 ghost use Rattle.std.specs.Prelude.{◌≡◌, ◌≢◌, ◌<◌, ℕ, List, IfSome, Some, map, option_map};
 ghost use Rattle.std.specs.String.{string_bytes};
 ghost use Rattle.cedr_io.specs.Counts.{last_count};
-ghost use Rattle.cedr_run.specs.declared.command.Job.TheVariants.{Run, Stream};
+ghost use Rattle.cedr_run.specs.declared.command.Job.TheVariants.{Stream};
 ghost use Rattle.cedr_run.specs.Commands.{Command, command_of, IsAlone, IsMakeable};
 ghost use Rattle.cedr_run.specs.Seen.{seen_files, seen_sink};
 ghost use Rattle.cedr_run.specs.Ending.{Ends};
-ghost use Rattle.cedr_run.specs.Threads.{AreBare, HasRun};
+ghost use Rattle.cedr_run.specs.Threads.{AreBare, HasRun, job_by};
 
 use crate::carry_out::carry_out;
 use crate::command::{Job, command};
 use crate::ending::Ending;
 use crate::outcome::Outcome;
-use crate::sources::stream;
 use crate::status::Status;
 use crate::threads::{Threaded, on_threads};
 use cedr_io::{Files, Gate, Sink};
@@ -20,8 +19,8 @@ use std::sync::{Arc, Wait};
 use std::thread::Threads;
 use std::time::Clock;
 
-/// Carries out the command that the words name, and answers how it ended. `stream` and `run` may wait, and so need not return.
-/// `run` turns the workers of its plan on threads of their own, and each of their turns passes the gate.
+/// Carries out the command that the words name, and answers how it ended. `run` and `stream` may wait, and so need not return.
+/// They turn the workers of their plan on threads of their own, and each of these turns passes the gate.
 pub fn run<
     R: Threads + Wait + Clock + Copy + Drop + Send + 'static,
     F: Files,
@@ -52,11 +51,10 @@ where
 {
     match command(words) {
         Some((Job::Run, file, _)) => {
-            call_threads(rt, alloc, file.as_bytes(), files, out, err, gate)
+            call_threads(rt, alloc, false, file.as_bytes(), files, out, err, gate)
         }
         Some((Job::Stream, file, _)) => {
-            let status = stream(&rt, alloc, file.as_bytes(), files, out).report(alloc, err);
-            bare(alloc, status)
+            call_threads(rt, alloc, true, file.as_bytes(), files, out, err, gate)
         }
         named => bare(alloc, call(alloc, named, files, out, err)),
     }
@@ -74,7 +72,7 @@ fn bare(alloc: Global, status: Status) -> Ending
     }
 }
 
-/// Carries out `run`, and answers how it ended.
+/// Carries out `run`, or `stream`, and answers how it ended.
 fn call_threads<
     R: Threads + Wait + Clock + Copy + Drop + Send + 'static,
     F: Files,
@@ -84,6 +82,7 @@ fn call_threads<
 >(
     rt: R,
     alloc: Global,
+    streams: bool,
     file: &[u8],
     files: &mut F,
     out: &mut K,
@@ -94,11 +93,11 @@ where
     F::Source: Drop + 'static,
     requires files_count { F.faults files.old < last_count }
     requires out_counts { K.faults out.old < last_count }
-    ensures ends { (script : List ℕ) → Ends (Some (record { job = Run; file = file.now; script = script }))
+    ensures ends { (script : List ℕ) → Ends (Some (record { job = job_by streams; file = file.now; script = script }))
         (seen_files F.content F.faults F.asked files.old) (seen_files F.content F.faults F.asked files.new)
         (seen_sink K.written K.faults out.old) (seen_sink K.written K.faults out.new)
         (seen_sink E.written E.faults err.old) (seen_sink E.written E.faults err.new) result.status }
-    ensures ran { (script : List ℕ) → HasRun (Some (record { job = Run; file = file.now; script = script }))
+    ensures ran { (script : List ℕ) → HasRun (Some (record { job = job_by streams; file = file.now; script = script }))
         (seen_files F.content F.faults F.asked files.old)
         (seen_sink K.written K.faults out.old) (seen_sink K.written K.faults out.new)
         result.status result.edges.items result.ran.items }
@@ -107,7 +106,7 @@ where
         outcome,
         edges,
         ran,
-    } = on_threads(rt, alloc, file, files, out, gate);
+    } = on_threads(rt, alloc, streams, file, files, out, gate);
     let status = outcome.report(alloc, err);
     Ending { status, edges, ran }
 }

@@ -10,8 +10,8 @@ use Rattle.cedr_base.specs.declared.change.Message.{Message}
 use Rattle.cedr_base.specs.declared.level.Level.{Level}
 use Rattle.cedr_base.specs.Changes.{all_puts, all_takes}
 use Rattle.cedr_base.specs.Messages.{changes_of, IsLegal, IsTableOf}
-use Rattle.cedr_base.specs.Rows.{count_of, SameRows, in_order}
-use Rattle.cedr_laws.specs.Lawful.{passes_of, IsLawful}
+use Rattle.cedr_base.specs.Rows.{count_of, in_order}
+use Rattle.cedr_laws.specs.Lawful.{IsLawful}
 use Rattle.cedr_laws.specs.Lists.{Lists, list_at, AreTables}
 use Rattle.cedr_laws.specs.Pass.{pass, added, HasNoCut}
 use Rattle.cedr_laws.specs.Surplus.{Ascend}
@@ -28,14 +28,14 @@ use Rattle.cedr_plan.specs.Rules.{IsPlan}
 use Rattle.cedr_query.specs.Queries.{output_place, source_count}
 use Rattle.cedr_query.proofs.NodeLemmas.{inputs_are}
 use Rattle.cedr_query.proofs.PlaceLemmas.{place_within, output_stands}
-use Rattle.cedr_runs.specs.Runs.{lists_at, input_lists, IsRun, AllWhole}
+use Rattle.cedr_runs.specs.Runs.{lists_at, IsRun, AllWhole}
 use Rattle.cedr_runs.proofs.Closed.{closed_whole, closed_table}
 use Rattle.cedr_runs.proofs.PlanNodes.{node_stands}
-use Rattle.cedr_table.specs.Operators.{Tables, Meaning}
+use Rattle.cedr_table.specs.Operators.{Tables}
 use Rattle.op_planned.specs.Meanings.{node_meaning, meaning_of, port_levels}
 use Rattle.op_planned.specs.Ready.{is_source, IsReady}
 use Rattle.op_planned.specs.ReadyLaws.{node_ready}
-use Rattle.cedr_serial.specs.Queries.{rows_without, IsStrong, LeadsTo}
+use Rattle.cedr_serial.specs.Queries.{rows_without, LeadsTo}
 
 -- ---- changes that take nothing back
 

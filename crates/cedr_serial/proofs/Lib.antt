@@ -4,7 +4,4 @@ pub mod ChangesLemmas
 pub mod RunLemmas
 pub mod SourceLemmas
 pub mod AcceptedLemmas
-pub mod WatchLemmas
-pub mod VersionLemmas
-pub mod StreamLemmas
 pub mod QueryLemmas

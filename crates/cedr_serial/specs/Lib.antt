@@ -2,4 +2,3 @@ pub mod Feeding
 pub mod Answers
 pub mod Sources
 pub mod Queries
-pub mod Streaming

@@ -1,5 +1,5 @@
 -- What is written of a plan and its sources.
-use Rattle.std.specs.Prelude.{ℕ, ◌≡◌, ◌||◌, Bool, List, [], ◌∷◌, ◌++◌, ◌⊎◌, length, map, filter, None, if◌then◌else◌}
+use Rattle.std.specs.Prelude.{ℕ, ◌≡◌, ◌||◌, Bool, List, [], ◌∷◌, ◌++◌, length, map, filter, None, if◌then◌else◌}
 use Rattle.std.specs.List.{flat_map}
 use Rattle.cedr_base.specs.declared.row.Row.{Row}
 use Rattle.cedr_base.specs.declared.change.Change.{Change}
@@ -11,7 +11,7 @@ use Rattle.cedr_guard.specs.Sources.{judged, messages_of, history_of_bytes}
 use Rattle.cedr_laws.specs.Lists.{Lists, list_at}
 use Rattle.cedr_plan.specs.declared.plan.PlanNode.{PlanNode}
 use Rattle.cedr_query.specs.Queries.{output_place}
-use Rattle.cedr_runs.specs.Runs.{ArePrefixes, IsRun, IsPartialRun}
+use Rattle.cedr_runs.specs.Runs.{IsRun}
 use Rattle.cedr_runs.specs.Without.{query_without, forgot_in}
 use Rattle.cedr_table.specs.Operators.{Tables, table_at}
 use Rattle.cedr_text.specs.declared.event_line.Shape.{Shape}
@@ -82,16 +82,3 @@ IsStrong nodes = (before after : List PlanNode) (output : PlanNode) → nodes �
 pub record LeadsTo (nodes : List PlanNode) (histories : Tables) (ports : List Lists) (given : Lists) : Type 0 where
   pub table : IsTableOf (list_at given (output_place nodes)) (rows_without nodes ports histories)
   pub additions : IsStrong nodes → changes_of (list_at given (output_place nodes)) ≡ map (λ (r : Row). Add r) (in_order (rows_without nodes ports histories))
-
--- the changes that the output gave in a partial run over the first messages of the sources
-pub record IsStreamedSoFar (nodes : List PlanNode) (sources : Lists) (text : List ℕ) : Type 0 where
-  pub begun : Lists
-  pub ports : List Lists
-  pub given : Lists
-  pub first : ArePrefixes begun sources
-  pub run : IsPartialRun nodes begun ports given
-  pub text_is : text ≡ given_text nodes given
-
--- the text of which a front was written where writing or memory failed
-abbrev pub MayStream : List PlanNode → Lists → List ℕ → Type 0
-MayStream nodes sources text = IsStreamedSoFar nodes sources text ⊎ IsStreamText nodes sources text

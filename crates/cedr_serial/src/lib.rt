@@ -3,8 +3,7 @@
 //! `read_sources` reads all sources of a plan. Their messages are fed to the plan's network in rounds, one of each source,
 //! and it settles behind each round (`feed_round`, `feed_all`). `write_answer` writes the rows, and what ports forgot.
 //! `fed_sources` says that the lists that went over the network are then a run of the plan over the whole sources.
-//! `answer_sources` and `answer_rows` do all this, and `stream_sources` writes the changes of the answer as they come, by what
-//! a reader sees of the versions in which they are published.
+//! `answer_sources` and `answer_rows` do all this.
 #![tactic(auto)]
 
 mod answer;
@@ -12,15 +11,12 @@ mod feeding;
 mod law;
 mod query;
 mod sources;
-mod stream;
-mod watch;
 
 pub use answer::{has_memory, write_answer};
 pub use feeding::{Remaining, feed_all, feed_round};
 pub use law::{accepted_sources, fed_sources, streamed_changes};
 pub use query::{answer_rows, answer_sources};
 pub use sources::{FaultySource, SourcesFault, read_sources};
-pub use stream::stream_sources;
 
 #[cfg(test)]
 mod tests;

@@ -5,12 +5,11 @@ ghost use Rattle.cedr_plan.specs.Rules.{IsPlan};
 ghost use Rattle.cedr_serial.specs.Feeding.{AreSources, IsWholeRun};
 
 use super::*;
-use cedr_io::{Files, MemFiles, MemSink, OutsideFault};
+use cedr_io::{Files, MemFiles};
 use cedr_net::SerialNet;
 use cedr_plan::{Plan, PlanNode, read_plan};
 use cedr_text::LineFault;
 use std::alloc::Global;
-use std::sync::Wait;
 use std::test::Fail;
 
 const JOIN: &str = r#"{"version":1,"nodes":[
@@ -22,10 +21,6 @@ const JOIN: &str = r#"{"version":1,"nodes":[
 const MIDDLE: &str = r#"{"version":1,"nodes":[
  {"name":"s","op":"source","file":"s.csv","fields":["text"]},
  {"name":"out","op":"output","from":["s"]}]}"#;
-
-const STRONG: &str = r#"{"version":1,"nodes":[
- {"name":"s","op":"source","file":"s.csv","fields":["text"]},
- {"name":"out","op":"output","from":["s"],"level":"strong"}]}"#;
 
 const WEAK: &str = r#"{"version":1,"nodes":[
  {"name":"s","op":"source","file":"s.csv","fields":["text"]},
@@ -87,25 +82,6 @@ fn answer(alloc: Global, text: &str, files: &mut MemFiles) -> Result<Vec<u8>, Fa
     let mut out = Vec::new(alloc);
     write_answer(nodes, &ran.net, has_memory(nodes), &mut out)?;
     Ok(out)
-}
-
-/// Streams the answer of a plan over one source of these bytes.
-fn stream<R: Wait>(
-    rt: &R,
-    alloc: Global,
-    text: &str,
-    events: &[u8],
-    out: &mut MemSink,
-) -> Result<bool, Fail> {
-    let mut files = MemFiles::new(alloc);
-    files.add("s.csv", events)?;
-    let plan = plan(alloc, text)?;
-    let left = read(alloc, plan.nodes.as_slice(), &mut files)?;
-    match stream_sources(rt, alloc, &plan, left, out) {
-        Ok(()) => Ok(true),
-        Err(OutsideFault::Failed) => Ok(false),
-        Err(OutsideFault::OutOfMemory) => Err("out of memory")?,
-    }
 }
 
 #[test]
@@ -208,45 +184,5 @@ fn the_rows_of_an_answer_are_in_canonical_order(rt: HostRuntime) -> Result<(), F
     };
     assert_eq!(rt; (first.begin, first.end), (5, 8));
     assert_eq!(rt; (second.begin, second.end), (5, 10));
-    Ok(())
-}
-
-#[test]
-fn changes_are_streamed_as_they_come(rt: HostRuntime) -> Result<(), Fail> {
-    let repaired = b"+,1,1,10,a\n-,1,5\n";
-    let many = b"+,1,2,20,c\n+,2,1,9,b\n+,3,1,5,a\n-,1,7\n";
-    let late = b"+,1,1,2,a\n+,2,20,30,b\n+,3,10,40,c\n-,3,25\n";
-    for (plan, events, wanted) in [
-        (
-            MIDDLE,
-            repaired.as_slice(),
-            b"+,1,10,a\n-,5,1,10,a\n".as_slice(),
-        ),
-        (STRONG, many, b"+,1,5,a\n+,2,7,c\n+,1,9,b\n"),
-        (
-            WEAK,
-            late,
-            b"+,1,2,a\n+,20,30,b\n--\nout,0,late,20,+,10,40,c\nout,0,orphan,20,-,25,10,40,c\n",
-        ),
-    ] {
-        let mut out = MemSink::new(rt.alloc());
-        assert!(rt; stream(&rt, rt.alloc(), plan, events, &mut out)?);
-        assert!(rt; out.written() == wanted);
-    }
-    Ok(())
-}
-
-#[test]
-fn a_refused_write_leaves_a_front(rt: HostRuntime) -> Result<(), Fail> {
-    let alloc = rt.alloc();
-    let wanted = b"+,1,10,a\n+,2,9,b\n-,5,1,10,a\n";
-    for (call, count) in [(1, 0), (2, 4), (3, 8), (4, 9), (5, 13), (6, 17), (8, 25)] {
-        let mut out = MemSink::new(alloc);
-        out.set_piece(4);
-        out.fail_write(call)?;
-        let events = b"+,1,1,10,a\n+,2,2,9,b\n-,1,5\n";
-        assert!(rt; !stream(&rt, alloc, MIDDLE, events, &mut out)?);
-        assert!(rt; out.written() == &wanted[..count]);
-    }
     Ok(())
 }

@@ -3,3 +3,8 @@ pub mod OutcomeLemmas
 pub mod WatchLemmas
 pub mod ReportLemmas
 pub mod RunLemmas
+pub mod CutLemmas
+pub mod EchoLemmas
+pub mod CutRunLemmas
+pub mod BegunLemmas
+pub mod SoFarLemmas

@@ -3,7 +3,7 @@ use Rattle.std.proofs.Common.{◌≡◌, ℕ, List, Option, length, sym, ap, ◌
 use Rattle.std.proofs.lemmas.List.{length-map}
 use Rattle.cedr_history.specs.Ends.{Reads}
 use Rattle.cedr_plan.specs.declared.plan.PlanNode.{PlanNode}
-use Rattle.cedr_serial.specs.Streaming.{ReadsOn}
+use Rattle.cedr_threads.specs.Watching.{ReadsOn}
 use Rattle.cedr_crew.specs.declared.ending.Closed.{Closed}
 use Rattle.cedr_crew.specs.declared.worker.Worker.{Worker}
 use Rattle.cedr_crew.specs.Closings.{IsClosed}

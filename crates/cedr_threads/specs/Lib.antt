@@ -1,4 +1,5 @@
 pub mod Seats
 pub mod Watching
 pub mod Reports
+pub mod SoFar
 pub mod Rooms

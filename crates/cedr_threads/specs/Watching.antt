@@ -1,9 +1,16 @@
 -- One who reads the result while it grows.
-use Rattle.std.specs.Prelude.{List}
+use Rattle.std.specs.Prelude.{◌≡◌, List}
 use mathlib.Core.List.{IsPrefix}
 use Rattle.cedr_base.specs.declared.change.Change.{Change}
 use Rattle.cedr_history.specs.Ends.{Reads}
+use Rattle.cedr_history.specs.Lists.{Extends}
 
--- a watcher that stands for first changes of what the reader has seen
-abbrev pub Watches : {W : Type 0} → (W → List Change → Type 0) → W → Reads → Type 0
-Watches stands watcher reads = (list : List Change) × stands watcher list × IsPrefix list reads.seen.changes
+-- the reader of the same list saw no less
+pub record ReadsOn (old new : Reads) : Type 0 where
+  pub history : new.history ≡ old.history
+  pub last : new.last ≡ old.last
+  pub later : Extends old.seen new.seen
+
+-- a watcher that stands for first changes of what the reader has seen, as it told them
+abbrev pub Watches : {W O : Type 0} → (W → O → List Change → Type 0) → W → O → Reads → Type 0
+Watches stands watcher out reads = (list : List Change) × stands watcher out list × IsPrefix list reads.seen.changes

@@ -1,13 +1,11 @@
 //! What is told of a run once each worker has ended and all edges are closed.
-ghost use Rattle.std.specs.Prelude.{◌≡◌, ◌≤◌, [], List, false, true, IfSome, length, map};
-ghost use Rattle.std.specs.Vec.{vec_capacity};
+ghost use Rattle.std.specs.Prelude.{◌≡◌, List, false, true, IfSome, map};
 ghost use mathlib.Core.List.{IsPrefix};
 ghost use Rattle.cedr_base.specs.declared.change.Change.{Change as Changed};
 ghost use Rattle.cedr_laws.specs.Lists.{Lists};
 ghost use Rattle.cedr_runs.specs.Without.{forgot_in};
-ghost use Rattle.cedr_serial.specs.Streaming.{ReadsOn};
 ghost use Rattle.cedr_crew.specs.Forgettings.{AllTook, nodes_told, told};
-ghost use Rattle.cedr_threads.specs.Watching.{Watches};
+ghost use Rattle.cedr_threads.specs.Watching.{ReadsOn, Watches};
 
 use crate::watcher::Watcher;
 use crate::watching::{look_on, read_all, see};
@@ -17,6 +15,7 @@ use cedr_history::Reader;
 use cedr_io::Source;
 use cedr_plan::PlanNode;
 use std::alloc::Global;
+use std::snapshot::Snapshot;
 use std::sync::Wait;
 
 /// What each port forgot, or nothing where memory was lacking.
@@ -65,16 +64,18 @@ fn look_to_end<W: Watcher, R: Wait>(
     looks: bool,
     reader: &mut Reader,
     watcher: &mut W,
+    out: &mut W::Out,
+    start: &Snapshot<W::Out>,
 ) -> bool
-    requires { Watches W.stands watcher.old reader.old }
+    requires { Watches (W.stands start.now.value) watcher.old out.old reader.old }
     ensures reads { ReadsOn reader.old reader.new }
-    ensures watches { Watches W.stands watcher.new reader.new }
-    ensures whole { result ≡ true → IfSome reader.old.last (λ l. W.stands watcher.new l.changes) }
+    ensures watches { Watches (W.stands start.now.value) watcher.new out.new reader.new }
+    ensures whole { result ≡ true → IfSome reader.old.last (λ l. W.stands start.now.value watcher.new out.new l.changes) }
 {
     if !looks {
         return false;
     }
-    match look_on(rt, reader, watcher) {
+    match look_on(rt, reader, watcher, out, start) {
         Ok(()) => true,
         Err(_) => false,
     }
@@ -111,20 +112,22 @@ pub(crate) fn conclude<W: Watcher, R: Wait + Drop, Q: Wait>(
     held: HeldWriter<R>,
     reader: Reader,
     watcher: &mut W,
+    out: &mut W::Out,
+    start: &Snapshot<W::Out>,
     looks: bool,
 ) -> Told
     requires history { held.writer.history ≡ reader.history }
     requires untold { held.writer.told ≡ false }
-    requires watches { Watches W.stands watcher.old reader }
+    requires watches { Watches (W.stands start.now.value) watcher.old out.old reader }
     ensures changes { result.short ≡ false → result.changes.items ≡ held.writer.published.changes }
-    ensures whole { result.short ≡ false → W.stands watcher.new held.writer.published.changes }
-    ensures watches { (list : List Changed) × W.stands watcher.new list × IsPrefix list held.writer.published.changes }
+    ensures whole { result.short ≡ false → W.stands start.now.value watcher.new out.new held.writer.published.changes }
+    ensures watches { (list : List Changed) × W.stands start.now.value watcher.new out.new list × IsPrefix list held.writer.published.changes }
 {
     let mut held = held;
     let mut reader = reader;
     let note = held.writer.last();
     reader.learn(note);
-    let looked = look_to_end(rt, looks, &mut reader, watcher);
+    let looked = look_to_end(rt, looks, &mut reader, watcher, out, start);
     see(rt, alloc, &mut reader);
     read_where(rt, alloc, looked, &mut reader)
 }

@@ -2,10 +2,9 @@
 ghost use Rattle.std.specs.Prelude.{◌≡◌, ◌≤◌, [], List, length};
 ghost use Rattle.std.specs.List.{All};
 ghost use Rattle.std.specs.Vec.{vec_capacity};
-ghost use Rattle.cedr_serial.specs.Streaming.{ReadsOn};
 ghost use Rattle.cedr_crew.specs.Roles.{Role, AllWorkAs, HasEnded};
 ghost use Rattle.cedr_threads.specs.Seats.{AllSeatAs};
-ghost use Rattle.cedr_threads.specs.Watching.{Watches};
+ghost use Rattle.cedr_threads.specs.Watching.{ReadsOn, Watches};
 
 use crate::post::Post;
 use crate::rounds::{join_each, rest, start_each, turn_here, turn_on};
@@ -17,6 +16,7 @@ use cedr_history::Reader;
 use cedr_io::{Gate, Source};
 use crossbeam_utils::Backoff;
 use std::collections::VecDeque;
+use std::snapshot::Snapshot;
 use std::sync::Wait;
 use std::sync::atomic::{AtomicU64, Ordering};
 use std::thread::Threads;
@@ -36,12 +36,14 @@ fn wait_for_each<S: Source + Drop, G: Gate, W: Watcher, R: Wait + Drop, Q: Wait 
     seats: &mut Vec<Seat<S, R>>,
     reader: &mut Reader,
     watcher: &mut W,
+    out: &mut W::Out,
+    start: &Snapshot<W::Out>,
 ) -> bool
     requires seats { (roles : List Role) × AllSeatAs S.rest S.faults roles seats.old.items }
-    requires watches { Watches W.stands watcher.old reader.old }
+    requires watches { Watches (W.stands start.now.value) watcher.old out.old reader.old }
     ensures seats { (roles : List Role) → AllSeatAs S.rest S.faults roles seats.old.items → AllSeatAs S.rest S.faults roles seats.new.items }
     ensures reads { ReadsOn reader.old reader.new }
-    ensures watches { Watches W.stands watcher.new reader.new }
+    ensures watches { Watches (W.stands start.now.value) watcher.new out.new reader.new }
 {
     let away = count_away(seats.as_slice()) as u64;
     let mut looks = true;
@@ -49,7 +51,7 @@ fn wait_for_each<S: Source + Drop, G: Gate, W: Watcher, R: Wait + Drop, Q: Wait 
     for _ in rt.forever() {
         let over = ended.load(Ordering::SeqCst) >= away;
         let round = turn_here(rt, gate, seats);
-        looks = look_once(looks, reader, watcher);
+        looks = look_once(looks, reader, watcher, out, start);
         if over && round.ended {
             return looks;
         }
@@ -86,21 +88,23 @@ pub(crate) fn play<
     ended: &AtomicU64,
     reader: &mut Reader,
     watcher: &mut W,
+    out: &mut W::Out,
+    start: &Snapshot<W::Out>,
 ) -> Played<S, R>
     requires works { (roles : List Role) × AllWorkAs S.rest S.faults roles workers.items }
     requires posts { length posts.items ≡ length workers.items }
     requires seats { (seats.items ≡ []) × (length workers.items ≤ vec_capacity seats) }
     requires joined { (joined.items ≡ []) × (length workers.items ≤ vec_capacity joined) }
-    requires watches { Watches W.stands watcher.old reader.old }
+    requires watches { Watches (W.stands start.now.value) watcher.old out.old reader.old }
     ensures works { (roles : List Role) → AllWorkAs S.rest S.faults roles workers.items → AllWorkAs S.rest S.faults roles result.workers.items }
     ensures ended { All HasEnded result.workers.items }
     ensures reads { ReadsOn reader.old reader.new }
-    ensures watches { Watches W.stands watcher.new reader.new }
+    ensures watches { Watches (W.stands start.now.value) watcher.new out.new reader.new }
 {
     let mut seats = seats;
     let mut joined = joined;
     start_each(rt, VecDeque::from_vec(workers), posts, &mut seats);
-    let looks = wait_for_each(&rt, gate, ended, &mut seats, reader, watcher);
+    let looks = wait_for_each(&rt, gate, ended, &mut seats, reader, watcher, out, start);
     join_each(&rt, VecDeque::from_vec(seats), &mut joined);
     turn_on(&rt, gate, &mut joined);
     Played {

@@ -63,9 +63,11 @@ struct Counts {
 impl Watcher for Counts {
     ghost use Rattle.std.specs.Prelude.{◌≡◌, length};
 
-    ghost stands = { λ w list. w.count ≡ length list };
+    type Out = ();
 
-    fn look(&mut self, reader: &mut Reader) -> Result<bool, OutOfMemory> {
+    ghost stands = { λ _ w _ list. w.count ≡ length list };
+
+    fn look(&mut self, reader: &mut Reader, _out: &mut ()) -> Result<bool, OutOfMemory> {
         let mut nothing = Vec::new(self.alloc);
         match reader.read(0, 0, &mut nothing)? {
             None => Ok(false),
@@ -109,7 +111,7 @@ fn run_by<
         count: 0,
         some: Arc::try_clone(some)?,
     };
-    match run_threads(rt, alloc, &plan, sources, &mut watcher, gate) {
+    match run_threads(rt, alloc, &plan, sources, &mut watcher, &mut (), gate) {
         Ok(report) => Ok(report),
         Err(_) => Err("there is memory")?,
     }
@@ -195,15 +197,17 @@ fn chain(alloc: Global, selects: usize) -> Result<String, Fail> {
 }
 
 #[test]
-fn sixty_four_nodes_run_on_as_many_threads(rt: HostRuntime) -> Result<(), Fail> {
-    let text = chain(rt.alloc(), 62)?;
-    let changes = changes_of(
-        rt,
-        rt.alloc(),
-        text.as_bytes(),
-        b"+,1,1,10,a\n+,2,2,9,b\n-,1,5\n",
-    )?;
-    assert!(rt; changes.as_slice() == b"+,1,10,a\n+,2,9,b\n-,5,1,10,a\n".as_slice());
+fn up_to_64_nodes_run_on_as_many_threads(rt: HostRuntime) -> Result<(), Fail> {
+    for selects in [1, 40, 62] {
+        let text = chain(rt.alloc(), selects)?;
+        let changes = changes_of(
+            rt,
+            rt.alloc(),
+            text.as_bytes(),
+            b"+,1,1,10,a\n+,2,2,9,b\n-,1,5\n",
+        )?;
+        assert!(rt; changes.as_slice() == b"+,1,10,a\n+,2,9,b\n-,5,1,10,a\n".as_slice());
+    }
     Ok(())
 }
 

@@ -1,25 +1,31 @@
 //! What the one who started the threads sees of the result.
 ghost use Rattle.std.specs.Prelude.{◌≡◌, IfOk, IfSome, OnOk};
-ghost use Rattle.cedr_serial.specs.Streaming.{ReadsOn};
-ghost use Rattle.cedr_threads.specs.Watching.{Watches};
+ghost use Rattle.cedr_threads.specs.Watching.{ReadsOn, Watches};
 
 use crate::watcher::Watcher;
 use cedr_base::{Change, OutOfMemory};
 use cedr_history::Reader;
 use crossbeam_utils::Backoff;
 use std::alloc::Global;
+use std::snapshot::Snapshot;
 use std::sync::Wait;
 
 /// Lets the watcher look once, if it may be asked. Whether it may be asked again.
-pub(crate) fn look_once<W: Watcher>(looks: bool, reader: &mut Reader, watcher: &mut W) -> bool
-    requires { Watches W.stands watcher.old reader.old }
+pub(crate) fn look_once<W: Watcher>(
+    looks: bool,
+    reader: &mut Reader,
+    watcher: &mut W,
+    out: &mut W::Out,
+    start: &Snapshot<W::Out>,
+) -> bool
+    requires { Watches (W.stands start.now.value) watcher.old out.old reader.old }
     ensures reads { ReadsOn reader.old reader.new }
-    ensures watches { Watches W.stands watcher.new reader.new }
+    ensures watches { Watches (W.stands start.now.value) watcher.new out.new reader.new }
 {
     if !looks {
         return false;
     }
-    match watcher.look(reader) {
+    match watcher.look(reader, out) {
         Ok(_) => true,
         Err(_) => false,
     }
@@ -45,15 +51,17 @@ pub(crate) fn look_on<W: Watcher, R: Wait>(
     rt: &R,
     reader: &mut Reader,
     watcher: &mut W,
+    out: &mut W::Out,
+    start: &Snapshot<W::Out>,
 ) -> Result<(), OutOfMemory>
-    requires { Watches W.stands watcher.old reader.old }
+    requires { Watches (W.stands start.now.value) watcher.old out.old reader.old }
     ensures reads { ReadsOn reader.old reader.new }
-    ensures watches { Watches W.stands watcher.new reader.new }
-    ensures whole { OnOk result (IfSome reader.old.last (λ l. W.stands watcher.new l.changes)) }
+    ensures watches { Watches (W.stands start.now.value) watcher.new out.new reader.new }
+    ensures whole { OnOk result (IfSome reader.old.last (λ l. W.stands start.now.value watcher.new out.new l.changes)) }
 {
     let backoff = Backoff::new();
     for _ in rt.forever() {
-        if watcher.look(reader)? {
+        if watcher.look(reader, out)? {
             return Ok(());
         }
         backoff.snooze();

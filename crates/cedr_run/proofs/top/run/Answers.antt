@@ -4,18 +4,7 @@ use Rattle.cedr_run.specs.declared.command.Job.TheVariants.{Run, Stream}
 use Rattle.cedr_run.specs.Commands.{Command, command_of}
 use Rattle.cedr_run.specs.Seen.{seen_files, seen_sink}
 use Rattle.cedr_run.specs.Threads.{HasRun}
-use Rattle.cedr_run.proofs.EndingLemmas.{ends_command}
 use Rattle.cedr_run.proofs.top.run.Goals as goal
-
-pub returns-in-Some-Stream-default-default-clause-ends : goal.returns-in-Some-Stream-default-default-clause-ends
-returns-in-Some-Stream-default-default-clause-ends g c =
-    let arm = c.in-Some-Stream-default-default in
-    let script = arm.field-0-2.now in
-    let named : Command = record { job = Stream; file = c.as_bytes-in-Some-Stream-default-default.result.now; script = script } in
-    let same = ap {B = Option Command} (λ file. Some (record { job = Stream; file = file; script = script })) c.as_bytes-in-Some-Stream-default-default.ensures.value
-    ∙ (ap {B = Option Command} (λ job. Some (record { job = job; file = arm.file.now; script = script })) (sym arm.field-0-0-is) ∙ arm.ensures.named) in
-    rw c.bare.ensures.status (ends_command (command_of (map string_bytes c.args.words.now)) named (seen_files g.F.Files.content g.F.Files.faults g.F.Files.asked c.args.files.now) (seen_files g.F.Files.content g.F.Files.faults g.F.Files.asked c.stream.new.files) (seen_sink g.K.Sink.written g.K.Sink.faults c.args.out.now) (seen_sink g.K.Sink.written g.K.Sink.faults c.stream.new.out) (seen_sink g.E.Sink.written g.E.Sink.faults c.args.err.now) (seen_sink g.E.Sink.written g.E.Sink.faults c.report-status.new.err) c.stream.result c.report-status.result same
-    (c.stream.ensures.ends script) (c.stream.ensures.asked script) c.stream.ensures.contents c.report-status.ensures.status c.report-status.ensures.told c.report-status.ensures.lacking)
 
 pub returns-in-Some-Run-default-default-clause-ran : goal.returns-in-Some-Run-default-default-clause-ran
 returns-in-Some-Run-default-default-clause-ran g c =
@@ -24,3 +13,11 @@ returns-in-Some-Run-default-default-clause-ran g c =
     let same : Some (record { job = Run; file = c.as_bytes.result.now; script = script }) ≡ command_of (map string_bytes c.args.words.now) = ap {B = Option Command} (λ file. Some (record { job = Run; file = file; script = script })) c.as_bytes.ensures.value
     ∙ (ap {B = Option Command} (λ job. Some (record { job = job; file = arm.file.now; script = script })) (sym arm.field-0-0-is) ∙ arm.ensures.named) in
     subst (λ (command : Option Command). HasRun command (seen_files g.F.Files.content g.F.Files.faults g.F.Files.asked c.args.files.now) (seen_sink g.K.Sink.written g.K.Sink.faults c.args.out.now) (seen_sink g.K.Sink.written g.K.Sink.faults c.call_threads.new.out) c.call_threads.result.status c.call_threads.result.edges.items c.call_threads.result.ran.items) same (c.call_threads.ensures.ran script)
+
+pub returns-in-Some-Stream-default-default-clause-ran : goal.returns-in-Some-Stream-default-default-clause-ran
+returns-in-Some-Stream-default-default-clause-ran g c =
+    let arm = c.in-Some-Stream-default-default in
+    let script = arm.field-0-2.now in
+    let same : Some (record { job = Stream; file = c.as_bytes-in-Some-Stream-default-default.result.now; script = script }) ≡ command_of (map string_bytes c.args.words.now) = ap {B = Option Command} (λ file. Some (record { job = Stream; file = file; script = script })) c.as_bytes-in-Some-Stream-default-default.ensures.value
+    ∙ (ap {B = Option Command} (λ job. Some (record { job = job; file = arm.file.now; script = script })) (sym arm.field-0-0-is) ∙ arm.ensures.named) in
+    subst (λ (command : Option Command). HasRun command (seen_files g.F.Files.content g.F.Files.faults g.F.Files.asked c.args.files.now) (seen_sink g.K.Sink.written g.K.Sink.faults c.args.out.now) (seen_sink g.K.Sink.written g.K.Sink.faults c.call_threads-in-Some-Stream-default-default.new.out) c.call_threads-in-Some-Stream-default-default.result.status c.call_threads-in-Some-Stream-default-default.result.edges.items c.call_threads-in-Some-Stream-default-default.result.ran.items) same (c.call_threads-in-Some-Stream-default-default.ensures.ran script)

@@ -7,8 +7,10 @@ use Rattle.cedr_crew.specs.Wents.{part_lacked}
 use Rattle.std.proofs.lemmas.List.{length-map}
 use Rattle.cedr_plan.specs.Drawn.{node_of}
 use Rattle.cedr_threads.specs.Reports.{CameTo}
+use Rattle.cedr_threads.specs.SoFar.{IsSoFar}
 use Rattle.cedr_threads.proofs.OutcomeLemmas.{right_false}
 use Rattle.cedr_threads.proofs.ReportLemmas.{one, reported, sources_few, took, writer_of}
+use Rattle.cedr_threads.proofs.SoFarLemmas.{began}
 use Rattle.cedr_threads.proofs.reporting.report_on.Goals as goal
 
 pub tell_unless-forgot-requires : goal.tell_unless-forgot-requires
@@ -61,4 +63,15 @@ pub returns-clause-whole : goal.returns-clause-whole
 returns-clause-whole g c = λ is_done.
     let closes = subst (λ o. CameTo c.as_slice-4.result.now (c.tell_unless-forgot.result.short || c.conclude-told.result.short) o) is_done c.outcome_of-outcome.ensures in
     let full = right_false c.tell_unless-forgot.result.short c.conclude-told.result.short closes.0 in
-    subst (λ list. g.W.Watcher.stands c.conclude-told.new.watcher list) (sym (c.conclude-told.ensures.changes full)) (c.conclude-told.ensures.whole full)
+    subst (λ list. g.W.Watcher.stands c.args.start.now.value c.conclude-told.new.watcher c.conclude-told.new.out list) (sym (c.conclude-told.ensures.changes full)) (c.conclude-told.ensures.whole full)
+
+pub returns-clause-so_far : goal.returns-clause-so_far
+returns-clause-so_far g c = λ given ended.
+    let seen = c.conclude-told.ensures.watches in (
+      seen.0,
+      (
+        seen.1,
+        subst (λ es. IsSoFar g.S.Source.rest g.S.Source.faults c.args.plan.now.nodes.items given es seen.0) (sym c.sort_parts-held.ensures.sources)
+            (began g.S.Source.rest g.S.Source.faults c.args.plan.now given c.args.waited.reader.history c.args.closed c.requires.plan ended c.sort_parts-held.result c.sort_parts-held.ensures.writer seen.0 seen.2),
+      ),
+    )

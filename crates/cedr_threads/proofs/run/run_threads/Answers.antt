@@ -40,3 +40,12 @@ pub returns-clause-report : goal.returns-clause-report
 returns-clause-report g c =
     let made = c.in_ok-crew.ensures.made in
     c.report_on.ensures.report c.args.sources.items (have_ended g.S.Source.rest g.S.Source.faults c.args.plan.now.nodes.items c.args.sources.items c.in_ok-crew.crew.workers.items c.play-played.result.workers.items c.in_ok-crew.crew.reader c.play-played.new.reader c.close_all-closed.result made c.play-played.ensures.reads (c.play-played.ensures.works made.roles made.work) c.close_all-closed.ensures)
+
+pub returns-clause-so_far : goal.returns-clause-so_far
+returns-clause-so_far g c =
+    let made = c.in_ok-crew.ensures.made in
+    let told = c.report_on.ensures.so_far c.args.sources.items (have_ended g.S.Source.rest g.S.Source.faults c.args.plan.now.nodes.items c.args.sources.items c.in_ok-crew.crew.workers.items c.play-played.result.workers.items c.in_ok-crew.crew.reader c.play-played.new.reader c.close_all-closed.result made c.play-played.ensures.reads (c.play-played.ensures.works made.roles made.work) c.close_all-closed.ensures) in
+    (told.0, (subst (λ start. g.W.Watcher.stands start c.report_on.new.watcher c.report_on.new.out told.0) c.of-start.ensures told.1.0, told.1.1))
+
+pub returns-clause-whole : goal.returns-clause-whole
+returns-clause-whole g c = λ done. subst (λ start. g.W.Watcher.stands start c.report_on.new.watcher c.report_on.new.out c.report_on.result.changes.items) c.of-start.ensures (c.report_on.ensures.whole done)

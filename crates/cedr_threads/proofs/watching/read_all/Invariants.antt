@@ -1,4 +1,4 @@
-use Rattle.cedr_serial.specs.Streaming.{ReadsOn}
+use Rattle.cedr_threads.specs.Watching.{ReadsOn}
 use Rattle.cedr_threads.proofs.watching.read_all.Given as goal
 
 abbrev pub invariant-loop : goal.invariant-loop

@@ -1,5 +1,0 @@
-use Rattle.cedr_serial.specs.Streaming.{ReadsOn}
-use Rattle.cedr_serial.proofs.watch.see.Given as goal
-
-abbrev pub invariant-loop : goal.invariant-loop
-invariant-loop g l = ReadsOn l.initial.reader l.reader
