@@ -302,7 +302,7 @@ fn a_read_that_fails_later_is_told_and_a_stream_leaves_what_it_wrote(
 fn a_stream_of_a_refused_write_leaves_a_front(rt: HostRuntime) -> Result<(), Fail> {
     let alloc = rt.alloc();
     let given: Given = &[("s.csv", "+,1,1,10,a\n+,2,2,9,b\n-,1,5\n")];
-    for call in 1..9 {
+    for call in 1..8 {
         let mut files = files(alloc, PASS, given)?;
         let (mut out, mut err) = (MemSink::new(alloc), MemSink::new(alloc));
         out.set_piece(4);
