@@ -1,5 +1,6 @@
 #!/usr/bin/env python3
-"""`cedr run` gives the same bytes where all of its threads are refused, where some are, and where none is.
+"""`cedr run` gives the same bytes where all of its threads are refused, where some are, and where none is, and the changes of
+`cedr stream` lead to them.
 
 Each thread asks for 8 MiB of addresses, and a plan's run for one thread a node. The limit on addresses that the program is run
 under leaves room for none, for some, or for all of the seven threads of `examples/failed_restarts.json`, whose rows are those
@@ -10,6 +11,13 @@ import resource
 import subprocess
 import sys
 
+sys.dont_write_bytecode = True
+
+from answer_lines import Unlawful, lines_of
+from answer_reference import led_to
+from messages import in_order
+from network_texts import rows_text
+
 TOP = os.path.dirname(os.path.dirname(os.path.abspath(__file__)))
 PROGRAM = os.path.join(TOP, "crates", "cedr", "out", "cedr")
 ROWS = b"30300,30301,oven-1\n42300,42301,belt-1\n68300,68301,press-1\n"
@@ -18,27 +26,38 @@ LIMITS = [8_000, 12_000, 20_000, 30_000, 40_000, 50_000, 60_000, 70_000, None]
 TIMES = 20
 
 
-def run(limit):
+def run(command, limit):
     """The status and what the program wrote under this limit."""
 
     def under():
         if limit is not None:
             resource.setrlimit(resource.RLIMIT_AS, (limit * 1024, limit * 1024))
 
-    words = [PROGRAM, "run", "failed_restarts.json"]
+    words = [PROGRAM, command, "failed_restarts.json"]
     ran = subprocess.run(words, cwd=os.path.join(TOP, "examples"), capture_output=True, timeout=60, preexec_fn=under)
     return ran.returncode, ran.stdout, ran.stderr
+
+
+def leads_to_rows(changes):
+    """Whether these changes may come one behind the other, and add up to the rows."""
+    try:
+        return rows_text(in_order(led_to(lines_of(changes), ["text"]))) == ROWS
+    except Unlawful:
+        return False
 
 
 def main():
     wrong = 0
     for limit in LIMITS:
         for _ in range(TIMES):
-            told = run(limit)
+            told, streamed = run("run", limit), run("stream", limit)
             if told != (0, ROWS, b""):
                 wrong += 1
-                print(f"refused_threads: under {limit} kilobytes of addresses: {told}")
-    print(f"refused_threads: {len(LIMITS)} limits, each {TIMES} times: {wrong} wrong")
+                print(f"refused_threads: run under {limit} kilobytes of addresses: {told}")
+            if streamed[0] or streamed[2] or not leads_to_rows(streamed[1]):
+                wrong += 1
+                print(f"refused_threads: stream under {limit} kilobytes of addresses: {streamed}")
+    print(f"refused_threads: {len(LIMITS)} limits, each {TIMES} times by run and stream: {wrong} wrong")
     return 1 if wrong else 0
 
 
