@@ -38,4 +38,6 @@ mod check_tests;
 #[cfg(test)]
 mod plan_tests;
 #[cfg(test)]
+mod stream_tests;
+#[cfg(test)]
 mod tests;
