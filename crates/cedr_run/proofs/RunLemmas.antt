@@ -216,18 +216,23 @@ module _ {S : Type 0} (rest : S → Option (List ℕ)) (faults : S → ℕ) (acc
       count = forgot_count nodes ports;
     }
 
-    -- and is that of the run
-    pub answers_so : (rows : List Row) → IsTableOf (list_at given (output_place nodes)) rows → (told : List ℕ → List ℕ) → AreTold content told (source_files nodes) → AnswersRun told nodes report.edges.items report.ran.items (answer_text (has_memory nodes) nodes (in_order rows) (forgot_in nodes ports))
-    answers_so rows table told known =
+    -- the sources are accepted, and their lists have these tables
+    accepted_so : (told : List ℕ → List ℕ) → AreTold content told (source_files nodes) → (histories : Tables) × AreAccepted told (source_nodes nodes) (sources_in nodes given) histories × AreTables (sources_in nodes given) histories
+    accepted_so told known =
         let read = all_read rest faults content told nodes reported.sources given ends (reported.count, reported.reported.count) (so_went rest faults nodes reported.sources given ends ended) reported.found known is_done.closed in
         let got = accepts told nodes (source_lists nodes given) read in
         let same = same_sources nodes given in
-        let tables = subst (λ (ls : Lists). AreTables ls got.0) same got.3 in
-        let closed = closed_table nodes (sources_in nodes given) got.0 ports given is.nodes is_done.run whole tables (output_place nodes) (place_within plan is) in
+        (got.0, subst (λ (ls : Lists). AreAccepted told (source_nodes nodes) ls got.0) same got.1, subst (λ (ls : Lists). AreTables ls got.0) same got.3)
+
+    -- and the text is that of the run
+    pub answers_so : (rows : List Row) → IsTableOf (list_at given (output_place nodes)) rows → (told : List ℕ → List ℕ) → AreTold content told (source_files nodes) → AnswersRun told nodes report.edges.items report.ran.items (answer_text (has_memory nodes) nodes (in_order rows) (forgot_in nodes ports))
+    answers_so rows table told known =
+        let got = accepted_so told known in
+        let closed = closed_table nodes (sources_in nodes given) got.0 ports given is.nodes is_done.run whole got.2 (output_place nodes) (place_within plan is) in
         record {
           sources = sources_in nodes given;
           histories = got.0;
-          accepted = subst (λ (ls : Lists). AreAccepted told (source_nodes nodes) ls got.0) same got.1;
+          accepted = got.1;
           given = given;
           run = is_done.run;
           text_is = ap (λ (ordered : List Row). answer_text (has_memory nodes) nodes ordered (forgot_in nodes ports)) (one_canonical rows (rows_without nodes ports got.0) (one_table (list_at given (output_place nodes)) rows (rows_without nodes ports got.0) table closed));
@@ -241,18 +246,15 @@ module _ {S : Type 0} (rest : S → Option (List ℕ)) (faults : S → ℕ) (acc
     -- and its changes are those of the run
     pub streams_so : Leads → (told : List ℕ → List ℕ) → AreTold content told (source_files nodes) → AnswersStream told nodes report.edges.items report.ran.items (changes_text report.changes.items ++ tail_of nodes (forgot_in nodes ports))
     streams_so leads told known =
-        let read = all_read rest faults content told nodes reported.sources given ends (reported.count, reported.reported.count) (so_went rest faults nodes reported.sources given ends ended) reported.found known is_done.closed in
-        let got = accepts told nodes (source_lists nodes given) read in
-        let same = same_sources nodes given in
-        let tables = subst (λ (ls : Lists). AreTables ls got.0) same got.3 in
+        let got = accepted_so told known in
         record {
           sources = sources_in nodes given;
           histories = got.0;
-          accepted = subst (λ (ls : Lists). AreAccepted told (source_nodes nodes) ls got.0) same got.1;
+          accepted = got.1;
           given = given;
           run = is_done.run;
           text_is = ap (λ (cs : List Change). changes_text cs ++ tail_of nodes (forgot_in nodes ports)) is_done.changes;
-          leads = leads plan (sources_in nodes given) got.0 ports given is is_done.run whole tables;
+          leads = leads plan (sources_in nodes given) got.0 ports given is is_done.run whole got.2;
           ran_is = reported.reported.ran;
         }
 

@@ -1,8 +1,9 @@
 -- How a stream ends, by what was written of it and by what is reported of its run.
-use Rattle.std.proofs.Common.{◌≡◌, ℕ, ◌<◌, inl, inr, List, Bool, true, map, refl, ap, sym, ◌∙◌, subst, arith}
+use Rattle.std.proofs.Common.{◌≡◌, ℕ, ◌<◌, inl, inr, List, Bool, true, length, map, refl, ap, sym, ◌∙◌, subst, arith}
 use Rattle.std.specs.Prelude.{Option}
 use Rattle.std.proofs.KnownBytes.{Appends-trans}
-use Rattle.cedr_answer.specs.Finds.{count_with}
+use Rattle.std.specs.List.{All}
+use Rattle.cedr_answer.specs.Finds.{AreFound, count_with}
 use Rattle.cedr_answer.specs.Tellings.{source_in}
 use Rattle.cedr_base.specs.declared.change.Change.{Change}
 use Rattle.cedr_crew.specs.declared.forgotten.PortForgotten.{PortForgotten}
@@ -12,13 +13,15 @@ use Rattle.cedr_laws.specs.declared.forgotten.Forgotten.{Forgotten}
 use Rattle.cedr_plan.specs.declared.plan.Plan.{Plan}
 use Rattle.cedr_plan.specs.declared.plan.PlanNode.{PlanNode}
 use Rattle.cedr_plan.specs.Rules.{IsPlan}
+use Rattle.cedr_query.specs.Queries.{source_count}
 use Rattle.cedr_runs.specs.Without.{forgot_in}
 use Rattle.cedr_serial.specs.Queries.{changes_text, given_text, source_nodes}
 use Rattle.cedr_serial.specs.Sources.{AreTold, source_files}
 use Rattle.cedr_threads.specs.declared.report.Outcome.{Outcome as Came}
 use Rattle.cedr_threads.specs.declared.report.Outcome.TheVariants as came
 use Rattle.cedr_threads.specs.declared.report.Report.{Report}
-use Rattle.cedr_threads.specs.Reports.{CameTo}
+use Rattle.cedr_threads.specs.Reports.{CameTo, IsReport}
+use Rattle.cedr_threads.specs.SoFar.{IsSoFar}
 use Rattle.cedr_wires.specs.Wires.{carried, ports_of}
 use Rattle.cedr_run.specs.declared.outcome.Outcome.{Outcome}
 use Rattle.cedr_run.specs.declared.outcome.Outcome.TheVariants as outcome
@@ -42,6 +45,20 @@ can_tell_tail_as nodes seen_nodes forgotten seen listed nodes_are seen_are can =
 pub tells_stream_as : (how : Came) (by : Progress) (nodes seen_nodes : List PlanNode) (forgotten seen : List PortForgotten) (out out' : SinkSeen) (o : Outcome) → seen_nodes ≡ nodes → seen ≡ forgotten → TellsStream how by seen_nodes seen out out' o → TellsStream how by nodes forgotten out out' o
 tells_stream_as how by nodes seen_nodes forgotten seen out out' o nodes_are seen_are tells =
     subst (λ (ns : List PlanNode). TellsStream how by ns forgotten out out' o) nodes_are (subst (λ (ps : List PortForgotten). TellsStream how by seen_nodes ps out out' o) seen_are tells)
+
+-- what is reported of a stream, and what its watcher stands for
+pub streamed_so : {S : Type 0} (rest : S → Option (List ℕ)) (faults : S → ℕ) (content : Contents) (nodes : List PlanNode) (sources : List S) (report : Report S) (by : Progress) (start out : SinkSeen) (count : ℕ)
+    → IsReport rest faults nodes sources report → length sources ≡ source_count nodes → All (λ (s : S). faults s ≡ 0) sources → AreFound rest content nodes sources
+    → (list : List Change) × (((count ≡ length list) × WroteList by start out list) × IsSoFar rest faults nodes sources report.sources.items list)
+    → (report.outcome ≡ came.Done → (count ≡ length report.changes.items) × WroteList by start out report.changes.items) → start.faults < last_count → IsStreamed rest faults content nodes report by start out
+streamed_so rest faults content nodes sources report by start out count reported sources_count fresh found so_far whole counts = record {
+  run = record { sources = sources; reported = reported; count = sources_count; fresh = fresh; found = found };
+  list = so_far.0;
+  so_far = so_far.1.1;
+  wrote = so_far.1.0.1;
+  whole = λ done. (whole done).1;
+  counts = counts;
+}
 
 -- where all was written nothing was refused
 pub whole_counts : {S : Type 0} (rest : S → Option (List ℕ)) (faults : S → ℕ) (content : Contents) (nodes : List PlanNode) (report : Report S) (by : Progress) (start out : SinkSeen) → IsStreamed rest faults content nodes report by start out → by ≡ progress.Whole → out.faults < last_count
