@@ -2,9 +2,13 @@
 use Rattle.std.proofs.Common.{◌≡◌, ℕ, zero, suc, ◌≤◌, Bool, true, false, cond, List, [], ◌∷◌, ◌++◌, length, map, Option, Some, None, refl, sym, ap, ◌∙◌, subst, arith, append_assoc, length-append}
 use Rattle.std.specs.Prelude.{count_by, option_to_list}
 use Rattle.std.specs.List.{All, list_any}
+use mathlib.Core.List.{IsPrefix}
 use Rattle.std.proofs.lemmas.Bool.{or_parts}
 use Rattle.std.proofs.lemmas.List.Elements.{All-append, All-cons, All-head, All-nil, All-tail}
 use Rattle.logbook.specs.Pages.{Book}
+use Rattle.cedr_base.specs.declared.change.Change.{Change}
+use Rattle.cedr_base.specs.declared.change.Message.{Message}
+use Rattle.cedr_base.specs.declared.level.Level.{Level}
 use Rattle.cedr_base.specs.Messages.{changes_of}
 use Rattle.cedr_edge.specs.Ends.{InEnd, OutEnd}
 use Rattle.cedr_history.specs.declared.listed.Listed.{Listed}
@@ -128,11 +132,18 @@ writer_untold {R = R} rest faults nodes takers putters sources history roles end
 
 -- ---- the list of the result
 
--- the writer that is left of an output's worker; where memory was found it published what the port passes on
+-- the changes that were published of what a port passes on: those of its first messages, and all where memory was found
+pub record IsPublished (level : Level) (taken : List Message) (lacked : Bool) (published : List Change) : Type 0 where
+  pub given : List Message
+  pub first : IsPrefix given (pass level taken)
+  pub begun : published ≡ changes_of given
+  pub whole : lacked ≡ false → published ≡ changes_of (pass level taken)
+
+-- the writer that is left of an output's worker
 record Published {S R : Type 0} (role : Role) (lists : Lists) (left : Part S R) : Type 0 where
   pub held : HeldWriter R
   pub alone : writer_left left ≡ held ∷ []
-  pub changes : part_lacked left ≡ false → held.writer.published.changes ≡ changes_of (pass role.node.level (list_at lists 0))
+  pub changes : IsPublished role.node.level (list_at lists 0) (part_lacked left) held.writer.published.changes
 
 -- of an output's worker such a writer is left
 published : {S R : Type 0} (rest : S → Option (List ℕ)) (faults : S → ℕ) (role : Role) (lists : Lists) (putters : List OutEnd) (left : Part S R) → PartEndsAs rest faults role lists putters left → is_output role.node.kind ≡ true → Published role lists left
@@ -141,7 +152,12 @@ published rest faults role lists putters (part.Operator node lacked) is output =
 published rest faults role lists putters (part.Output node lacked held) is output = record {
   held = held;
   alone = refl;
-  changes = λ found. ap (λ (l : Listed). l.changes) (is.whole found) ∙ ap (λ (n : DrawnNode). changes_of (pass n.level (list_at lists 0))) is.made;
+  changes = subst (λ (n : DrawnNode). IsPublished n.level (list_at lists 0) lacked held.writer.published.changes) is.made (record {
+    given = is.begun.given;
+    first = is.begun.first;
+    begun = ap (λ (l : Listed). l.changes) is.begun.list_is;
+    whole = λ found. ap (λ (l : Listed). l.changes) (is.whole found);
+  });
 }
 
 -- the same among all that is left, of the output behind other nodes
@@ -150,7 +166,7 @@ record PublishedAt {S R : Type 0} (place : ℕ) (n : PlanNode) (ends : List (End
   pub firsts : List (HeldWriter R)
   pub lasts : List (HeldWriter R)
   pub among : writers_in (map part_left ends) ≡ firsts ++ held ∷ lasts
-  pub changes : lacked_at ends place ≡ false → held.writer.published.changes ≡ changes_of (pass n.level (list_at (lists_at (map (map taken_of) (map takers_left ends)) place) 0))
+  pub changes : IsPublished n.level (list_at (lists_at (map (map taken_of) (map takers_left ends)) place) 0) (lacked_at ends place) held.writer.published.changes
 
 -- of the first worker
 first_published : {S R : Type 0} (r : Role) (e : Ended S R) (es : List (Ended S R)) (n : PlanNode) → r.node ≡ n → Published r (map taken_of e.takers) e.part → PublishedAt 0 n (e ∷ es)
@@ -159,7 +175,7 @@ first_published r e es n same here = record {
   firsts = [];
   lasts = writers_in (map part_left es);
   among = ap (λ ws. ws ++ writers_in (map part_left es)) here.alone;
-  changes = λ found. here.changes found ∙ ap (λ (k : PlanNode). changes_of (pass k.level (list_at (map taken_of e.takers) 0))) same;
+  changes = subst (λ (k : PlanNode). IsPublished k.level (list_at (map taken_of e.takers) 0) (part_lacked e.part) here.held.writer.published.changes) same here.changes;
 }
 
 -- of a worker behind the first
@@ -169,7 +185,7 @@ later_published {R = R} e es place n later = record {
   firsts = writer_left e.part ++ later.firsts;
   lasts = later.lasts;
   among = ap (λ (ws : List (HeldWriter R)). writer_left e.part ++ ws) later.among ∙ sym (append_assoc (writer_left e.part) later.firsts (later.held ∷ later.lasts));
-  changes = λ found. later.changes (sym (lacked_later e es place) ∙ found);
+  changes = subst (λ (b : Bool). IsPublished n.level (list_at (lists_at (map (map taken_of) (map takers_left es)) place) 0) b later.held.writer.published.changes) (sym (lacked_later e es place)) later.changes;
 }
 
 -- such a writer is left of the output's worker, wherever it stands
@@ -183,10 +199,19 @@ published_at rest faults (r ∷ rs) (e ∷ es) [] after n are whole output =
     first_published r e es n same (published rest faults r (map taken_of e.takers) e.putters e.part are.0.part_is (ap (λ (k : PlanNode). is_output k.kind) same ∙ output))
 published_at rest faults (r ∷ rs) (e ∷ es) (b ∷ before) after n are whole output = later_published e es (length before) n (published_at rest faults rs es before after n are.1 (cc whole) output)
 
+-- The only writer that is left is the output's, and published a beginning of the changes that its port passes on, also where
+-- memory was lacking.
+pub writer_begun : {S R : Type 0} (rest : S → Option (List ℕ)) (faults : S → ℕ) (roles : List Role) (ends : List (Ended S R)) (before after : List PlanNode) (n : PlanNode) (held : HeldWriter R)
+    → AllEndAs rest faults roles ends → map node_in roles ≡ before ++ n ∷ after → is_output n.kind ≡ true → writers_in (map part_left ends) ≡ held ∷ []
+    → IsPublished n.level (list_at (lists_at (map (map taken_of) (map takers_left ends)) (length before)) 0) (lacked_at ends (length before)) held.writer.published.changes
+writer_begun {R = R} rest faults roles ends before after n held ended whole output one =
+    let at = published_at rest faults roles ends before after n ended whole output in
+    subst (λ (h : HeldWriter R). IsPublished n.level (list_at (lists_at (map (map taken_of) (map takers_left ends)) (length before)) 0) (lacked_at ends (length before)) h.writer.published.changes)
+    (only_that at.firsts at.lasts at.held held (sym one ∙ at.among)) at.changes
+
 -- Where memory was found for the output, its writer published the changes that its port passes on.
 pub writer_published : {S R : Type 0} (rest : S → Option (List ℕ)) (faults : S → ℕ) (nodes : List PlanNode) (takers : List (List InEnd)) (putters : List (List OutEnd)) (sources : List S) (history : Book) (roles : List Role) (ends : List (Ended S R)) (before after : List PlanNode) (n : PlanNode) (held : HeldWriter R)
     → AreRoles rest faults nodes takers putters sources history roles → AllEndAs rest faults roles ends → nodes ≡ before ++ n ∷ after → is_output n.kind ≡ true → lacked_at ends (length before) ≡ false → writers_in (map part_left ends) ≡ held ∷ []
     → held.writer.published.changes ≡ changes_of (pass n.level (list_at (lists_at (map (map taken_of) (map takers_left ends)) (length before)) 0))
-writer_published {R = R} rest faults nodes takers putters sources history roles ends before after n held are ended whole output found one =
-    let at = published_at rest faults roles ends before after n ended (are.nodes_are ∙ whole) output in
-    ap (λ (h : HeldWriter R). h.writer.published.changes) (sym (only_that at.firsts at.lasts at.held held (sym one ∙ at.among))) ∙ at.changes found
+writer_published rest faults nodes takers putters sources history roles ends before after n held are ended whole output found one =
+    (writer_begun rest faults roles ends before after n held ended (are.nodes_are ∙ whole) output one).whole found

@@ -6,5 +6,4 @@ pub mod RunLemmas
 pub mod CutLemmas
 pub mod EchoLemmas
 pub mod CutRunLemmas
-pub mod BegunLemmas
 pub mod SoFarLemmas

@@ -8,7 +8,7 @@ use Rattle.cedr_base.specs.declared.change.Change.{Change}
 use Rattle.cedr_base.specs.declared.change.Message.{Message}
 use Rattle.cedr_base.specs.declared.change.Message.TheVariants as message
 use Rattle.cedr_base.specs.Messages.{changes_of, IsLegal}
-use Rattle.cedr_stream.proofs.Legal.{legal-push}
+use Rattle.cedr_stream.proofs.Legal.{changes-append, legal-push}
 use Rattle.cedr_history.proofs.Fronts.{prefix_trans}
 use Rattle.cedr_laws.specs.Lawful.{has_broken, is_over, IsLawful}
 use Rattle.cedr_laws.specs.Lists.{Lists, list_at}
@@ -39,13 +39,16 @@ use Rattle.cedr_crew.specs.declared.held.HeldWriter.{HeldWriter}
 use Rattle.cedr_crew.specs.Sortings.{source_ends_in, writers_in}
 use Rattle.cedr_crew.specs.Wents.{LostWent, Went, lacked_at, sources_left, takers_left}
 use Rattle.cedr_crew.proofs.LeftLemmas.{ports_left}
-use Rattle.cedr_crew.proofs.SortingLemmas.{sources_sorted}
+use Rattle.cedr_crew.proofs.SortingLemmas.{sources_sorted, writer_begun}
 use Rattle.cedr_crew.proofs.WentLemmas.{AllGave, all_gave, all_went}
 use Rattle.cedr_threads.specs.Reports.{HaveEnded}
 use Rattle.cedr_threads.specs.SoFar.{IsSoFar, unbroken}
-use Rattle.cedr_threads.proofs.BegunLemmas.{writer_begun}
 use Rattle.cedr_threads.proofs.CutLemmas.{IsCut, cut_of, prefixes_along, unbroken_changes, unbroken_pushed}
 use Rattle.cedr_threads.proofs.CutRunLemmas.{all_legal, cut_at, cut_run, inputs_legal, output_cut, prefixes_legal}
+
+-- the first messages have the first changes
+changes_first : (ms whole : List Message) → IsPrefix ms whole → IsPrefix (changes_of ms) (changes_of whole)
+changes_first ms whole h = (changes_of h.0, sym (changes-append ms h.0) ∙ ap changes_of h.1)
 
 -- a legal list that goes on may end or break
 last_legal : (ms : List Message) (l : Last) → IsLegal ms → is_over ms ≡ false → IsLegal (ms ++ last_message l ∷ [])
@@ -142,8 +145,9 @@ module _ {S R : Type 0} (rest : S → Option (List ℕ)) (faults : S → ℕ) (p
       let within = subst (λ (k : ℕ). k < length plan.nodes.items) (sym s.place) (place_within plan is) in
       let taken = ports_left rest faults plan.nodes.items h.takers h.putters sources history h.roles h.ends h.wired h.roles_are h.ended closed.edges.items h.edges in
       let published = writer_begun rest faults h.roles h.ends s.before s.after s.node held h.ended (h.roles_are.nodes_are ∙ s.whole) output (sym (ap writers_in h.parts) ∙ alone) in
-      let given : changes_of (pass s.node.level (list_at (lists_at (map (map taken_of) (map takers_left h.ends)) (length s.before)) 0)) ≡ changes_of (list_at all.given (length s.before)) =
-      ap (λ (ls : List Lists). changes_of (pass s.node.level (list_at (lists_at ls (length s.before)) 0))) (sym taken) ∙ ap changes_of (sym (went.passed s.before s.after s.node s.whole output)) in
+      let given : pass s.node.level (list_at (lists_at (map (map taken_of) (map takers_left h.ends)) (length s.before)) 0) ≡ list_at all.given (length s.before) =
+      ap (λ (ls : List Lists). pass s.node.level (list_at (lists_at ls (length s.before)) 0)) (sym taken) ∙ sym (went.passed s.before s.after s.node s.whole output) in
+      let begins = changes_first published.given (list_at all.given (length s.before)) (subst (IsPrefix published.given) given published.first) in
       subst (λ (ends : List (SourceEnd S)). IsSoFar rest faults plan.nodes.items sources ends list) left
       (so_far rest faults plan.nodes.items sources (ports_of plan.nodes.items (carried closed.edges.items)) all.given (lacked_at h.ends) (sources_left h.ends) is.nodes went (source_legal all) (length s.before) s.place within list
-      (prefix_trans list held.writer.published.changes (changes_of (list_at all.given (length s.before))) first (subst (IsPrefix held.writer.published.changes) given published)))
+      (prefix_trans list held.writer.published.changes (changes_of (list_at all.given (length s.before))) first (subst (λ (cs : List Change). IsPrefix cs (changes_of (list_at all.given (length s.before)))) (sym published.begun) begins)))
