@@ -1,19 +1,17 @@
 -- Rows move out of a bag, one after the other.
-use Rattle.std.proofs.Common.{◌≡◌, ℕ, ◌+◌, ◌*◌, ◌<◌, inl, inr, List, [], ◌∷◌, ◌++◌, Bool, true, false, cond, not, nat_lt, ◌&&◌, ◌||◌, subst, refl, ap, sym, ◌∙◌, arith, length}
-use Rattle.std.specs.Prelude.{sum_by, filter, replicate, Option, Some, None}
+use Rattle.std.proofs.Common.{◌≡◌, ℕ, ◌+◌, ◌<◌, inl, inr, List, [], ◌++◌, Bool, true, false, cond, not, nat_lt, ◌&&◌, ◌||◌, subst, refl, ap, sym, ◌∙◌, arith, length}
+use Rattle.std.specs.Prelude.{filter, replicate, Option, Some, None}
 use Rattle.std.proofs.lemmas.Bool.{cases_lt}
-use Rattle.std.proofs.lemmas.List.Sums.{sum_by-cons, sum_by-append}
-use Rattle.std.proofs.lemmas.List.Folds.{sum_by-replicate}
 use Rattle.cedr_base.specs.declared.row.Row.{Row}
-use Rattle.cedr_base.specs.Rows.{same_row, one_if_same, count_of, in_order, SameRows}
-use Rattle.cedr_base.proofs.Bags.{same_row_exact, count_of-append}
-use Rattle.cedr_stream.proofs.BagSums.{sum_by-same}
+use Rattle.cedr_base.specs.Rows.{count_of, in_order, SameRows}
+use Rattle.cedr_base.proofs.Bags.{count_of-append}
 use Rattle.cedr_laws.specs.Surplus.{Ascend}
-use Rattle.cedr_laws.proofs.Order.{count-filter, ascend-in_order, count-in_order}
+use Rattle.cedr_table.specs.Counted.{IsTakenOut}
+use Rattle.cedr_table.proofs.FilterLemmas.{count-filter, count-rest, none_of_these, fewer_left}
+use Rattle.cedr_laws.proofs.Order.{ascend-in_order, count-in_order}
 use Rattle.cedr_align.specs.Released.{IsReleased}
-use Rattle.cedr_laws.proofs.Holds.{count-rest}
 use Rattle.cedr_laws.specs.Pass.{is_blocked, is_held}
-use Rattle.cedr_align.specs.Moving.{has_ended, IsTakenOut, IsMovedOut}
+use Rattle.cedr_align.specs.Moving.{has_ended, IsMovedOut}
 
 -- some of the rows that pass a test moved
 pub record IsMoving (goes : Row → Bool) (all left before released : List Row) : Type 0 where
@@ -23,17 +21,11 @@ pub record IsMoving (goes : Row → Bool) (all left before released : List Row) 
 pub moving_first : (goes : Row → Bool) (all before : List Row) → IsMoving goes all all before before
 moving_first goes all before = record { sums = λ r. refl; rest = λ r h. refl }
 
-other_count : (goes : Row → Bool) (r row : Row) (b : Bool) → same_row r row ≡ b → goes row ≡ true → goes r ≡ false → cond {A = ℕ} b 1 0 ≡ 0
-other_count goes r row false h passes fails = refl
-other_count goes r row true h passes fails = let e = ap goes (same_row_exact r row h) in cc
-
 pub moving_more : (goes : Row → Bool) (row : Row) (n : ℕ) (all left left' before released released' : List Row) → goes row ≡ true → SameRows (replicate n row ++ left') left → released' ≡ released ++ replicate n row
     → IsMoving goes all left before released → IsMoving goes all left' before released'
 moving_more goes row n all left left' before released released' passes out is moving = record {
   sums = λ r. omega (arith, moving.sums r, out.each r, count_of-append r (replicate n row) left', ap (count_of r) is, count_of-append r released (replicate n row));
-  rest = λ r fails.
-      let none = other_count goes r row (same_row r row) refl passes fails in
-      omega (arith, moving.rest r fails, out.each r, count_of-append r (replicate n row) left', sum_by-replicate (one_if_same r) n row, ap (λ k. n * k) none);
+  rest = λ r fails. omega (arith, moving.rest r fails, out.each r, count_of-append r (replicate n row) left', none_of_these goes row r n passes fails);
 }
 
 done_at : (goes : Row → Bool) (all left before released : List Row) (r : Row) (b : Bool) → goes r ≡ b → IsMoving goes all left before released → (0 < count_of r left → goes r ≡ false)
@@ -51,15 +43,6 @@ moving_done goes all left before released none moving = record {
   left_are = record { each = λ r. (done_at goes all left before released r (goes r) refl moving (none r)).0 ∙ sym (count-rest r goes all) };
   released_are = record { each = λ r. (done_at goes all left before released r (goes r) refl moving (none r)).1 ∙ omega (arith, count_of-append r before (filter goes all), count-filter r goes all) };
 }
-
-length_is : (xs : List Row) → sum_by (λ _. 1) xs ≡ length xs
-length_is [] = refl
-length_is (x ∷ xs) = omega (arith, sum_by-cons (λ (_ : Row). 1) x xs, length_is xs)
-
--- a bag from which rows were taken is shorter
-pub fewer_left : (row : Row) (n : ℕ) (left left' : List Row) → 0 < n → SameRows (replicate n row ++ left') left → length left' < length left
-fewer_left row n left left' some out =
-    omega (arith, sum_by-same (λ _. 1) _ _ out, sum_by-append (λ (_ : Row). 1) (replicate n row) left', sum_by-replicate (λ (_ : Row). 1) n row, length_is left, length_is left')
 
 none_of : {X : Type 0} (found : Option X) → ((x : X) → found ≡ Some x → ⊥) → found ≡ None
 none_of None h = refl

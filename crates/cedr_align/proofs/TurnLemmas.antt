@@ -1,19 +1,17 @@
 -- Rows with their begin and their end exchanged.
-use Rattle.std.proofs.Common.{◌≡◌, ℕ, ◌+◌, ◌*◌, ◌<◌, ◌≤◌, inl, inr, List, [], ◌∷◌, ◌++◌, Bool, true, false, cond, not, nat_lt, subst, refl, ap, sym, ◌∙◌, arith}
-use Rattle.std.specs.Prelude.{replicate, min, Option, Some, None}
+use Rattle.std.proofs.Common.{◌≡◌, ℕ, ◌+◌, ◌*◌, ◌<◌, ◌≤◌, List, [], ◌∷◌, ◌++◌, Bool, true, false, cond, not, nat_lt, subst, refl, ap, sym, ◌∙◌, arith}
+use Rattle.std.specs.Prelude.{replicate, min, Option, Some, None, IfSome, IfNone}
 use Rattle.cedr_laws.specs.Pass.{is_blocked, least_begin}
 use Rattle.cedr_laws.proofs.Holds.{least-there, least-from, least-mark}
-use Rattle.std.specs.declared.cmp.Ordering.TheVariants.{Greater}
-use Rattle.std.specs.Ordering.{is_le, nat_cmp, ordering_then}
-use Rattle.std.specs.Cmp.{nat_cmp_is}
-use Rattle.std.proofs.lemmas.Bool.{cases_lt, lt-ltb, ltb-true, not-false}
-use Rattle.cedr_base.specs.Order.{payload_cmp}
-use Rattle.cedr_table.specs.Counted.{IsFirst}
+use Rattle.std.proofs.lemmas.Bool.{lt-ltb, le-ltb, ltb-true, ltb-false, not-false, not-true}
+use Rattle.cedr_table.specs.Counted.{IsFirst, IsTakenOut}
+use Rattle.cedr_table.proofs.FilterLemmas.{ends_first}
 use Rattle.std.proofs.lemmas.List.Folds.{sum_by-replicate}
 use Rattle.cedr_base.specs.declared.row.Row.{Row}
-use Rattle.cedr_base.specs.Rows.{row_cmp, same_row, one_if_same, count_of, SameRows}
+use Rattle.cedr_base.specs.Rows.{same_row, one_if_same, count_of, SameRows}
 use Rattle.cedr_base.proofs.Bags.{same_row_exact, same_row_itself, count_of-append, count_of-cons}
-use Rattle.cedr_align.specs.Moving.{turned, all_turned}
+use Rattle.cedr_stream.proofs.BagSums.{count_of-itself}
+use Rattle.cedr_align.specs.Moving.{turned, all_turned, IsPopped}
 
 -- a test is the same where each of two is true if the other one is
 both_ways : (b d : Bool) → (b ≡ true → d ≡ true) → (d ≡ true → b ≡ true) → b ≡ d
@@ -85,20 +83,6 @@ both_removed row n begins begins' ends ends' was b e = record {
   );
 }
 
--- a row that came and went
-pub back_again : (row : Row) (old mid new : List Row) → SameRows mid (row ∷ old) → SameRows (row ∷ new) mid → SameRows new old
-back_again row old mid new came went = record { each = λ r. omega (arith, came.each r, went.each r, count_of-cons r row old, count_of-cons r row new) }
-
-pub same_turned : (xs ys : List Row) → SameRows xs ys → SameRows (all_turned xs) (all_turned ys)
-same_turned xs ys h = record { each = λ r. count_turned r xs ∙ (h.each (turned r) ∙ sym (count_turned r ys)) }
-
--- of two rows in canonical order the first ends no later
-ends_first : (a b : Row) → is_le (row_cmp a b) ≡ true → a.end ≤ b.end
-ends_first a b h = elim (cases_lt b.end a.end) [
-  | inl behind ↦ (let e = sym (nat_cmp_is a.end b.end Greater behind) in let k : ordering_then (nat_cmp a.end b.end) (ordering_then (nat_cmp a.begin b.begin) (payload_cmp a.payload b.payload)) ≡ Greater = ap (λ o. ordering_then o (ordering_then (nat_cmp a.begin b.begin) (payload_cmp a.payload b.payload))) e in absurd (let z = ap is_le k in cc))
-  | inr upto ↦ upto
-]
-
 turned_twice : (r : Row) (rows : List Row) → count_of (turned r) (all_turned rows) ≡ count_of r rows
 turned_twice r rows = count_turned (turned r) rows
 
@@ -114,12 +98,64 @@ first_turned other begins ends same first = let there = first.there in omega (ar
 pub none_turned : (r : Row) (begins ends : List Row) → SameRows begins (all_turned ends) → begins ≡ [] → count_of r ends ≡ 0
 none_turned r begins ends same none = omega (arith, same.each (turned r), turned_twice r ends, ap (count_of (turned r)) none)
 
+-- a bag of which no row is there is empty
+no_rows : (rows : List Row) → ((r : Row) → count_of r rows ≡ 0) → rows ≡ []
+no_rows [] none = refl
+no_rows (x ∷ rows) none = absurd (omega (arith, none x, count_of-itself x rows))
+
+pub none_by_end : (begins ends : List Row) → SameRows begins (all_turned ends) → begins ≡ [] → ends ≡ []
+none_by_end begins ends same none = no_rows ends (λ r. none_turned r begins ends same none)
+
 -- of two rows the block hasn't passed for the one that begins later where it hasn't for the other one
 blocked_later : (block : Option ℕ) (high : ℕ) (a b : Row) → a.begin ≤ b.begin → not (is_blocked block high a) ≡ false → not (is_blocked block high b) ≡ false
 blocked_later None high a b low h = refl
 blocked_later (Some d) high a b low h =
     let later = ltb-true high (a.begin + d) (not-false (nat_lt high (a.begin + d)) h) in
     ap not (lt-ltb high (b.begin + d) (omega arith))
+
+-- of two rows the block has passed for the one that begins earlier where it has for the other one
+blocked_earlier : (block : Option ℕ) (high : ℕ) (a b : Row) → a.begin ≤ b.begin → not (is_blocked block high b) ≡ true → not (is_blocked block high a) ≡ true
+blocked_earlier None high a b low h = h
+blocked_earlier (Some d) high a b low h =
+    let passed = ltb-false high (b.begin + d) (not-true (nat_lt high (b.begin + d)) h) in
+    ap not (le-ltb high (a.begin + d) (omega arith))
+
+-- a row was popped from the order of the ends, and then goes from that of the begins
+pub popped_end : (row other : Row) (n k : ℕ) (begins begins' ends ends' : List Row) → SameRows begins (all_turned ends) → other ≡ turned row → n ≡ count_of row ends → k ≡ count_of other begins → SameRows (replicate n row ++ ends') ends → SameRows (replicate k other ++ begins') begins
+    → SameRows begins' (all_turned ends')
+popped_end row other n k begins begins' ends ends' same is e f d b =
+    let so_many : k ≡ n = f ∙ (ap (λ (r : Row). count_of r begins) is ∙ (same.each (turned row) ∙ (count_turned (turned row) ends ∙ sym e))) in
+    both_removed row n begins begins' ends ends' same
+    (subst (λ (m : ℕ). SameRows (replicate m (turned row) ++ begins') begins) so_many (subst (λ (r : Row). SameRows (replicate k r ++ begins') begins) is b)) d
+
+-- a row was popped from the order of the begins, and then goes from that of the ends
+module _ (other row : Row) (n k : ℕ) (begins begins' ends ends' : List Row) (same : SameRows begins (all_turned ends)) (is : row ≡ turned other) where
+  turned_is : turned row ≡ other
+  turned_is = ap turned is
+
+  same_count : count_of other begins ≡ count_of row ends
+  same_count = same.each other ∙ (count_turned other ends ∙ ap (λ (r : Row). count_of r ends) (sym is))
+
+  so_many : n ≡ count_of other begins → k ≡ count_of row ends → k ≡ n
+  so_many e f = f ∙ (sym same_count ∙ sym e)
+
+  -- the two orders agree again
+  pub popped_both : n ≡ count_of other begins → k ≡ count_of row ends → SameRows (replicate n other ++ begins') begins → SameRows (replicate k row ++ ends') ends → SameRows begins' (all_turned ends')
+  popped_both e f b d =
+      both_removed row n begins begins' ends ends' same
+      (subst (λ (r : Row). SameRows (replicate n r ++ begins') begins) (sym turned_is) b)
+      (subst (λ (m : ℕ). SameRows (replicate m row ++ ends') ends) (so_many e f) d)
+
+  -- and the row is popped from the bag, as the first one by begin
+  pub popped_begin : IsFirst other begins → n ≡ count_of other begins → k ≡ count_of row ends → SameRows (replicate k row ++ ends') ends → IsPopped row n ends ends' × ((r : Row) → 0 < count_of r ends → row.begin ≤ r.begin)
+  popped_begin first e f d = (
+    record {
+      there = let there = first.there in omega (arith, e);
+      counted = e ∙ same_count;
+      removed = subst (λ (m : ℕ). SameRows (replicate m row ++ ends') ends) (so_many e f) d;
+    },
+    λ r there. let b = ap (λ (x : Row). x.begin) is in omega (arith, begins_first other r begins ends same first there),
+  )
 
 module _ (block : Option ℕ) (high : ℕ) (begins ends : List Row) (same : SameRows begins (all_turned ends)) where
   -- the block has passed for no row where none waits
@@ -130,16 +166,15 @@ module _ (block : Option ℕ) (high : ℕ) (begins ends : List Row) (same : Same
   pub first_waits : (other : Row) → IsFirst other begins → not (is_blocked block high (turned other)) ≡ false → (r : Row) → 0 < count_of r ends → not (is_blocked block high r) ≡ false
   first_waits other first waits r there = blocked_later block high (turned other) r (begins_first other r begins ends same first there) waits
 
-  -- the first row by begin, and all its copies
-  pub first_goes : (other row : Row) (p : Row × ℕ) (left : List Row) → IsFirst other begins → not (is_blocked block high (turned other)) ≡ true → row ≡ turned other → p.0 ≡ row → p.1 ≡ count_of row ends → SameRows (replicate p.1 row ++ left) ends
-      → (not (is_blocked block high p.0) ≡ true) × (0 < p.1) × (p.1 ≡ count_of p.0 ends) × SameRows (replicate p.1 p.0 ++ left) ends
-  first_goes other row p left first passed row_is is counted removed =
-      let there = first_turned other begins ends same first in (
-        ap (λ (r : Row). not (is_blocked block high r)) (is ∙ row_is) ∙ passed,
-        omega (arith, counted, ap (λ (r : Row). count_of r ends) row_is),
-        counted ∙ ap (λ (r : Row). count_of r ends) (sym is),
-        subst (λ (r : Row). SameRows (replicate p.1 r ++ left) ends) (sym is) removed,
-      )
+  -- what was popped as the first row by begin goes where the block has passed for the first one
+  pub popped_goes : (other row : Row) → IsFirst other begins → not (is_blocked block high (turned other)) ≡ true → ((r : Row) → 0 < count_of r ends → row.begin ≤ r.begin) → not (is_blocked block high row) ≡ true
+  popped_goes other row first passed least = blocked_earlier block high row (turned other) (least (turned other) (first_turned other begins ends same first)) passed
+
+  -- so it is taken out of the bag
+  pub unblocked_taken : (other : Row) → IsFirst other begins → not (is_blocked block high (turned other)) ≡ true → (left : List Row) (found : Option (Row × ℕ))
+      → IfSome found (λ (p : Row × ℕ). IsPopped p.0 p.1 ends left × ((r : Row) → 0 < count_of r ends → p.0.begin ≤ r.begin)) → IfNone found ((ends ≡ []) × (left ≡ [])) → IsTakenOut (λ r. not (is_blocked block high r)) ends left found
+  unblocked_taken other first passed left None some none = (none.1 ∙ sym none.0, λ r there. absurd (omega (arith, ap (count_of r) none.0)))
+  unblocked_taken other first passed left (Some p) some none = let popped = some.0 in (popped_goes other p.0 first passed some.1, popped.there, popped.counted, popped.removed)
 
   pub least_first : (t : ℕ) (other : Row) → IsFirst other begins → least_begin t ends ≡ min t other.end
   least_first t other first =

@@ -1,11 +1,13 @@
 -- What an aligner stands for.
-use Rattle.std.specs.Prelude.{◌≡◌, List, [], ◌∷◌, ◌++◌}
+use Rattle.std.specs.Prelude.{◌≡◌, ◌<◌, List, [], ◌∷◌, ◌++◌, Bool}
+use Rattle.cedr_base.specs.declared.row.Row.{Row}
 use Rattle.cedr_base.specs.declared.change.Message.{Message}
-use Rattle.cedr_base.specs.Rows.{SameRows}
+use Rattle.cedr_base.specs.Rows.{count_of, SameRows}
 use Rattle.cedr_base.specs.Messages.{mark_of, IsLegal}
 use Rattle.cedr_laws.specs.declared.forgotten.Forgotten.{Forgotten}
 use Rattle.cedr_laws.specs.Kept.{high_of, forgotten_of}
-use Rattle.cedr_laws.specs.Pass.{has_end, held, passed_table, passed_of}
+use Rattle.cedr_laws.specs.Pass.{has_end, is_held, held, passed_of}
+use Rattle.cedr_align.specs.Remembered.{is_remembered, remembered}
 use Rattle.cedr_align.specs.declared.aligner.Aligner.{Aligner}
 use Rattle.cedr_align.specs.declared.fate.Fate.{Fate}
 use Rattle.cedr_align.specs.declared.fate.Fate.TheVariants as fate
@@ -17,7 +19,7 @@ pub record Aligns (a : Aligner) (ms : List Message) : Type 0 where
   pub high_is : a.high ≡ high_of ms
   pub ended_is : a.ended ≡ has_end ms
   pub held_are : SameRows a.held (held a.level ms)
-  pub passed_are : SameRows a.passed (passed_table a.level ms)
+  pub passed_are : SameRows a.passed (remembered a.level ms)
 
 -- what a fate lists
 abbrev pub listed : Fate → List Forgotten
@@ -31,3 +33,21 @@ pub record IsTaken (old new : Aligner) (ms : List Message) (m : Message) (before
   pub passed_on : after ≡ before ++ passed_of old.level ms m
   pub fate_is : listed fate ≡ forgotten_of old.level.memory ms m
   pub same_level : new.level ≡ old.level
+
+-- each row of which the aligner has a copy is a held one, or a passed one that is remembered
+pub record OnlyKeeps (a : Aligner) (ms : List Message) : Type 0 where
+  pub each : (r : Row) → 0 < count_of r (a.held ++ a.passed) → 0 < count_of r (held a.level ms ++ remembered a.level ms)
+
+-- a row must wait at an aligner's level and times; and one that passed must be remembered
+abbrev pub must_wait : Aligner → Row → Bool
+must_wait a r = is_held a.level.block a.ended a.mark a.high r
+
+abbrev pub must_remember : Aligner → Row → Bool
+must_remember a r = is_remembered a.level.memory a.ended a.mark a.high r
+
+-- nothing of an aligner changed but its rows
+pub record HasSameTimes (old new : Aligner) : Type 0 where
+  pub level : new.level ≡ old.level
+  pub mark : new.mark ≡ old.mark
+  pub high : new.high ≡ old.high
+  pub ended : new.ended ≡ old.ended

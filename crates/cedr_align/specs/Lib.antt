@@ -1,3 +1,4 @@
 pub mod Moving
+pub mod Remembered
 pub mod Released
 pub mod Aligner

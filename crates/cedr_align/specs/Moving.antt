@@ -1,5 +1,5 @@
 -- Rows in order of begin, and rows that move from one list to another.
-use Rattle.std.specs.Prelude.{ℕ, ◌≡◌, ◌<◌, ◌++◌, List, map, replicate, filter, not, Bool, true, false, ◌||◌, nat_lt, Option, Some, None}
+use Rattle.std.specs.Prelude.{ℕ, ◌≡◌, ◌<◌, ◌++◌, List, map, replicate, filter, not, Bool, ◌||◌, nat_lt}
 use Rattle.cedr_base.specs.declared.row.Row.{Row}
 use Rattle.cedr_base.specs.declared.change.Change.{Change}
 use Rattle.cedr_base.specs.declared.change.Change.TheVariants.{Add, Cut}
@@ -21,12 +21,13 @@ HasRow rows (Cut r e) = 0 < count_of r rows
 abbrev pub has_ended : Bool → ℕ → Row → Bool
 has_ended ended mark r = ended || nat_lt r.end mark
 
--- All copies of one row that passes a test are taken out of a bag; or none passes, and nothing is.
-abbrev pub IsTakenOut : (Row → Bool) → List Row → List Row → Option (Row × ℕ) → Type 0
-IsTakenOut goes old new None = (new ≡ old) × ((r : Row) → 0 < count_of r old → goes r ≡ false)
-IsTakenOut goes old new (Some p) = (goes p.0 ≡ true) × (0 < p.1) × (p.1 ≡ count_of p.0 old) × SameRows (replicate p.1 p.0 ++ new) old
-
 -- all rows that pass a test moved from one list to another
 pub record IsMovedOut (goes : Row → Bool) (all left before released : List Row) : Type 0 where
   pub left_are : SameRows left (filter (λ r. not (goes r)) all)
   pub released_are : SameRows released (before ++ filter goes all)
+
+-- all copies of a row that is there were taken out of a bag
+pub record IsPopped (row : Row) (count : ℕ) (old new : List Row) : Type 0 where
+  pub there : 0 < count
+  pub counted : count ≡ count_of row old
+  pub removed : SameRows (replicate count row ++ new) old

@@ -8,33 +8,34 @@ ghost use Rattle.cedr_laws.specs.Pass.{front, IsLevel};
 use crate::fate::Fate;
 use crate::held::Held;
 use crate::keep::find_cause;
-use crate::settle::{front_of, keep_and_settle, settle};
 use cedr_base::{Change, Level, Message, OutOfMemory, Time};
 use cedr_laws::Forgotten;
 use cedr_table::Table;
 use std::alloc::Global;
 
-/// Holds a port's rows back until they may pass.
+/// Holds a port's rows back until they may pass. Of those that passed it remembers the ones that a retraction may still
+/// name where the memory has a limit, and no other one.
 ///
 /// It stands for the list of messages that it took, which it doesn't keep. Each clause speaks of every list that it
 /// stands for.
 #[derive(Drop)]
 pub struct Aligner {
-    level: Level,
-    mark: Time,
-    high: Time,
-    ended: bool,
-    held: Held,
-    passed: Table,
+    pub(crate) level: Level,
+    pub(crate) mark: Time,
+    pub(crate) high: Time,
+    pub(crate) ended: bool,
+    pub(crate) held: Held,
+    pub(crate) passed: Table,
 }
 
 impl Aligner {
-    ghost use Rattle.cedr_align.specs.Aligner.{Aligns, IsTaken};
+    ghost use Rattle.cedr_align.specs.Aligner.{Aligns, IsTaken, OnlyKeeps};
 
     /// An aligner that took nothing. Its block isn't over its memory. It takes no memory.
     pub fn new(level: Level, alloc: Global) -> Aligner
         requires { IsLevel level }
         ensures aligns { Aligns result [] }
+        ensures held { OnlyKeeps result [] }
         ensures level { result.level ≡ level }
     {
         Aligner {
@@ -52,7 +53,7 @@ impl Aligner {
     pub fn front(&self) -> Time
         ensures { (ms : List Message) → Aligns self.now ms → result ≡ front self.now.level ms }
     {
-        front_of(self.ended, self.mark, &self.held)
+        self.guarantee()
     }
 
     /// The greatest sync or mark that came, 0 at first. It takes no memory.
@@ -77,32 +78,12 @@ impl Aligner {
         self.high = high.max(change.sync());
         match cause {
             None => {
-                keep_and_settle(
-                    alloc,
-                    self.level.block,
-                    self.ended,
-                    self.mark,
-                    self.high,
-                    &mut self.held,
-                    &mut self.passed,
-                    change,
-                    out,
-                )?;
+                self.keep_and_settle(alloc, change, out)?;
                 Ok(Fate::Kept)
             }
             Some(cause) => {
-                let before = front_of(self.ended, self.mark, &self.held);
-                settle(
-                    alloc,
-                    self.level.block,
-                    self.ended,
-                    self.mark,
-                    self.high,
-                    before,
-                    &mut self.held,
-                    &mut self.passed,
-                    out,
-                )?;
+                let before = self.guarantee();
+                self.settle(alloc, before, out)?;
                 Ok(Fate::Forgotten(Forgotten {
                     change,
                     cause,
@@ -126,36 +107,16 @@ impl Aligner {
         match message {
             Message::Change(change) => self.take_change(alloc, change, out),
             Message::Mark(t) => {
-                let before = front_of(self.ended, self.mark, &self.held);
+                let before = self.guarantee();
                 self.mark = t;
                 self.high = self.high.max(t);
-                settle(
-                    alloc,
-                    self.level.block,
-                    self.ended,
-                    self.mark,
-                    self.high,
-                    before,
-                    &mut self.held,
-                    &mut self.passed,
-                    out,
-                )?;
+                self.settle(alloc, before, out)?;
                 Ok(Fate::Kept)
             }
             Message::End => {
-                let before = front_of(self.ended, self.mark, &self.held);
+                let before = self.guarantee();
                 self.ended = true;
-                settle(
-                    alloc,
-                    self.level.block,
-                    self.ended,
-                    self.mark,
-                    self.high,
-                    before,
-                    &mut self.held,
-                    &mut self.passed,
-                    out,
-                )?;
+                self.settle(alloc, before, out)?;
                 out.push(Message::End)?;
                 Ok(Fate::Kept)
             }
@@ -169,7 +130,9 @@ impl Aligner {
     /// Takes a message that may come behind those before it, and appends what it passes on: a retraction of a row
     /// that passed, the rows that needn't wait any longer in canonical order, the front where it rose, and the end. A
     /// break passes on itself alone. Where memory runs out nothing is appended, and the aligner is only to be dropped.
-    /// O(log n) in the rows that wait and those that passed, for the message and for each row that passes.
+    /// O(log n) in the rows that wait and those that are remembered, for the message and for each row that passes or is
+    /// forgotten; O(1) for a change that needn't wait, where no row does and the memory has no limit. A row that passes
+    /// is moved, and copied only where it must be remembered.
     pub fn take(
         &mut self,
         alloc: Global,
@@ -177,6 +140,7 @@ impl Aligner {
         out: &mut Vec<Message>,
     ) -> Result<Fate, OutOfMemory>
         ensures taken { IfOk result (λ fate. (ms : List Message) → Aligns self.old ms → MayCome ms message → IsTaken self.old self.new ms message out.old.items out.new.items fate) }
+        ensures held { IfOk result (λ fate. (ms : List Message) → Aligns self.old ms → MayCome ms message → OnlyKeeps self.new (ms ++ message ∷ [])) }
         ensures level { self.new.level ≡ self.old.level }
         ensures err { OnErr result (out.new.items ≡ out.old.items) }
     {

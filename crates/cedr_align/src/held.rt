@@ -1,9 +1,10 @@
-ghost use Rattle.std.specs.Prelude.{ℕ, ◌≡◌, ◌<◌, ◌++◌, ◌∷◌, [], List, Option, not, filter, replicate, IfOk, OnOk, MatchBool, ◌≢◌};
+ghost use Rattle.std.specs.Prelude.{ℕ, ◌≡◌, ◌<◌, ◌≤◌, ◌++◌, ◌∷◌, [], List, Option, not, filter, replicate, IfOk, IfSome, IfNone, OnOk, MatchBool, ◌≢◌};
 ghost use Rattle.cedr_base.specs.declared.row.Row.{Row};
 ghost use Rattle.cedr_base.specs.Rows.{count_of, SameRows};
 ghost use Rattle.cedr_base.specs.Changes.{puts, takes};
 ghost use Rattle.cedr_laws.specs.Pass.{is_blocked, is_held, least_begin};
-ghost use Rattle.cedr_align.specs.Moving.{turned, HasRow, has_ended, IsTakenOut, IsMovedOut};
+ghost use Rattle.cedr_table.specs.Counted.{IsTakenOut};
+ghost use Rattle.cedr_align.specs.Moving.{turned, HasRow, has_ended, IsMovedOut, IsPopped};
 ghost use Rattle.cedr_align.specs.Released.{IsReleased};
 
 use cedr_base::{Change, OutOfMemory, Row, Time, sort_rows};
@@ -87,117 +88,122 @@ impl Held {
         self.by_end.count(row)
     }
 
-    /// Adds a row.
-    fn insert(&mut self, alloc: Global, row: &Row) -> Result<(), OutOfMemory>
-        ensures ok { OnOk result (SameRows self.new (row.now ∷ self.old)) }
+    /// Adds a row. Where memory runs out no row is left.
+    fn insert(&mut self, alloc: Global, row: Row) -> Result<(), OutOfMemory>
+        ensures ok { OnOk result (SameRows self.new (row ∷ self.old)) }
     {
         let other = turn(row.copy(alloc)?);
-        let copied = row.copy(alloc)?;
-        self.by_end.insert(copied)?;
+        self.by_end.insert(row)?;
         match self.by_begin.insert(other) {
             Ok(()) => Ok(()),
             Err(OutOfMemory) => {
-                self.by_end.take(row);
+                self.by_end = Table::new(alloc);
+                self.by_begin = Table::new(alloc);
                 Err(OutOfMemory)
             }
         }
     }
 
     /// Takes a copy of a row away.
-    fn take(&mut self, row: &Row, other: &Row)
-        requires there { 0 < count_of row.now self.old }
-        requires other { other.now ≡ turned row.now }
-        ensures { SameRows (row.now ∷ self.new) self.old }
+    fn take(&mut self, row: Row)
+        requires { 0 < count_of row self.old }
+        ensures { SameRows (row ∷ self.new) self.old }
     {
-        self.by_end.take(row);
-        self.by_begin.take(other);
+        self.by_end.take(&row);
+        let other = turn(row);
+        self.by_begin.take(&other);
     }
 
-    /// Applies a change of a row that waits, or an addition.
-    pub(crate) fn apply(&mut self, alloc: Global, change: &Change) -> Result<(), OutOfMemory>
-        requires { HasRow self.old change.now }
-        ensures ok { OnOk result (SameRows (self.new ++ takes change.now) (self.old ++ puts change.now)) }
+    /// Applies a change of a row that waits, or an addition. Where memory runs out rows may be missing.
+    pub(crate) fn apply(&mut self, alloc: Global, change: Change) -> Result<(), OutOfMemory>
+        requires { HasRow self.old change }
+        ensures ok { OnOk result (SameRows (self.new ++ takes change) (self.old ++ puts change)) }
     {
         match change {
             Change::Add(row) => self.insert(alloc, row),
             Change::Cut(row, end) => {
-                let other = turn(row.copy(alloc)?);
-                if row.begin < *end {
+                if row.begin < end {
                     let mut shorter = row.copy(alloc)?;
-                    shorter.end = *end;
-                    self.insert(alloc, &shorter)?;
+                    shorter.end = end;
+                    self.insert(alloc, shorter)?;
                 }
-                self.take(row, &other);
+                self.take(row);
                 Ok(())
             }
         }
     }
 
-    /// Takes all copies of a row away, and gives the row back with their number.
-    fn remove(&mut self, row: Row) -> (Row, usize)
-        ensures row { result.0 ≡ row }
-        ensures count { result.1 ≡ count_of row self.old }
-        ensures removed { SameRows (replicate result.1 row ++ self.new) self.old }
+    /// Takes the first row by end away, all copies of it, and gives it with their number.
+    fn pop_by_end(&mut self) -> Option<(Row, usize)>
+        ensures some { IfSome result (λ found. IsPopped found.0 found.1 self.old self.new × ((r : Row) → 0 < count_of r self.old → found.0.end ≤ r.end)) }
+        ensures none { IfNone result ((self.old ≡ []) × (self.new ≡ [])) }
     {
-        let count = self.by_end.remove(&row);
-        let other = turn(row);
-        self.by_begin.remove(&other);
-        (turn(other), count)
+        match self.by_end.pop_first() {
+            Some((row, count)) => {
+                let other = turn(row);
+                self.by_begin.remove(&other);
+                Some((turn(other), count))
+            }
+            None => None,
+        }
+    }
+
+    /// Takes the first row by begin away, all copies of it, and gives it with their number.
+    fn pop_by_begin(&mut self) -> Option<(Row, usize)>
+        ensures some { IfSome result (λ found. IsPopped found.0 found.1 self.old self.new × ((r : Row) → 0 < count_of r self.old → found.0.begin ≤ r.begin)) }
+        ensures none { IfNone result ((self.old ≡ []) × (self.new ≡ [])) }
+    {
+        match self.by_begin.pop_first() {
+            Some((other, count)) => {
+                let row = turn(other);
+                self.by_end.remove(&row);
+                Some((row, count))
+            }
+            None => None,
+        }
     }
 }
 
-/// Appends this many copies of a row.
+/// Appends this many copies of a row, the last of which is the row itself.
 fn push_copies(
     alloc: Global,
     rows: &mut Vec<Row>,
-    row: &Row,
+    row: Row,
     count: usize,
 ) -> Result<(), OutOfMemory>
-    ensures { OnOk result (rows.new.items ≡ rows.old.items ++ replicate count row.now) }
+    requires { 0 < count }
+    ensures { OnOk result (rows.new.items ≡ rows.old.items ++ replicate count row) }
 {
-    for _ in 0..count {
+    for _ in 1..count {
         let copied = row.copy(alloc)?;
         rows.push(copied)?;
     }
+    rows.push(row)?;
     Ok(())
 }
 
 impl Held {
     /// Takes out the first row by end, where it needn't wait for its end.
-    fn take_ended(
-        &mut self,
-        alloc: Global,
-        ended: bool,
-        mark: Time,
-    ) -> Result<Option<(Row, usize)>, OutOfMemory>
-        ensures { IfOk result (λ found. IsTakenOut (has_ended ended mark) self.old self.new found) }
+    fn take_ended(&mut self, ended: bool, mark: Time) -> Option<(Row, usize)>
+        ensures { IsTakenOut (has_ended ended mark) self.old self.new result }
     {
         match self.by_end.first() {
-            Some(row) if ended || row.end < mark => {
-                let row = row.copy(alloc)?;
-                Ok(Some(self.remove(row)))
-            }
-            _ => Ok(None),
+            Some(row) if ended || row.end < mark => self.pop_by_end(),
+            _ => None,
         }
     }
 
     /// Takes out the first row by begin, where the block has passed for it.
-    fn take_unblocked(
-        &mut self,
-        alloc: Global,
-        block: Option<u64>,
-        high: Time,
-    ) -> Result<Option<(Row, usize)>, OutOfMemory>
-        ensures { IfOk result (λ found. IsTakenOut (λ r. not (is_blocked block high r)) self.old self.new found) }
+    fn take_unblocked(&mut self, block: Option<u64>, high: Time) -> Option<(Row, usize)>
+        ensures { IsTakenOut (λ r. not (is_blocked block high r)) self.old self.new result }
     {
         match self.by_begin.first() {
-            None => Ok(None),
+            None => None,
             Some(other) => {
                 if !has_passed(block, high, other.end) {
-                    return Ok(None);
+                    return None;
                 }
-                let row = turn(other.copy(alloc)?);
-                Ok(Some(self.remove(row)))
+                self.pop_by_begin()
             }
         }
     }
@@ -212,8 +218,8 @@ impl Held {
     ) -> Result<(), OutOfMemory>
         ensures { OnOk result (IsMovedOut (has_ended ended mark) self.old self.new released.old.items released.new.items) }
     {
-        while let Some((row, count)) = self.take_ended(alloc, ended, mark)? {
-            push_copies(alloc, released, &row, count)?;
+        while let Some((row, count)) = self.take_ended(ended, mark) {
+            push_copies(alloc, released, row, count)?;
         }
         Ok(())
     }
@@ -228,8 +234,8 @@ impl Held {
     ) -> Result<(), OutOfMemory>
         ensures { OnOk result (IsMovedOut (λ r. not (is_blocked block high r)) self.old self.new released.old.items released.new.items) }
     {
-        while let Some((row, count)) = self.take_unblocked(alloc, block, high)? {
-            push_copies(alloc, released, &row, count)?;
+        while let Some((row, count)) = self.take_unblocked(block, high) {
+            push_copies(alloc, released, row, count)?;
         }
         Ok(())
     }

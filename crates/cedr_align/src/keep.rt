@@ -1,10 +1,10 @@
 ghost use Rattle.std.specs.Prelude.{◌≡◌, ◌++◌, ◌∷◌, [], OnOk, Option, length, take};
 ghost use Rattle.cedr_base.specs.Rows.{SameRows};
 ghost use Rattle.cedr_base.specs.declared.change.Message.TheVariants as message;
-ghost use Rattle.cedr_base.specs.Changes.{puts, takes, all_puts, all_takes};
+ghost use Rattle.cedr_base.specs.Changes.{all_puts, all_takes};
 ghost use Rattle.cedr_stream.specs.Repairs.{wrapped};
 ghost use Rattle.cedr_laws.specs.Kept.{is_late};
-ghost use Rattle.cedr_align.specs.Released.{own_of, other_of, cause_at};
+ghost use Rattle.cedr_align.specs.Released.{own_of, other_of, cause_at, AreApplied};
 
 use crate::held::Held;
 use cedr_base::{Change, Message, OutOfMemory, Time};
@@ -13,17 +13,14 @@ use cedr_table::Table;
 use std::alloc::Global;
 
 /// A change is seen more than the memory before the greatest time that came.
-fn comes_late(memory: Option<u64>, high: Time, change: &Change) -> bool
-    ensures { result ≡ is_late memory high change.now }
+fn comes_late(memory: u64, high: Time, change: &Change) -> bool
+    ensures { result ≡ is_late (Some memory) high change.now }
 {
     let sync = change.sync();
-    match memory {
-        None => false,
-        Some(memory) => sync < high && high - sync > memory,
-    }
+    sync < high && high - sync > memory
 }
 
-/// Why a change is forgotten, if it is.
+/// Why a change is forgotten, if it is. Where the memory has no limit none is, and nothing is looked up.
 pub(crate) fn find_cause(
     memory: Option<u64>,
     high: Time,
@@ -33,6 +30,7 @@ pub(crate) fn find_cause(
 ) -> Option<Cause>
     ensures { result ≡ cause_at memory high held.now passed.now change.now }
 {
+    let memory = memory?;
     if comes_late(memory, high, change) {
         return Some(Cause::Late);
     }
@@ -48,19 +46,31 @@ pub(crate) fn find_cause(
     }
 }
 
-/// Applies a change to the rows that passed, and passes it on.
+/// Applies a change to the passed rows, where any are remembered.
+fn apply_where(memory: Option<u64>, passed: &mut Table, change: &Change) -> Result<(), OutOfMemory>
+    ensures { OnOk result (AreApplied memory (change.now ∷ []) passed.old passed.new) }
+{
+    match memory {
+        None => Ok(()),
+        Some(_) => match passed.apply(change) {
+            Ok(()) => Ok(()),
+            Err(_) => Err(OutOfMemory),
+        },
+    }
+}
+
+/// Passes a change on, and applies it to the passed rows, where any are remembered.
 pub(crate) fn pass_on(
+    memory: Option<u64>,
     passed: &mut Table,
     change: Change,
     out: &mut Vec<Message>,
 ) -> Result<(), OutOfMemory>
-    ensures passed { OnOk result (SameRows (passed.new ++ takes change) (passed.old ++ puts change)) }
+    ensures passed { OnOk result (AreApplied memory (change ∷ []) passed.old passed.new) }
     ensures out { OnOk result (out.new.items ≡ out.old.items ++ message.Change change ∷ []) }
     ensures kept { take (length out.old.items) out.new.items ≡ out.old.items }
 {
-    if passed.apply(&change).is_err() {
-        return Err(OutOfMemory);
-    }
+    apply_where(memory, passed, &change)?;
     out.push(Message::Change(change))?;
     Ok(())
 }
@@ -68,23 +78,24 @@ pub(crate) fn pass_on(
 /// Applies a change that isn't forgotten to the held rows, or to the passed ones and passes it on there.
 pub(crate) fn keep(
     alloc: Global,
+    memory: Option<u64>,
     held: &mut Held,
     passed: &mut Table,
     change: Change,
     out: &mut Vec<Message>,
 ) -> Result<(), OutOfMemory>
     ensures held { OnOk result (SameRows (held.new ++ all_takes (other_of held.old change)) (held.old ++ all_puts (other_of held.old change))) }
-    ensures passed { OnOk result (SameRows (passed.new ++ all_takes (own_of held.old change)) (passed.old ++ all_puts (own_of held.old change))) }
+    ensures passed { OnOk result (AreApplied memory (own_of held.old change) passed.old passed.new) }
     ensures out { OnOk result (out.new.items ≡ out.old.items ++ wrapped (own_of held.old change)) }
     ensures kept { take (length out.old.items) out.new.items ≡ out.old.items }
 {
     match &change {
-        Change::Add(_) => held.apply(alloc, &change),
+        Change::Add(_) => held.apply(alloc, change),
         Change::Cut(row, _) => {
             if held.count(row) > 0 {
-                return held.apply(alloc, &change);
+                return held.apply(alloc, change);
             }
-            pass_on(passed, change, out)
+            pass_on(memory, passed, change, out)
         }
     }
 }

@@ -1,6 +1,7 @@
 //! The alignment buffer of a port: it holds rows back until they may pass, and forgets changes that come too late.
 //!
-//! `Aligner` takes a port's messages one by one and passes on what the definitions of `cedr_laws` say.
+//! `Aligner` takes a port's messages one by one and passes on what the definitions of `cedr_laws` say. It keeps no row
+//! that passed but those that `specs/Remembered.antt` names.
 #![tactic(auto)]
 
 mod aligner;
@@ -12,5 +13,9 @@ mod settle;
 pub use aligner::Aligner;
 pub use fate::Fate;
 
+#[cfg(test)]
+mod made_tests;
+#[cfg(test)]
+mod reference;
 #[cfg(test)]
 mod tests;

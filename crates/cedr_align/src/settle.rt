@@ -1,33 +1,32 @@
-ghost use Rattle.std.specs.Prelude.{◌≡◌, ◌++◌, OnOk, Option, length, take, true, ◌↔◌};
+ghost use Rattle.std.specs.Prelude.{◌≡◌, ◌++◌, ◌∷◌, [], ◌-◌, ◌↔◌, max, OnOk, Option, filter, length, take, true, if◌then◌else◌};
 ghost use Rattle.cedr_base.specs.Rows.{SameRows};
 ghost use Rattle.cedr_laws.specs.Lists.{mark_above};
-ghost use Rattle.cedr_laws.specs.Pass.{front_at, is_held, additions};
+ghost use Rattle.cedr_laws.specs.Pass.{front_at, additions};
+ghost use Rattle.cedr_align.specs.Remembered.{is_remembered};
 ghost use Rattle.cedr_align.specs.Released.{GoesThrough, IsKeptAndSettled, IsSettled};
 
-use crate::held::{Held, must_wait};
+use crate::aligner::Aligner;
+use crate::held::must_wait;
 use crate::keep::{keep, pass_on};
 use cedr_base::{Change, FOREVER, Message, OutOfMemory, Row, Time};
 use cedr_table::Table;
 use std::alloc::Global;
 
-/// Puts rows into the passed table, and passes on their additions. Where memory runs out some of them may stand there.
-fn add_rows(
-    alloc: Global,
-    rows: &[Row],
-    passed: &mut Table,
-    out: &mut Vec<Message>,
-) -> Result<(), OutOfMemory>
-    ensures passed { OnOk result (SameRows passed.new (passed.old ++ rows.now)) }
-    ensures out { OnOk result (out.new.items ≡ out.old.items ++ additions rows.now) }
-    ensures kept { take (length out.old.items) out.new.items ≡ out.old.items }
+/// The time from which on a row that ends by it can't be named any more.
+fn named_after(memory: u64, mark: Time, high: Time) -> Time
+    ensures { result ≡ max mark (high - memory) }
 {
-    for row in rows {
-        let copied = row.copy(alloc)?;
-        passed.insert(copied)?;
-        let handed = row.copy(alloc)?;
-        out.push(Message::Change(Change::Add(handed)))?;
+    mark.max(high.saturating_sub(memory))
+}
+
+/// A row that passed must be remembered: the memory has a limit, and a retraction may still name it. O(1).
+fn must_remember(memory: Option<u64>, ended: bool, mark: Time, high: Time, row: &Row) -> bool
+    ensures { result ≡ is_remembered memory ended mark high row.now }
+{
+    match memory {
+        None => false,
+        Some(memory) => !ended && row.end > named_after(memory, mark, high),
     }
-    Ok(())
 }
 
 /// Passes a mark on where it is above an earlier one.
@@ -41,79 +40,127 @@ fn push_mark(before: Time, front: Time, out: &mut Vec<Message>) -> Result<(), Ou
     Ok(())
 }
 
-/// The guarantee that is passed on. O(log n) in the rows that wait.
-pub(crate) fn front_of(ended: bool, mark: Time, held: &Held) -> Time
-    ensures { result ≡ front_at ended mark held.now }
-{
-    if ended {
-        FOREVER
-    } else {
-        held.least_begin(mark)
-    }
-}
+/// How an aligner settles. Where memory runs out it is only to be dropped.
+impl Aligner {
+    ghost use Rattle.cedr_align.specs.Aligner.{HasSameTimes, must_remember, must_wait};
 
-/// Lets the rows pass that needn't wait any longer, and then the front where it rose above an earlier one. Where memory
-/// runs out some of this may stand there.
-pub(crate) fn settle(
-    alloc: Global,
-    block: Option<u64>,
-    ended: bool,
-    mark: Time,
-    high: Time,
-    before: Time,
-    held: &mut Held,
-    passed: &mut Table,
-    out: &mut Vec<Message>,
-) -> Result<(), OutOfMemory>
-    ensures settled { OnOk result (IsSettled (is_held block ended mark high) ended mark before held.old passed.old out.old.items held.new passed.new out.new.items) }
-    ensures kept { take (length out.old.items) out.new.items ≡ out.old.items }
-{
-    let rows = held.release(alloc, block, ended, mark, high)?;
-    add_rows(alloc, rows.as_slice(), passed, out)?;
-    let front = front_of(ended, mark, held);
-    push_mark(before, front, out)?;
-    Ok(())
-}
-
-/// No row waits, and the change is an addition of a row that needn't. It takes no memory. O(1).
-fn goes_through(
-    block: Option<u64>,
-    ended: bool,
-    mark: Time,
-    high: Time,
-    held: &Held,
-    change: &Change,
-) -> bool
-    ensures { result ≡ true ↔ GoesThrough (is_held block ended mark high) held.now change.now }
-{
-    match change {
-        Change::Add(row) => held.is_empty() && !must_wait(block, ended, mark, high, row),
-        Change::Cut(_, _) => false,
+    /// The guarantee that is passed on. O(log n) in the rows that wait.
+    pub(crate) fn guarantee(&self) -> Time
+        ensures { result ≡ front_at self.now.ended self.now.mark self.now.held }
+    {
+        if self.ended {
+            FOREVER
+        } else {
+            self.held.least_begin(self.mark)
+        }
     }
-}
 
-/// Keeps a change that isn't forgotten, and then settles. Where no row waits and an addition's row needn't, that row is
-/// all that passes and the front stays, so it isn't put among the rows that wait: it costs O(log n) in those that passed
-/// and one copy. Where memory runs out some of this may stand there.
-pub(crate) fn keep_and_settle(
-    alloc: Global,
-    block: Option<u64>,
-    ended: bool,
-    mark: Time,
-    high: Time,
-    held: &mut Held,
-    passed: &mut Table,
-    change: Change,
-    out: &mut Vec<Message>,
-) -> Result<(), OutOfMemory>
-    ensures settled { OnOk result (IsKeptAndSettled (is_held block ended mark high) ended mark change held.old passed.old out.old.items held.new passed.new out.new.items) }
-    ensures kept { take (length out.old.items) out.new.items ≡ out.old.items }
-{
-    if goes_through(block, ended, mark, high, held, &change) {
-        pass_on(passed, change, out)?;
-        return Ok(());
+    /// Forgets the passed rows that needn't be remembered any longer. It takes no memory. O(log n) for each of them, and
+    /// one look at the first one that stays.
+    fn forget(&mut self, alloc: Global)
+        ensures passed { SameRows self.new.passed (filter (must_remember self.old) self.old.passed) }
+        ensures held { self.new.held ≡ self.old.held }
+        ensures same { HasSameTimes self.old self.new }
+    {
+        match self.level.memory {
+            Some(memory) if !self.ended => {
+                let time = named_after(memory, self.mark, self.high);
+                self.passed.forget_ended(time);
+            }
+            _ => self.passed = Table::new(alloc),
+        }
     }
-    let before = front_of(ended, mark, held);
-    keep(alloc, held, passed, change, out)?;
-    settle(alloc, block, ended, mark, high, before, held, passed, out)
+
+    /// Remembers a copy of a row that passes, where it must.
+    fn remember(&mut self, alloc: Global, row: &Row) -> Result<(), OutOfMemory>
+        ensures passed { OnOk result (SameRows self.new.passed (self.old.passed ++ filter (must_remember self.old) (row.now ∷ []))) }
+        ensures held { self.new.held ≡ self.old.held }
+        ensures same { HasSameTimes self.old self.new }
+    {
+        if must_remember(self.level.memory, self.ended, self.mark, self.high, row) {
+            let copied = row.copy(alloc)?;
+            self.passed.insert(copied)?;
+        }
+        Ok(())
+    }
+
+    /// Passes on additions of rows, and remembers those of them that it must.
+    fn pass_rows(
+        &mut self,
+        alloc: Global,
+        rows: Vec<Row>,
+        out: &mut Vec<Message>,
+    ) -> Result<(), OutOfMemory>
+        ensures passed { OnOk result (SameRows self.new.passed (self.old.passed ++ filter (must_remember self.old) rows.items)) }
+        ensures out { OnOk result (out.new.items ≡ out.old.items ++ additions rows.items) }
+        ensures held { self.new.held ≡ self.old.held }
+        ensures same { HasSameTimes self.old self.new }
+        ensures kept { take (length out.old.items) out.new.items ≡ out.old.items }
+    {
+        for row in rows {
+            self.remember(alloc, &row)?;
+            out.push(Message::Change(Change::Add(row)))?;
+        }
+        Ok(())
+    }
+
+    /// Lets the rows pass that needn't wait any longer, forgets what needn't be remembered, and then passes the front on
+    /// where it rose above an earlier one.
+    pub(crate) fn settle(
+        &mut self,
+        alloc: Global,
+        before: Time,
+        out: &mut Vec<Message>,
+    ) -> Result<(), OutOfMemory>
+        ensures settled { OnOk result (IsSettled (must_wait self.old) (must_remember self.old) self.old.ended self.old.mark before self.old.held self.old.passed out.old.items self.new.held self.new.passed out.new.items) }
+        ensures same { HasSameTimes self.old self.new }
+        ensures kept { take (length out.old.items) out.new.items ≡ out.old.items }
+    {
+        let rows = self
+            .held
+            .release(alloc, self.level.block, self.ended, self.mark, self.high)?;
+        self.forget(alloc);
+        self.pass_rows(alloc, rows, out)?;
+        push_mark(before, self.guarantee(), out)?;
+        Ok(())
+    }
+
+    /// No row waits, and the change needn't. It takes no memory. O(1).
+    fn goes_through(&self, change: &Change) -> bool
+        ensures { result ≡ true ↔ GoesThrough (must_wait self.now) self.now.held change.now }
+    {
+        if !self.held.is_empty() {
+            return false;
+        }
+        match change {
+            Change::Add(row) => {
+                !must_wait(self.level.block, self.ended, self.mark, self.high, row)
+            }
+            Change::Cut(_, _) => true,
+        }
+    }
+
+    /// Keeps a change that isn't forgotten, and then settles. Where no row waits and the change needn't, it is all that
+    /// passes and the front stays. So it is moved on and put among no rows that wait: O(1) where the memory has no limit,
+    /// and else O(log n) in the rows that are remembered.
+    pub(crate) fn keep_and_settle(
+        &mut self,
+        alloc: Global,
+        change: Change,
+        out: &mut Vec<Message>,
+    ) -> Result<(), OutOfMemory>
+        ensures settled { OnOk result (IsKeptAndSettled self.old.level.memory (must_wait self.old) (must_remember self.old) self.old.ended self.old.mark change self.old.held self.old.passed out.old.items self.new.held self.new.passed out.new.items) }
+        ensures same { HasSameTimes self.old self.new }
+        ensures kept { take (length out.old.items) out.new.items ≡ out.old.items }
+    {
+        let memory = self.level.memory;
+        if self.goes_through(&change) {
+            pass_on(memory, &mut self.passed, change, out)?;
+            self.forget(alloc);
+            return Ok(());
+        }
+        let before = self.guarantee();
+        keep(alloc, memory, &mut self.held, &mut self.passed, change, out)?;
+        self.settle(alloc, before, out)
+    }
 }

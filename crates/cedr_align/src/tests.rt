@@ -1,19 +1,12 @@
 ghost use Rattle.cedr_laws.specs.Pass.{IsLevel};
 
 use super::*;
+use crate::reference::Became;
 use cedr_base::{FOREVER, Level, OutOfMemory, Time};
 use cedr_laws::Cause;
 use msg_feed::{Told, message_of, tell};
 use std::alloc::Global;
 use std::test::Fail;
-
-/// What became of a message.
-#[derive(Clone, Copy, Debug, PartialEq, Eq)]
-enum Became {
-    Kept,
-    Late(Time),
-    Orphan(Time),
-}
 
 fn tell_fate(fate: Fate) -> Became {
     match fate {
@@ -26,7 +19,7 @@ fn tell_fate(fate: Fate) -> Became {
 }
 
 /// What an aligner passes on of a message, and what becomes of it.
-fn take(
+pub(crate) fn take(
     alloc: Global,
     aligner: &mut Aligner,
     told: Told,

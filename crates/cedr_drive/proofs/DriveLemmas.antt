@@ -19,6 +19,7 @@ use Rattle.cedr_stream.proofs.Moves.{applied, applied_moves}
 use Rattle.cedr_stream.proofs.RepairLemmas.{takes-append, puts-append}
 use Rattle.cedr_stream.proofs.Legal.{legal-push, changes-append, changes-wrapped, mark-append, mark-wrapped, open-append, open-wrapped, legal_repaired, table_repaired, table_moved, table_stays, may_follow_table}
 use Rattle.cedr_table.specs.Operators.{Tables, Meaning, table_at, mark_at, with_table, CanTake, AllRise, AreTimes, SameTables, OnlyHolds}
+use Rattle.cedr_table.specs.PortLaws.{rise_set, times_set}
 use Rattle.cedr_laws.specs.Lists.{Lists, list_at, with_more, AreTables, AreTablesOfPrefixes, IsReal, mark_above}
 use Rattle.cedr_drive.specs.Driving.{Works, Drives, MayTake, IsFed, Answers}
 
@@ -75,20 +76,6 @@ marks_stay : (k : ℕ) (ls : Lists) (ms : List Message) → mark_of ms ≡ mark_
 marks_stay k [] ms h = refl
 marks_stay zero (l ∷ ls) ms h = ap (λ n. n ∷ map mark_of ls) h
 marks_stay (suc k) (l ∷ ls) ms h = ap (λ ns. mark_of l ∷ ns) (marks_stay k ls ms h)
-
-pub rise_itself : (ns : List ℕ) → AllRise ns ns
-rise_itself [] = tt
-rise_itself (n ∷ ns) = (omega arith, rise_itself ns)
-
-rise_set : (k : ℕ) (ns : List ℕ) (t : ℕ) → mark_at ns k ≤ t → AllRise ns (set ns k t)
-rise_set k [] t h = tt
-rise_set zero (n ∷ ns) t h = (h, rise_itself ns)
-rise_set (suc k) (n ∷ ns) t h = (omega arith, rise_set k ns t h)
-
-times_set : (k : ℕ) (ns : List ℕ) (t : ℕ) → AreTimes ns → t ≤ FOREVER → AreTimes (set ns k t)
-times_set k [] t h time = tt
-times_set zero (n ∷ ns) t h time = (time, h.1)
-times_set (suc k) (n ∷ ns) t h time = (h.0, times_set k ns t h.1 time)
 
 pub whole_prefixes : (ls : Lists) (ts : Tables) → AreTables ls ts → AreTablesOfPrefixes ls ts
 whole_prefixes [] [] h = tt
@@ -343,7 +330,7 @@ module _ (meaning : Meaning) (stands stands' : Tables → List ℕ → Type 0) (
   -- the mark behind what was given
   pub answer_fed : (after : List Message) → sent ≡ mark_of given → sent' ≡ max sent b
       → ((others : Tables) → SameTables f.works.tables others → b ≡ meaning.bound others marks) → ((others : Tables) → SameTables f.works.tables others → SameRows (meaning.result others) (meaning.result f.works.tables))
-      → (meaning.echoes ≡ true → marks ≡ meaning.bound f.works.tables marks ∷ []) → b ≤ FOREVER → stands' f.works.tables marks → OnlyHolds meaning f.works.tables marks held
+      → (meaning.echoes ≡ true → marks ≡ meaning.bound f.works.tables marks ∷ []) → b ≤ FOREVER → stands' f.works.tables marks → ((others : Tables) → SameTables f.works.tables others → OnlyHolds meaning others marks held)
       → after ≡ mid ++ mark_above sent b
       → Answers meaning stands' held marks sent sent' lists port taken given before after
   answer_fed after sent_is now told alike echo_mark time op holds out_is =

@@ -51,6 +51,6 @@ pub record Answers (meaning : Meaning) (stands : Tables → List ℕ → Type 0)
   pub drives : Drives meaning stands marks sent' (with_more lists port taken) (given ++ gained)
   pub bound_is : (others : Tables) → SameTables drives.works.tables others → mark_of (given ++ gained) ≡ meaning.bound others marks
   pub table_is : (others : Tables) → SameTables drives.works.tables others → IsTableOf (given ++ gained) (meaning.result others)
-  pub holds : OnlyHolds meaning drives.works.tables marks held
+  pub holds : (others : Tables) → SameTables drives.works.tables others → OnlyHolds meaning others marks held
   pub echo : meaning.echoes ≡ true → gained ≡ wrapped (changes_of taken) ++ mark_above sent sent'
   pub echo_mark : meaning.echoes ≡ true → marks ≡ sent' ∷ []

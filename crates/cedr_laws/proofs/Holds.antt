@@ -1,6 +1,6 @@
 -- What is held, message by message.
 use Rattle.std.proofs.Common.{◌≡◌, ℕ, ◌+◌, ◌<◌, ◌≤◌, List, [], ◌∷◌, ◌++◌, Bool, true, false, cond, not, ◌&&◌, refl, ap, sym, ◌∙◌, subst, arith}
-use Rattle.std.specs.Prelude.{Option, Some, None, nat_lt, filter}
+use Rattle.std.specs.Prelude.{Option, Some, None, nat_lt}
 use Rattle.std.proofs.lemmas.Bool.{ltb-true, ltb-false, lt-ltb, le-ltb, and_parts, and_from, not-true, not_from_false}
 use Rattle.cedr_base.specs.declared.row.Row.{Row}
 use Rattle.cedr_base.specs.declared.change.Message.{Message}
@@ -13,7 +13,7 @@ use Rattle.cedr_stream.proofs.Legal.{mark-append}
 use Rattle.cedr_base.specs.declared.level.Level.{Level}
 use Rattle.cedr_laws.specs.Kept.{high_of, kept_table}
 use Rattle.cedr_laws.specs.Pass.{has_end, is_blocked, is_held, holds, held, passed_table, least_begin, front_at}
-use Rattle.cedr_laws.proofs.Order.{count-filter}
+use Rattle.cedr_table.proofs.FilterLemmas.{count-filter, count-rest}
 use Rattle.cedr_laws.proofs.Grows.{high-append}
 
 pub open_is : (ms : List Message) → IsOpen ms → has_end ms ≡ false
@@ -104,13 +104,6 @@ front-same false t xs ys h = least-same t xs ys h
 
 pub count-held : (level : Level) (ms : List Message) (r : Row) → count_of r (held level ms) ≡ cond (holds level ms r) (count_of r (kept_table level.memory ms)) 0
 count-held level ms r = count-filter r (holds level ms) (kept_table level.memory ms)
-
-not_cond : (b : Bool) (n : ℕ) → cond (not b) n 0 ≡ cond b 0 n
-not_cond true n = refl
-not_cond false n = refl
-
-pub count-rest : (r : Row) (p : Row → Bool) (rows : List Row) → count_of r (filter (λ x. not (p x)) rows) ≡ cond (p r) 0 (count_of r rows)
-count-rest r p rows = count-filter r (λ x. not (p x)) rows ∙ not_cond (p r) (count_of r rows)
 
 pub count-passed : (level : Level) (ms : List Message) (r : Row) → count_of r (passed_table level ms) ≡ cond (holds level ms r) 0 (count_of r (kept_table level.memory ms))
 count-passed level ms r = count-rest r (holds level ms) (kept_table level.memory ms)

@@ -1,6 +1,5 @@
 -- Bags less other bags, filters of bags, and the canonical order.
 use Rattle.std.proofs.Common.{◌≡◌, ℕ, ◌+◌, ◌-◌, ◌<◌, ◌⊎◌, inl, inr, List, [], ◌∷◌, ◌++◌, Bool, true, false, cond, refl, ap, sym, ◌∙◌, subst, arith}
-use Rattle.std.specs.Prelude.{filter}
 use Rattle.std.specs.declared.cmp.Ordering.{Ordering}
 use Rattle.std.specs.declared.cmp.Ordering.TheVariants.{Less, Equal, Greater}
 use Rattle.std.specs.Ordering.{is_gt, is_le, ordering_reverse}
@@ -40,35 +39,6 @@ count-without r x (y ∷ ys) = count-without_at r x y ys (same_row x y) refl (co
 pub count-less : (r : Row) (xs ys : List Row) → count_of r (less xs ys) ≡ count_of r xs - count_of r ys
 count-less r xs [] = omega arith
 count-less r xs (y ∷ ys) = omega (arith, count-less r (without y xs) ys, count-without r y xs, count_of-cons r y ys)
-
-filter_at : (r x : Row) (p : Row → Bool) (xs : List Row) (b d : Bool) → p x ≡ b → same_row r x ≡ d → count_of r (filter p xs) ≡ cond (p r) (count_of r xs) 0
-    → count_of r (cond b (x ∷ filter p xs) (filter p xs)) ≡ cond (p r) (count_of r (x ∷ xs)) 0
-filter_at r x p xs true false h k rest =
-    let none = ap {B = ℕ} (λ b. cond b 1 0) k in
-    let same : count_of r (x ∷ xs) ≡ count_of r xs = omega (arith, count_of-cons r x xs, none) in
-    omega (arith, count_of-cons r x (filter p xs), none, rest, ap (λ n. cond (p r) n 0) same)
-filter_at r x p xs false false h k rest =
-    let none = ap {B = ℕ} (λ b. cond b 1 0) k in
-    let same : count_of r (x ∷ xs) ≡ count_of r xs = omega (arith, count_of-cons r x xs, none) in
-    omega (arith, rest, ap (λ n. cond (p r) n 0) same)
-filter_at r x p xs true true h k rest =
-    let t : p r ≡ true = ap p (same_row_exact r x k) ∙ h in
-    let one = ap (λ b. cond b (count_of r xs) 0) t in
-    let two = ap (λ b. cond b (count_of r (x ∷ xs)) 0) t in
-    omega (arith, count_of-cons r x (filter p xs), count_of-cons r x xs, rest, one, two)
-filter_at r x p xs false true h k rest =
-    let t : p r ≡ false = ap p (same_row_exact r x k) ∙ h in
-    let one = ap (λ b. cond b (count_of r xs) 0) t in
-    let two = ap (λ b. cond b (count_of r (x ∷ xs)) 0) t in
-    omega (arith, rest, one, two)
-
--- a test that reads the row keeps all copies of it or none
-pub count-filter : (r : Row) (p : Row → Bool) (xs : List Row) → count_of r (filter p xs) ≡ cond (p r) (count_of r xs) 0
-count-filter r p [] = none (p r) where
-  none : (b : Bool) → 0 ≡ cond {A = ℕ} b 0 0
-  none true = refl
-  none false = refl
-count-filter r p (x ∷ xs) = filter_at r x p xs (p x) (same_row r x) refl refl (count-filter r p xs)
 
 after_back : (o p : Ordering) → o ≡ ordering_reverse p → is_gt o ≡ true → is_gt p ≡ false
 after_back Less p e h = cc

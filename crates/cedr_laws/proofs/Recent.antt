@@ -1,7 +1,7 @@
 -- What is forgotten is old, and on recent rows the kept table is the full one.
 use Rattle.std.proofs.Common.{◌≡◌, ℕ, ◌+◌, ◌-◌, ◌<◌, ◌≤◌, inl, inr, List, [], ◌∷◌, ◌++◌, Bool, true, false, cond, refl, ap, sym, ◌∙◌, subst, arith}
 use Rattle.std.specs.Prelude.{Option, Some, None}
-use Rattle.std.proofs.lemmas.Bool.{ltb-true, eqb-true, cases_lt}
+use Rattle.std.proofs.lemmas.Bool.{ltb-true, eqb-true, cases_Bool, cases_lt}
 use Rattle.std.proofs.lemmas.List.{append-nil}
 use Rattle.cedr_base.specs.declared.row.Row.{Row}
 use Rattle.cedr_base.specs.declared.change.Change.{Change}
@@ -153,3 +153,10 @@ agrees_first memory = record { sound = λ r. omega arith; agree = λ r recent. r
 
 pub agrees : (level : Level) (ms : List Message) → IsLegal ms → Agrees level.memory ms
 agrees level ms legal = by_legal (Agrees level.memory) (agrees_step level) (agrees_first level.memory) ms legal
+
+-- without a limit of the memory no change of a legal list is an orphan
+pub no_orphan : (level : Level) (ms : List Message) (c : Change) → level.memory ≡ None → IsLegal ms → MayCome ms (message.Change c) → is_orphan (kept level.memory ms) c ≡ false
+no_orphan level ms c none legal may = elim (cases_Bool (is_orphan (kept level.memory ms) c)) [
+  | inl orphan ↦ absurd (orphan_old level.memory ms c may.1.0 (agrees level ms legal).agree orphan (subst (λ (v : Option ℕ). IsRecent v (high_of ms) (row_of c)) (sym none) tt))
+  | inr there ↦ there
+]

@@ -10,7 +10,7 @@ use Rattle.cedr_base.specs.Rows.{count_of}
 use Rattle.cedr_base.specs.Changes.{all_puts}
 use Rattle.cedr_base.specs.Messages.{changes_of, mark_of, IsOpen, IsTableOf, IsLegal}
 use Rattle.cedr_stream.proofs.Legal.{legal-push, changes-append, mark-append, table_stays}
-use Rattle.cedr_table.specs.Operators.{SameTables, Tables, Meaning}
+use Rattle.cedr_table.specs.Operators.{SameTables, Tables, Meaning, OnlyHolds}
 use Rattle.cedr_base.specs.declared.level.Level.{Level}
 use Rattle.cedr_laws.specs.Pass.{has_end}
 use Rattle.cedr_laws.specs.Lists.{Lists, list_at, IsReal, AreTables, with_more}
@@ -19,7 +19,7 @@ use Rattle.cedr_laws.proofs.Grows.{end-pushed}
 use Rattle.cedr_laws.proofs.Holds.{open_is}
 use Rattle.cedr_drive.specs.Driving.{MayTake, Drives, Answers}
 use Rattle.cedr_node.specs.declared.port.Port.{Port}
-use Rattle.cedr_node.specs.Standing.{AllStand, levels_of, waiting_of, StandsBetween, IsPortTaken, ending, breaking}
+use Rattle.cedr_node.specs.Standing.{AllStand, levels_of, waiting_of, StandsBetween, IsPortTaken, HoldsAtFronts, ending, breaking}
 use Rattle.cedr_laws.proofs.Ends.{open_unbroken, broken-append, ends_over}
 use Rattle.cedr_node.proofs.PortLists.{all_length, all_set, levels_set, passes_more, tables_same, fronts_are, over_is}
 
@@ -126,6 +126,12 @@ module _ (meaning : Meaning) (stands stands' : Tables → List ℕ → Type 0) (
         subst (λ (b : Bool). IsEnded (given ++ a.gained) (meaning.result ts) (meaning.bound ts (fronts_of (levels_of (set ports port p')) (with_more lists port (m ∷ [])))) b (given ++ (a.gained ++ ending waiting'))) over
         (subst (λ (g : List Message). IsEnded (given ++ a.gained) (meaning.result ts) (meaning.bound ts (fronts_of (levels_of (set ports port p')) (with_more lists port (m ∷ [])))) (nat_eq waiting' 0) g) (append_assoc given a.gained (ending waiting'))
         (ended_at (given ++ a.gained) (meaning.result ts) _ (nat_eq waiting' 0) a.drives.works.legal a.drives.works.opened (a.table_is ts same_now) t))
+
+    -- the operator holds only rows that it may hold at the passed tables and the fronts
+    pub holds_now : HoldsAtFronts meaning (levels_of (set ports port p')) (with_more lists port (m ∷ [])) held
+    holds_now =
+        let ts = tables_of (levels_of (set ports port p')) (with_more lists port (m ∷ [])) in
+        subst (λ (ns : List ℕ). OnlyHolds meaning (tables_of (levels_of (set ports port p')) (with_more lists port (m ∷ []))) ns held) marks_now (a.holds ts same_now)
 
     right_now : IsRight meaning (levels_of (set ports port p')) (with_more lists port (m ∷ [])) (given ++ (a.gained ++ ending waiting')) (a.gained ++ ending waiting')
     right_now =

@@ -9,7 +9,7 @@ use Rattle.cedr_laws.specs.Pass.{passed_of, pass}
 use Rattle.cedr_table.specs.Operators.{Tables, Meaning}
 use Rattle.cedr_laws.specs.Lists.{Lists, list_at, with_more}
 use Rattle.cedr_laws.specs.Lawful.{passes_of, any_broken}
-use Rattle.cedr_node.specs.Standing.{is_broken, is_closing, levels_of, waiting_of, StandsBetween, IsPortTaken, IsTakenOn, ending, breaking}
+use Rattle.cedr_node.specs.Standing.{is_broken, is_closing, levels_of, waiting_of, StandsBetween, IsPortTaken, IsTakenOn, HoldsAtFronts, ending, breaking}
 use Rattle.cedr_laws.proofs.Grows.{pass-push}
 use Rattle.cedr_laws.proofs.Passes.{passes}
 use Rattle.cedr_node.specs.declared.port.Port.{Port}
@@ -17,7 +17,7 @@ use Rattle.cedr_drive.specs.Driving.{MayTake, Drives, Answers}
 use Rattle.cedr_laws.proofs.Ends.{open_not_over}
 use Rattle.cedr_node.proofs.PortLists.{all_at, passes_length, passes_at, broken_set, waiting_set}
 use Rattle.cedr_node.proofs.Echo.{echo_single}
-use Rattle.cedr_node.proofs.Goes.{goes, breaks_off, passes_now}
+use Rattle.cedr_node.proofs.Goes.{goes, breaks_off, passes_now, holds_now}
 
 pub legal-split : (before xs ys : List Message) → IsLegalBehind before (xs ++ ys) → IsLegalBehind (before ++ xs) ys
 legal-split before [] ys h = subst (λ (bs : List Message). IsLegalBehind bs ys) (sym (append-nil before)) h
@@ -40,7 +40,8 @@ module _ (meaning : Meaning) (stands : Tables → List ℕ → Type 0) (ports po
   waiting_now : waiting' ≡ waiting_of (with_more lists port (m ∷ []))
   waiting_now = let a = h.waiting_is in let e = ap (λ (c : Bool). cond {A = ℕ} c 1 0) closed_is in omega (arith, waiting_set port lists m may.port_is may.comes.0)
 
-  broken_now : broken' ≡ any_broken (with_more lists port (m ∷ []))
+  -- a port broke exactly where the new lists have one that is broken
+  pub broken_now : broken' ≡ any_broken (with_more lists port (m ∷ []))
   broken_now = broken_is ∙ (ap (λ (b : Bool). b || broke) h.broken_is ∙ (ap (λ (b : Bool). any_broken lists || b) broke_is ∙ sym (broken_set port lists m may.port_is may.comes.0)))
 
   pub takes_broken : broken' ≡ true → StandsBetween meaning stands ports' marks sent waiting' broken' (with_more lists port (m ∷ [])) (given ++ breaking waiting')
@@ -84,3 +85,9 @@ module _ (meaning : Meaning) (stands : Tables → List ℕ → Type 0) (ports po
       takes_whole =
           subst (λ (ps : List Port). StandsBetween meaning stands' ps marks' sent' waiting' broken' (with_more lists port (m ∷ [])) (given ++ (a.gained ++ ending waiting'))) (sym t.stands_at)
           (goes meaning stands stands' held ports marks marks' sent sent' waiting waiting' broken lists given port m t.was t.now passed before after h may taken_now waiting_now (sym broken_now ∙ whole) a echo_next broken' broken_now)
+
+      -- the operator holds only rows that it may hold at its ports' fronts
+      pub takes_holds : HoldsAtFronts meaning (levels_of ports') (with_more lists port (m ∷ [])) held
+      takes_holds =
+          subst (λ (ps : List Port). HoldsAtFronts meaning (levels_of ps) (with_more lists port (m ∷ [])) held) (sym t.stands_at)
+          (holds_now meaning stands stands' held ports marks marks' sent sent' waiting waiting' broken lists given port m t.was t.now passed before after h may taken_now waiting_now (sym broken_now ∙ whole) a echo_next)

@@ -2,10 +2,10 @@
 use Rattle.std.specs.Prelude.{ℕ, ◌≡◌, List, length, Bool, false}
 use Rattle.cedr_base.specs.declared.change.Message.{Message}
 use Rattle.cedr_base.specs.declared.level.Level.{Level}
-use Rattle.cedr_table.specs.Operators.{Meaning}
+use Rattle.cedr_table.specs.Operators.{Tables, Meaning}
 use Rattle.cedr_plan.specs.declared.plan.PlanNode.{PlanNode}
 use Rattle.cedr_laws.specs.Lists.{Lists}
-use Rattle.op_planned.specs.Chosen.{chosen_meaning, ChosenStands}
+use Rattle.op_planned.specs.Chosen.{chosen_meaning, chosen_held, ChosenStands}
 use Rattle.op_planned.specs.Meanings.{meaning_of, port_levels}
 use Rattle.cedr_node.specs.declared.node.Node.{Node}
 use Rattle.cedr_node.specs.Standing.{levels_of, StandsBetween}
@@ -21,6 +21,10 @@ is_spent node = node.spent
 -- what its operator means
 abbrev pub meaning_in : Node → Meaning
 meaning_in node = chosen_meaning node.works.driver.op
+
+-- the rows that its operator holds, port by port
+abbrev pub held_in : Node → Tables
+held_in node = chosen_held node.works.driver.op
 
 -- the levels of its ports, and how many there are
 abbrev pub levels_in : Node → List Level

@@ -3,12 +3,12 @@ use Rattle.std.specs.Prelude.{ℕ, ◌≡◌, ◌+◌, List, [], ◌∷◌, ◌+
 use Rattle.cedr_base.specs.declared.change.Message.{Message}
 use Rattle.cedr_base.specs.declared.change.Message.TheVariants as message
 use Rattle.cedr_base.specs.declared.level.Level.{Level}
-use Rattle.cedr_table.specs.Operators.{Tables, Meaning}
+use Rattle.cedr_table.specs.Operators.{Tables, Meaning, OnlyHolds}
 use Rattle.cedr_laws.specs.declared.forgotten.Forgotten.{Forgotten}
 use Rattle.cedr_laws.specs.Kept.{forgot}
 use Rattle.cedr_laws.specs.Pass.{passed_of}
 use Rattle.cedr_laws.specs.Lists.{Lists}
-use Rattle.cedr_laws.specs.Lawful.{passes_of, is_over, any_broken, all_over, IsLawful}
+use Rattle.cedr_laws.specs.Lawful.{tables_of, fronts_of, passes_of, is_over, any_broken, all_over, IsLawful}
 use Rattle.cedr_align.specs.Aligner.{Aligns}
 use Rattle.cedr_drive.specs.Driving.{Drives}
 use Rattle.cedr_node.specs.declared.port.Port.{Port}
@@ -81,3 +81,7 @@ pub record IsForgottenAt (ports : List Port) (port : ℕ) (ms : List Message) (l
   pub at : Port
   pub stands_at : slice_index_or ports port at ≡ at
   pub all : listed ≡ forgot at.aligner.level.memory ms
+
+-- of these rows an operator may hold each one, at the passed tables and the fronts of its ports
+abbrev pub HoldsAtFronts : Meaning → List Level → Lists → Tables → Type 0
+HoldsAtFronts meaning levels lists held = OnlyHolds meaning (tables_of levels lists) (fronts_of levels lists) held

@@ -1,11 +1,11 @@
-ghost use Rattle.std.specs.Prelude.{◌≡◌, ◌<◌, ◌+◌, ◌-◌, ◌++◌, ◌∷◌, [], List, OnOk, OnErr, IfOk, cond, length, replicate, take};
+ghost use Rattle.std.specs.Prelude.{◌≡◌, ◌<◌, ◌+◌, ◌-◌, ◌++◌, ◌∷◌, [], List, OnOk, OnErr, IfOk, cond, false, length, replicate, take};
 ghost use Rattle.std.specs.List.{All};
 ghost use Rattle.cedr_base.specs.declared.change.Message.{Message};
 ghost use Rattle.cedr_laws.specs.Pass.{IsLevel};
 ghost use Rattle.cedr_laws.specs.Lists.{Lists, list_at, with_more};
-ghost use Rattle.cedr_laws.specs.Lawful.{all_over};
+ghost use Rattle.cedr_laws.specs.Lawful.{any_broken, all_over};
 ghost use Rattle.cedr_drive.specs.Driving.{MayTake};
-ghost use Rattle.cedr_node.specs.Standing.{AllStand, StandsBetween, IsTakenOn, IsForgottenAt, levels_of, waiting_of, is_broken, is_closing, ending, breaking};
+ghost use Rattle.cedr_node.specs.Standing.{AllStand, StandsBetween, IsTakenOn, IsForgottenAt, levels_of, waiting_of, is_broken, is_closing, ending, breaking, HoldsAtFronts};
 
 use crate::port::Port;
 use cedr_base::{Level, Message, OutOfMemory};
@@ -137,6 +137,7 @@ impl<O: Operator> Aligned<O> {
     ) -> Result<(), OutOfMemory>
         requires { (lists : Lists) × (given : List Message) × StandsBetween (O.meaning self.old.driver.op) (O.stands self.old.driver.op) self.old.ports.items self.old.driver.marks.items self.old.driver.sent self.old.waiting self.old.broken lists given × MayTake lists port message }
         ensures taken { OnOk result ((lists : Lists) (given : List Message) → StandsBetween (O.meaning self.old.driver.op) (O.stands self.old.driver.op) self.old.ports.items self.old.driver.marks.items self.old.driver.sent self.old.waiting self.old.broken lists given → MayTake lists port message → (piece : List Message) × (out.new.items ≡ out.old.items ++ piece) × StandsBetween (O.meaning self.new.driver.op) (O.stands self.new.driver.op) self.new.ports.items self.new.driver.marks.items self.new.driver.sent self.new.waiting self.new.broken (with_more lists port (message ∷ [])) (given ++ piece)) }
+        ensures holds { OnOk result ((lists : Lists) (given : List Message) → StandsBetween (O.meaning self.old.driver.op) (O.stands self.old.driver.op) self.old.ports.items self.old.driver.marks.items self.old.driver.sent self.old.waiting self.old.broken lists given → MayTake lists port message → any_broken (with_more lists port (message ∷ [])) ≡ false → HoldsAtFronts (O.meaning self.new.driver.op) (levels_of self.new.ports.items) (with_more lists port (message ∷ [])) (O.held self.new.driver.op)) }
         ensures levels { levels_of self.new.ports.items ≡ levels_of self.old.ports.items }
         ensures meaning { O.meaning self.new.driver.op ≡ O.meaning self.old.driver.op }
         ensures kept { take (length out.old.items) out.new.items ≡ out.old.items }
@@ -155,8 +156,9 @@ impl<O: Operator> Aligned<O> {
 
     /// Takes a message on a port that may come behind those before it there, and appends what is given for it: the
     /// repairs of the result, a mark where the bound rose, and `End` with the last of the ports. Once a port broke one
-    /// `Broken` is given, with the last of the ports, and nothing else. Where memory runs out nothing is appended, and
-    /// what it stands for isn't known any more.
+    /// `Broken` is given, with the last of the ports, and nothing else. Afterwards the operator holds only rows that it may
+    /// hold at its ports' fronts, unless a port broke. Where memory runs out nothing is appended, and what it stands for
+    /// isn't known any more.
     pub(crate) fn take(
         &mut self,
         alloc: Global,
@@ -166,6 +168,7 @@ impl<O: Operator> Aligned<O> {
     ) -> Result<(), OutOfMemory>
         requires { (lists : Lists) × (given : List Message) × StandsBetween (O.meaning self.old.driver.op) (O.stands self.old.driver.op) self.old.ports.items self.old.driver.marks.items self.old.driver.sent self.old.waiting self.old.broken lists given × MayTake lists port message }
         ensures taken { OnOk result ((lists : Lists) (given : List Message) → StandsBetween (O.meaning self.old.driver.op) (O.stands self.old.driver.op) self.old.ports.items self.old.driver.marks.items self.old.driver.sent self.old.waiting self.old.broken lists given → MayTake lists port message → (piece : List Message) × (out.new.items ≡ out.old.items ++ piece) × StandsBetween (O.meaning self.new.driver.op) (O.stands self.new.driver.op) self.new.ports.items self.new.driver.marks.items self.new.driver.sent self.new.waiting self.new.broken (with_more lists port (message ∷ [])) (given ++ piece)) }
+        ensures holds { OnOk result ((lists : Lists) (given : List Message) → StandsBetween (O.meaning self.old.driver.op) (O.stands self.old.driver.op) self.old.ports.items self.old.driver.marks.items self.old.driver.sent self.old.waiting self.old.broken lists given → MayTake lists port message → any_broken (with_more lists port (message ∷ [])) ≡ false → HoldsAtFronts (O.meaning self.new.driver.op) (levels_of self.new.ports.items) (with_more lists port (message ∷ [])) (O.held self.new.driver.op)) }
         ensures levels { levels_of self.new.ports.items ≡ levels_of self.old.ports.items }
         ensures meaning { O.meaning self.new.driver.op ≡ O.meaning self.old.driver.op }
         ensures err { OnErr result (out.new.items ≡ out.old.items) }

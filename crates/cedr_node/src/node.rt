@@ -3,11 +3,12 @@ ghost use Rattle.cedr_base.specs.declared.change.Message.{Message};
 ghost use Rattle.cedr_laws.specs.Kept.{forgot};
 ghost use Rattle.cedr_laws.specs.Pass.{IsLevel};
 ghost use Rattle.cedr_laws.specs.Lists.{Lists, list_at, with_more};
-ghost use Rattle.cedr_laws.specs.Lawful.{all_over};
+ghost use Rattle.cedr_laws.specs.Lawful.{any_broken, all_over};
 ghost use Rattle.cedr_drive.specs.Driving.{MayTake};
 ghost use Rattle.cedr_plan.specs.Drawn.{node_of};
 ghost use Rattle.cedr_node.specs.declared.fault.NodeFault.TheVariants.{OutOfMemory as NoMemory, Spent};
-ghost use Rattle.cedr_node.specs.Nodes.{made_of, is_spent, port_count, meaning_in, levels_in, NodeStands};
+ghost use Rattle.cedr_node.specs.Nodes.{made_of, is_spent, port_count, meaning_in, held_in, levels_in, NodeStands};
+ghost use Rattle.cedr_node.specs.Standing.{HoldsAtFronts};
 ghost use Rattle.op_planned.specs.Ready.{IsReady};
 
 use crate::aligned::Aligned;
@@ -62,8 +63,10 @@ impl Node {
 
     /// Takes a message on a port that may come behind those before it there, and appends what the node gives for it:
     /// the repairs of its result, a mark where the bound rose, and `End` with the last of its ports. Once a port broke
-    /// it gives one `Broken`, with the last of its ports, and nothing else. Where memory runs out nothing is appended,
-    /// and each later call is refused as [`NodeFault::Spent`].
+    /// it gives one `Broken`, with the last of its ports, and nothing else. Afterwards its operator holds only rows that
+    /// may still matter at its ports' fronts, unless a port broke: what it forgets takes O(log n) for each row, and where
+    /// none is due a look at one row for each port. Where memory runs out nothing is appended, and each later call is
+    /// refused as [`NodeFault::Spent`].
     pub fn take(
         &mut self,
         alloc: Global,
@@ -73,6 +76,7 @@ impl Node {
     ) -> Result<(), NodeFault>
         requires { is_spent self.old ≡ false → (lists : Lists) × (given : List Message) × NodeStands self.old lists given × MayTake lists port message }
         ensures taken { OnOk result ((lists : Lists) (given : List Message) → NodeStands self.old lists given → MayTake lists port message → (piece : List Message) × (out.new.items ≡ out.old.items ++ piece) × NodeStands self.new (with_more lists port (message ∷ [])) (given ++ piece)) }
+        ensures holds { OnOk result ((lists : Lists) (given : List Message) → NodeStands self.old lists given → MayTake lists port message → any_broken (with_more lists port (message ∷ [])) ≡ false → HoldsAtFronts (meaning_in self.new) (levels_in self.new) (with_more lists port (message ∷ [])) (held_in self.new)) }
         ensures err { OnErr result (out.new.items ≡ out.old.items) }
         ensures made_of { made_of self.new ≡ made_of self.old }
         ensures meaning { meaning_in self.new ≡ meaning_in self.old }

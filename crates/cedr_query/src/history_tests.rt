@@ -1,12 +1,13 @@
-ghost use Rattle.std.specs.Prelude.{[], ◌∷◌, OnOk, IfOk, length, replicate};
+ghost use Rattle.std.specs.Prelude.{[], ◌∷◌, OnOk, IfOk, replicate};
 ghost use Rattle.cedr_plan.specs.Rules.{IsPlan};
+ghost use Rattle.cedr_table.specs.Operators.{AreTimes};
 
 use crate::tests::{plan, rows_of};
-use cedr_base::{Change, FOREVER, Field, FieldType, OutOfMemory, Payload, Row, Text};
+use cedr_base::{Change, FOREVER, Field, FieldType, OutOfMemory, Payload, Row, Text, Time};
 use cedr_expr::{Keep, Op, Operand, Test, Tests};
 use cedr_plan::Plan;
-use cedr_table::{Operator, Table};
-use op_feed::{feed, no_tables};
+use cedr_table::{Operator, Table, no_marks};
+use op_feed::{Random, feed, no_tables, one_of, raise, some_cut};
 use op_group::Group;
 use op_join::Join;
 use pat_seq::Sequence;
@@ -14,26 +15,6 @@ use pat_unless::Unless;
 use std::alloc::Global;
 use std::process::Abort;
 use std::test::Fail;
-
-/// Numbers that look random, and are the same in each run.
-#[derive(Clone, Copy)]
-struct Random {
-    state: u64,
-}
-
-impl Random {
-    /// A number below a limit, or 0 where the limit is 0.
-    fn below(&mut self, limit: u64) -> u64 {
-        self.state = self
-            .state
-            .wrapping_mul(6364136223846793005)
-            .wrapping_add(1442695040888963407);
-        if limit == 0 {
-            return 0;
-        }
-        (self.state >> 33) % limit
-    }
-}
 
 /// What a row may have behind its text: nothing, a text or a number.
 fn some_field(alloc: Global, random: &mut Random) -> Result<Option<Field>, OutOfMemory> {
@@ -47,8 +28,8 @@ fn some_field(alloc: Global, random: &mut Random) -> Result<Option<Field>, OutOf
     Ok(Some(field))
 }
 
-/// A row of one of three texts.
-fn some_row(alloc: Global, random: &mut Random) -> Result<Row, OutOfMemory> {
+/// A row of one of three texts that begins at a mark or later.
+fn some_row(alloc: Global, random: &mut Random, mark: Time) -> Result<Row, OutOfMemory> {
     let text = match random.below(3) {
         0 => b"a",
         1 => b"b",
@@ -59,7 +40,7 @@ fn some_row(alloc: Global, random: &mut Random) -> Result<Row, OutOfMemory> {
     if let Some(field) = some_field(alloc, random)? {
         payload.push(field)?;
     }
-    let begin = random.below(10);
+    let begin = mark.wrapping_add(random.below(10));
     let end = match random.below(8) {
         0 => FOREVER,
         more => begin.wrapping_add(more),
@@ -71,58 +52,59 @@ fn some_row(alloc: Global, random: &mut Random) -> Result<Row, OutOfMemory> {
     })
 }
 
-/// A change that may come to a table: a new row, a copy of one that is there, or a cut of one.
-fn some_change(alloc: Global, random: &mut Random, table: &Table) -> Result<Change, OutOfMemory> {
-    let rows = table.canonical()?;
-    let place = random.below(rows.len() as u64) as usize;
-    let what = random.below(5);
-    let Some(row) = rows.as_slice().get(place) else {
-        return Ok(Change::Add(some_row(alloc, random)?));
-    };
-    match what {
-        0 | 1 => Ok(Change::Add(some_row(alloc, random)?)),
-        2 => Ok(Change::Add(row.copy(alloc)?)),
-        _ => {
-            let long = row.end.wrapping_sub(row.begin).min(6);
-            let end = row.begin.wrapping_add(random.below(long));
-            Ok(Change::Cut(row.copy(alloc)?, end))
-        }
-    }
-}
-
-/// A port, and a change that may come on it.
-fn some_port(
+/// A change that may come to a table at a mark: a new row, a copy of one that is there, or a cut of one.
+fn some_change(
     alloc: Global,
     random: &mut Random,
-    tables: &[Table],
-) -> Result<(usize, Change), Fail> {
-    let port = random.below(tables.len() as u64) as usize;
-    match tables.get(port) {
-        Some(table) => Ok((port, some_change(alloc, random, table)?)),
-        None => Err("no port")?,
+    table: &Table,
+    mark: Time,
+) -> Result<Change, OutOfMemory> {
+    let what = random.below(5);
+    if what > 2 {
+        if let Some(cut) = some_cut(alloc, random, table, mark)? {
+            return Ok(cut);
+        }
     }
+    if what == 2 {
+        if let Some(row) = one_of(alloc, random, table)? {
+            if row.begin >= mark {
+                return Ok(Change::Add(row));
+            }
+        }
+    }
+    Ok(Change::Add(some_row(alloc, random, mark)?))
 }
 
 /// What came in histories: how often the answers so far made the same rows as the query from scratch, and how many
-/// changes cut a row, and withdrew one.
+/// changes cut a row, and withdrew one, and how many marks rose.
 #[derive(Clone, Copy)]
 struct Seen {
     same: usize,
     cut: usize,
     withdrawn: usize,
+    raised: usize,
 }
 
 impl Seen {
-    fn note(&mut self, change: &Change, same: bool) {
-        if same {
-            self.same = self.same.wrapping_add(1);
-        }
+    fn note(&mut self, change: &Change) {
         if let Change::Cut(row, end) = change {
             if *end == row.begin {
                 self.withdrawn = self.withdrawn.wrapping_add(1);
             } else {
                 self.cut = self.cut.wrapping_add(1);
             }
+        }
+    }
+
+    fn note_same(&mut self, same: bool) {
+        if same {
+            self.same = self.same.wrapping_add(1);
+        }
+    }
+
+    fn note_raised(&mut self, raised: bool) {
+        if raised {
+            self.raised = self.raised.wrapping_add(1);
         }
     }
 }
@@ -144,29 +126,79 @@ fn is_query(alloc: Global, plan: &Plan, tables: &[Table], made: &Table) -> Resul
     Ok(found.as_slice() == wanted.as_slice())
 }
 
-/// An operator takes a change. Whether the answers so far make the same rows as the query from scratch.
+/// An operator takes a made change on a port, and what answers it joins the rows that it made.
+fn take_some<O: Operator>(
+    alloc: Global,
+    op: &mut O,
+    tables: &mut Vec<Table>,
+    marks: &[Time],
+    made: &mut Table,
+    random: &mut Random,
+    port: usize,
+    seen: &mut Seen,
+) -> Result<(), Fail>
+    requires stands { O.stands op.old tables.old.items marks.now }
+    ensures { OnOk result (O.stands op.new tables.new.items marks.now) }
+{
+    if port >= tables.len() || port >= marks.len() {
+        return Err("no port")?;
+    }
+    let change = some_change(alloc, random, &tables[port], marks[port])?;
+    seen.note(&change);
+    let mut out = Vec::new(alloc);
+    if !feed(alloc, op, tables, marks, port, &change, &mut out)? {
+        return Err("a change that may not come")?;
+    }
+    apply_all(made, out.as_slice())
+}
+
+/// An operator takes a made change or a higher mark, and is trimmed. Then its answers so far make the same rows as the
+/// query from scratch.
 fn step<O: Operator>(
     alloc: Global,
     plan: &Plan,
     op: &mut O,
     tables: &mut Vec<Table>,
+    marks: &mut Vec<Time>,
     made: &mut Table,
-    port: usize,
-    change: &Change,
-) -> Result<bool, Fail>
+    random: &mut Random,
+    seen: &mut Seen,
+) -> Result<(), Fail>
     requires plan { IsPlan plan.now }
-    requires stands { O.stands op.old tables.old.items (replicate (length tables.old.items) 0) }
-    ensures { OnOk result (O.stands op.new tables.new.items (replicate (length tables.new.items) 0)) }
+    requires stands { O.stands op.old tables.old.items marks.old.items }
+    requires times { AreTimes marks.old.items }
+    ensures stands { OnOk result (O.stands op.new tables.new.items marks.new.items) }
+    ensures times { OnOk result (AreTimes marks.new.items) }
 {
-    let mut out = Vec::new(alloc);
-    if !feed(alloc, op, tables, port, change, &mut out)? {
-        return Ok(false);
+    let port = random.below(tables.len() as u64) as usize;
+    let Some(mark) = marks.get(port).copied() else {
+        return Err("no port")?;
+    };
+    let later = match random.below(4) {
+        0 => mark.wrapping_add(random.below(4)),
+        _ => {
+            take_some(
+                alloc,
+                op,
+                tables,
+                marks.as_slice(),
+                made,
+                random,
+                port,
+                seen,
+            )?;
+            mark
+        }
+    };
+    if !raise(op, tables.as_slice(), marks, port, later) {
+        return Err("a mark that may not come")?;
     }
-    apply_all(made, out.as_slice())?;
-    is_query(alloc, plan, tables.as_slice(), made)
+    seen.note_raised(later > mark);
+    seen.note_same(is_query(alloc, plan, tables.as_slice(), made)?);
+    Ok(())
 }
 
-/// A new operator takes eight changes.
+/// A new operator takes twelve changes and marks.
 fn history<O: Operator>(
     alloc: Global,
     plan: &Plan,
@@ -179,11 +211,19 @@ fn history<O: Operator>(
     requires stands { O.stands op.old (replicate ports []) (replicate ports 0) }
 {
     let mut tables = no_tables(alloc, ports)?;
+    let mut marks = no_marks(alloc, ports)?;
     let mut made = Table::new(alloc);
-    for _ in 0..8 {
-        let (port, change) = some_port(alloc, random, tables.as_slice())?;
-        let same = step(alloc, plan, op, &mut tables, &mut made, port, &change)?;
-        seen.note(&change, same);
+    for _ in 0..12 {
+        step(
+            alloc,
+            plan,
+            op,
+            &mut tables,
+            &mut marks,
+            &mut made,
+            random,
+            seen,
+        )?;
     }
     Ok(())
 }
@@ -193,14 +233,16 @@ fn nothing_seen() -> Seen {
         same: 0,
         cut: 0,
         withdrawn: 0,
+        raised: 0,
     }
 }
 
-/// Each of 200 histories of eight changes was compared, and many changes of each kind came.
+/// Each of 200 histories of twelve steps was compared, and many of each kind came.
 fn check_all(rt: &impl Abort, seen: &Seen) {
-    assert_eq!(rt; seen.same, 1600);
+    assert_eq!(rt; seen.same, 2400);
     assert!(rt; seen.cut > 100);
     assert!(rt; seen.withdrawn > 100);
+    assert!(rt; seen.raised > 100);
 }
 
 /// A grouping by the first column, with the count and the sum of the second one.
@@ -256,7 +298,7 @@ fn groups_answer_like_the_query_from_scratch(rt: HostRuntime) -> Result<(), Fail
  {"name":"g","op":"group","from":["s"],"keys":[0],"count":true,"sum":[1]},
  {"name":"out","op":"output","from":["g"]}]}"#,
     )?;
-    let mut random = Random { state: 1 };
+    let mut random = Random::new(1);
     let mut seen = nothing_seen();
     for _ in 0..200 {
         let mut op = group(alloc)?;
@@ -277,7 +319,7 @@ fn joins_answer_like_the_query_from_scratch(rt: HostRuntime) -> Result<(), Fail>
  {"name":"j","op":"join","from":["a","b"],"where":[[0,"=",{"column":2}]]},
  {"name":"out","op":"output","from":["j"]}]}"#,
     )?;
-    let mut random = Random { state: 2 };
+    let mut random = Random::new(2);
     let mut seen = nothing_seen();
     for _ in 0..200 {
         let mut op = join(alloc)?;
@@ -298,7 +340,7 @@ fn unlesses_answer_like_the_query_from_scratch(rt: HostRuntime) -> Result<(), Fa
  {"name":"u","op":"unless","from":["a","b"],"scope":4,"hold":3,"where":[[0,"=",{"column":2}]]},
  {"name":"out","op":"output","from":["u"]}]}"#,
     )?;
-    let mut random = Random { state: 3 };
+    let mut random = Random::new(3);
     let mut seen = nothing_seen();
     for _ in 0..200 {
         let mut op = unless(alloc)?;
@@ -319,7 +361,7 @@ fn sequences_answer_like_the_query_from_scratch(rt: HostRuntime) -> Result<(), F
  {"name":"q","op":"sequence","from":["a","b"],"scope":6,"where":[]},
  {"name":"out","op":"output","from":["q"]}]}"#,
     )?;
-    let mut random = Random { state: 4 };
+    let mut random = Random::new(4);
     let mut seen = nothing_seen();
     for _ in 0..200 {
         let mut op = sequence(alloc)?;

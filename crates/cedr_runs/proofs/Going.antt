@@ -15,7 +15,7 @@ use Rattle.cedr_plan.specs.Rules.{AreNodes}
 use Rattle.cedr_laws.specs.Lists.{Lists, list_at, AreTables}
 use Rattle.cedr_laws.specs.Kept.{high_of, forgot}
 use Rattle.cedr_laws.specs.Pass.{has_end, is_held, holds, passed_table}
-use Rattle.cedr_laws.proofs.Order.{count-filter}
+use Rattle.cedr_table.proofs.FilterLemmas.{count-filter}
 use Rattle.cedr_laws.proofs.Holds.{count-passed}
 use Rattle.cedr_base.specs.Rows.{count_of, SameRows}
 use Rattle.cedr_laws.specs.Lawful.{tables_of, fronts_of, all_end, Fits}

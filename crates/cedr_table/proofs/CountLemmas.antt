@@ -153,7 +153,7 @@ pub removed_is : (row : Row) (n : ℕ) (old new : List (Row × ℕ)) → IsStric
     → ((q : Row) → copies new q + n * one_if_same q row ≡ copies old q) → SameRows (replicate n row ++ spread new) (spread old)
 removed_is row n old new o k h = record { each = λ q. omega (arith, count_of-append q (replicate n row) (spread new), sum_by-replicate (one_if_same q) n row, count_spread new k q, count_spread old o q, h q) }
 
-replicated : (n : ℕ) (row : Row) (rows : List Row) → length (replicate n row ++ rows) ≡ n + length rows
+pub replicated : (n : ℕ) (row : Row) (rows : List Row) → length (replicate n row ++ rows) ≡ n + length rows
 replicated zero row rows = omega arith
 replicated (suc n) row rows = omega (arith, replicated n row rows)
 

@@ -4,3 +4,4 @@ pub mod OrderLemmas
 pub mod RowWiseLemmas
 pub mod ChoiceLemmas
 pub mod RowsLemmas
+pub mod FilterLemmas

@@ -1,5 +1,5 @@
 -- Tables and marks by port.
-use Rattle.std.proofs.Common.{◌≡◌, ℕ, ◌<◌, ◌≤◌, List, [], ◌∷◌, ◌++◌, min, zero, suc, refl, ap, arith, length, ◌≢◌, get_or-set_same, get_or-set_other}
+use Rattle.std.proofs.Common.{◌≡◌, ℕ, ◌<◌, ◌≤◌, List, [], ◌∷◌, ◌++◌, min, zero, suc, refl, ap, arith, length, set, ◌≢◌, get_or-set_same, get_or-set_other}
 use Rattle.cedr_base.specs.declared.row.Row.{Row}
 use Rattle.cedr_base.specs.Rows.{SameRows}
 use Rattle.cedr_stream.proofs.BagSums.{same_itself}
@@ -18,6 +18,20 @@ rise_at k [] (n ∷ ns) h = absurd h
 rise_at k (m ∷ ms) [] h = absurd h
 rise_at zero (m ∷ ms) (n ∷ ns) h = h.0
 rise_at (suc k) (m ∷ ms) (n ∷ ns) h = rise_at k ms ns h.1
+
+pub rise_itself : (ns : List ℕ) → AllRise ns ns
+rise_itself [] = tt
+rise_itself (n ∷ ns) = (omega arith, rise_itself ns)
+
+pub rise_set : (k : ℕ) (ns : List ℕ) (t : ℕ) → mark_at ns k ≤ t → AllRise ns (set ns k t)
+rise_set k [] t h = tt
+rise_set zero (n ∷ ns) t h = (h, rise_itself ns)
+rise_set (suc k) (n ∷ ns) t h = (omega arith, rise_set k ns t h)
+
+pub times_set : (k : ℕ) (ns : List ℕ) (t : ℕ) → AreTimes ns → t ≤ FOREVER → AreTimes (set ns k t)
+times_set k [] t h time = tt
+times_set zero (n ∷ ns) t h time = (time, h.1)
+times_set (suc k) (n ∷ ns) t h time = (h.0, times_set k ns t h.1 time)
 
 pub same_length : (ts us : Tables) → SameTables ts us → length us ≡ length ts
 same_length [] [] h = refl

@@ -145,6 +145,22 @@ pub(crate) fn first_row(map: &BTreeMap<Row, usize>) -> Option<&Row>
     }
 }
 
+/// Takes the first row in order away, with the number of its copies.
+pub(crate) fn pop_first_row(map: &mut BTreeMap<Row, usize>) -> Option<(Row, usize)>
+    requires ordered { IsOrdered row_cmp map.old }
+    requires there { EachIsThere map.old.entries }
+    ensures some { IfSome result (λ found. IsFirst found.0 (spread map.old.entries) × (found.1 ≡ copies map.old.entries found.0)) }
+    ensures counts { IfSome result (λ found. (q : Row) → copies map.new.entries q + found.1 * one_if_same q found.0 ≡ copies map.old.entries q) }
+    ensures none { IfNone result ((spread map.old.entries ≡ []) × (map.new.entries ≡ map.old.entries)) }
+    ensures ordered { IsOrdered row_cmp map.new }
+    ensures there { EachIsThere map.new.entries }
+{
+    match map.pop_first() {
+        Some((row, count)) => Some((row, count)),
+        None => None,
+    }
+}
+
 /// Takes all copies of a row away, and says how many there were.
 pub(crate) fn take_all(map: &mut BTreeMap<Row, usize>, row: &Row) -> usize
     requires there { EachIsThere map.old.entries }

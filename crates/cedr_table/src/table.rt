@@ -1,14 +1,16 @@
-ghost use Rattle.std.specs.Prelude.{◌≡◌, ◌<◌, ◌++◌, ◌∷◌, [], length, replicate, OnOk, OnErr, IfOk, IfSome, IfNone, nat_lt, IsErrOf, ◌↔◌};
+ghost use Rattle.std.specs.Prelude.{◌≡◌, ◌<◌, ◌++◌, ◌∷◌, [], length, replicate, OnOk, OnErr, IfOk, IfSome, IfNone, nat_lt, not, IsErrOf, ◌↔◌};
 ghost use Rattle.std.specs.List.{filter};
 ghost use Rattle.std.specs.BTreeMap.Range.{IsLeBy, IsLtBy, range_contains};
 ghost use Rattle.cedr_base.specs.Rows.{row_cmp, count_of, in_order, SameRows};
 ghost use Rattle.cedr_base.specs.Changes.{puts, takes};
-ghost use Rattle.cedr_table.specs.Counted.{LacksRow, IsFirst, spread, AreThere};
+ghost use Rattle.cedr_table.specs.Counted.{LacksRow, IsFirst, IsTakenOut, ends_after, spread, AreThere};
 ghost use Rattle.cedr_table.specs.declared.fault.TableFault.TheVariants.{NoSuchRow};
 
-use crate::counted::{add_one, all_rows, change_map, copies_in, first_row, take_all, take_one};
+use crate::counted::{
+    add_one, all_rows, change_map, copies_in, first_row, pop_first_row, take_all, take_one,
+};
 use crate::fault::TableFault;
-use cedr_base::{Change, OutOfMemory, Row};
+use cedr_base::{Change, OutOfMemory, Row, Time};
 use std::alloc::Global;
 use std::collections::BTreeMap;
 use std::collections::btree_map::Range;
@@ -129,6 +131,41 @@ impl Table {
         ensures none { IfNone result (self.now ≡ []) }
     {
         first_row(&self.rows)
+    }
+
+    /// Takes the first row in canonical order away, all copies of it, and gives it with their number. It takes no memory.
+    /// O(log n).
+    pub fn pop_first(&mut self) -> Option<(Row, usize)>
+        ensures some { IfSome result (λ found. IsFirst found.0 self.old × (found.1 ≡ count_of found.0 self.old) × SameRows (replicate found.1 found.0 ++ self.new) self.old) }
+        ensures none { IfNone result ((self.old ≡ []) × (self.new ≡ [])) }
+    {
+        match pop_first_row(&mut self.rows) {
+            Some((row, count)) => {
+                self.len -= count;
+                Some((row, count))
+            }
+            None => None,
+        }
+    }
+
+    /// Takes the first row in canonical order away, all copies of it, where it ends at a time or before, and gives it
+    /// with their number. It takes no memory. O(log n).
+    pub fn pop_ended(&mut self, time: Time) -> Option<(Row, usize)>
+        ensures taken { IsTakenOut (λ r. not (ends_after time r)) self.old self.new result }
+        ensures first { IfSome result (λ found. IsFirst found.0 self.old) }
+    {
+        match self.first() {
+            Some(row) if row.end <= time => self.pop_first(),
+            _ => None,
+        }
+    }
+
+    /// Takes the rows away that end at a time or before. It takes no memory. O(log n) for each of them that differs
+    /// from the others, and for one that stays.
+    pub fn forget_ended(&mut self, time: Time)
+        ensures { SameRows self.new (filter (ends_after time) self.old) }
+    {
+        while let Some(_gone) = self.pop_ended(time) {}
     }
 
     /// Copies of the rows in canonical order, each as often as it is there. O(n).

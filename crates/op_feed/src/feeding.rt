@@ -1,9 +1,10 @@
-ghost use Rattle.std.specs.Prelude.{◌≡◌, ◌++◌, ◌<◌, [], true, OnOk, IfOk, length, replicate};
+ghost use Rattle.std.specs.Prelude.{◌≡◌, ◌++◌, ◌<◌, [], true, OnOk, IfOk, replicate};
 ghost use Rattle.cedr_base.specs.Rows.{IsRow, SameRows};
 ghost use Rattle.cedr_base.specs.Changes.{MayFollow, puts, takes};
+ghost use Rattle.cedr_table.specs.Operators.{AreTimes};
 
 use cedr_base::{Change, FOREVER, Field, OutOfMemory, Payload, Row, Time};
-use cedr_table::{Operator, Table};
+use cedr_table::{Operator, Table, no_marks};
 use std::alloc::Global;
 
 /// A change that is fed: its port, the begin and the end of its row, where the row is cut to, and the number that is
@@ -41,25 +42,51 @@ pub fn note(table: &mut Table, change: &Change) -> Result<(), OutOfMemory>
     }
 }
 
-/// Feeds an operator with a change where it may come: the answer says whether it was. The tables are those of the
-/// operator's ports, and all marks are 0.
+/// Feeds an operator with a change where it may come at these marks: the answer says whether it was. There are a table
+/// and a mark for each of the operator's ports.
 pub fn feed<O: Operator>(
     alloc: Global,
     op: &mut O,
     tables: &mut Vec<Table>,
+    marks: &[Time],
     port: usize,
     change: &Change,
     out: &mut Vec<Change>,
 ) -> Result<bool, OutOfMemory>
-    requires { O.stands op.old tables.old.items (replicate (length tables.old.items) 0) }
-    ensures { OnOk result (O.stands op.new tables.new.items (replicate (length tables.new.items) 0)) }
+    requires { O.stands op.old tables.old.items marks.now }
+    ensures { OnOk result (O.stands op.new tables.new.items marks.now) }
 {
-    if port >= tables.len() || !may_come(&tables[port], change) {
+    if port >= tables.len() || port >= marks.len() || change.sync() < marks[port] {
+        return Ok(false);
+    }
+    if !may_come(&tables[port], change) {
         return Ok(false);
     }
     op.apply(alloc, port, change, out)?;
     note(&mut tables[port], change)?;
     Ok(true)
+}
+
+/// Raises the mark of one of an operator's ports where it may rise to that, and trims the operator at its marks: the
+/// answer says whether it was. The mark may stay as it is.
+pub fn raise<O: Operator>(
+    op: &mut O,
+    tables: &[Table],
+    marks: &mut Vec<Time>,
+    port: usize,
+    mark: Time,
+) -> bool
+    requires stands { O.stands op.old tables.now marks.old.items }
+    requires times { AreTimes marks.old.items }
+    ensures stands { O.stands op.new tables.now marks.new.items }
+    ensures times { AreTimes marks.new.items }
+{
+    if port >= marks.len() || mark < marks[port] || mark > FOREVER {
+        return false;
+    }
+    marks[port] = mark;
+    op.trim(marks.as_slice());
+    true
 }
 
 /// The tables of an operator's ports to which no change has come.
@@ -142,10 +169,19 @@ pub fn gives<O: Operator>(
     requires { O.stands op.old (replicate ports []) (replicate ports 0) }
 {
     let mut tables = no_tables(alloc, ports)?;
+    let marks = no_marks(alloc, ports)?;
     let mut out = Vec::new(alloc);
     for (port, begin, end, to, number) in given {
         let change = change_of(alloc, *begin, *end, *to, &[*number])?;
-        if !feed(alloc, op, &mut tables, *port, &change, &mut out)? {
+        if !feed(
+            alloc,
+            op,
+            &mut tables,
+            marks.as_slice(),
+            *port,
+            &change,
+            &mut out,
+        )? {
             return Ok(false);
         }
     }

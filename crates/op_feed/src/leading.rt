@@ -2,7 +2,7 @@ ghost use Rattle.std.specs.Prelude.{[], replicate};
 
 use crate::feeding::{Given, change_of, feed, may_come, no_tables, row_of};
 use cedr_base::{Change, OutOfMemory, Time};
-use cedr_table::{Operator, Table};
+use cedr_table::{Operator, Table, no_marks};
 use std::alloc::Global;
 
 /// A row that is wanted: its begin and its end, and the numbers of its payload.
@@ -47,11 +47,20 @@ pub fn leads<O: Operator>(
     requires { O.stands op.old (replicate ports []) (replicate ports 0) }
 {
     let mut tables = no_tables(alloc, ports)?;
+    let marks = no_marks(alloc, ports)?;
     let mut rows = Table::new(alloc);
     for ((port, begin, end, to, number), wanted) in steps {
         let change = change_of(alloc, *begin, *end, *to, &[*number])?;
         let mut out = Vec::new(alloc);
-        if !feed(alloc, op, &mut tables, *port, &change, &mut out)? {
+        if !feed(
+            alloc,
+            op,
+            &mut tables,
+            marks.as_slice(),
+            *port,
+            &change,
+            &mut out,
+        )? {
             return Ok(false);
         }
         if !repair(&mut rows, out.as_slice()) || !has_rows(alloc, &rows, wanted)? {

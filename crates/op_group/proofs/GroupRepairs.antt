@@ -16,14 +16,14 @@ use Rattle.cedr_stream.proofs.RepairLemmas.{repair_by_turns}
 use Rattle.op_group.specs.declared.segment.Segment.{Segment}
 use Rattle.op_group.specs.Groups.{Grouping, number_at, key_of, same_payload, rows_of, segments, grouped, open_from}
 use Rattle.op_group.specs.Cuts.{differences}
-use Rattle.op_group.specs.Measures.{edge_at, part_at, edges_of, living_of, sums_of, is_cut_of, key_in, IsMade}
+use Rattle.op_group.specs.Measures.{edge_at, part_at, is_cut_of, key_in, IsMade}
 use Rattle.op_group.specs.SegmentLaws.{sum_by-filter, segments_are, segment_fits}
 use Rattle.op_group.specs.GroupLaws.{payload_exact, payload_itself, fits_key, grouped_count, made_from_there, there_from_made, SameAt, same_at, count_alike}
 use Rattle.op_group.specs.BoundLaws.{open_below, open_at, test_open, was_open, same_outside, keyed, untouched_sums, Untouched}
-use Rattle.op_group.specs.State.{ShowsRows, asked, Turned, row_of}
+use Rattle.op_group.specs.State.{ShowsFrom, asked, Turned, row_of}
+use Rattle.op_group.specs.StateLaws.{from_alike}
 use Rattle.cedr_table.proofs.RowsLemmas.{fewer_are, moved_are}
-use Rattle.op_group.proofs.Regions.{edges_are_times}
-use Rattle.op_group.proofs.Shown.{shows_alike}
+use Rattle.op_group.proofs.Turning.{edges_are_times}
 use Rattle.op_group.proofs.Differences.{differences_turn}
 
 -- the rows of a group are rows
@@ -92,8 +92,8 @@ pub other_same : (g : Grouping) (key : List Field) (c : Change) (old new : List 
 other_same g key c old new t other moved = same_at g key old new t (other_sum g key (edge_at t) c old new other moved) (other_sum g key (part_at (λ _. 1) t) c old new other moved) (λ column. other_sum g key (part_at (number_at column) t) c old new other moved)
 
 -- a map that shows another group goes on showing it
-pub other_shows : (g : Grouping) (key : List Field) (c : Change) (old new : List Row) (cuts : List (ℕ × Segment)) → same_payload key (key_of g (row_of c)) ≡ false → IsMoved c old new → ShowsRows g.sums cuts (rows_of g key old) → ShowsRows g.sums cuts (rows_of g key new)
-other_shows g key c old new cuts other moved shows = shows_alike cuts (edges_of (rows_of g key old)) (edges_of (rows_of g key new)) (living_of (rows_of g key old)) (living_of (rows_of g key new)) (sums_of g.sums (rows_of g key old)) (sums_of g.sums (rows_of g key new))
+pub other_shows : (g : Grouping) (key : List Field) (c : Change) (old new : List Row) (mark from : ℕ) (cuts : List (ℕ × Segment)) → same_payload key (key_of g (row_of c)) ≡ false → IsMoved c old new → ShowsFrom g.sums mark from cuts (rows_of g key old) → ShowsFrom g.sums mark from cuts (rows_of g key new)
+other_shows g key c old new mark from cuts other moved shows = from_alike g.sums mark from cuts (rows_of g key old) (rows_of g key new)
     (λ t. (other_same g key c old new t other moved).edges) (λ t. (other_same g key c old new t other moved).living) (λ t. (other_same g key c old new t other moved).sums) shows
 
 segments_asked : (g : Grouping) (key : List Field) (rows : List Row) → segments (asked g.counted g.sums) key rows ≡ segments g key rows

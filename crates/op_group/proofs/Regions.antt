@@ -1,6 +1,6 @@
 -- The rows of the result between two times, before a change and after it.
-use Rattle.std.proofs.Common.{◌≡◌, ℕ, suc, zero, ◌+◌, ◌%◌, ◌^◌, ◌<◌, ◌≤◌, ◌⊎◌, inl, inr, List, [], ◌∷◌, ◌++◌, Bool, true, false, cond, Option, Some, None, get_or, refl, ap, sym, ◌∙◌, subst, arith}
-use Rattle.std.specs.Prelude.{nat_eq, nat_lt, ◌&&◌, not, map, sum_by, is_some, IsSome}
+use Rattle.std.proofs.Common.{◌≡◌, ℕ, suc, zero, ◌+◌, ◌<◌, ◌≤◌, inl, inr, List, [], ◌∷◌, ◌++◌, Bool, true, false, cond, Option, Some, None, get_or, refl, ap, sym, ◌∙◌, subst, arith}
+use Rattle.std.specs.Prelude.{nat_eq, ◌&&◌, not, map, is_some}
 use Rattle.std.specs.List.{filter, AllByRecursion}
 use Rattle.std.specs.List.Sorted.{IsSorted, IsStrictlySortedBy}
 use Rattle.std.specs.Map.{lookup, keys_of}
@@ -9,28 +9,21 @@ use Rattle.std.specs.BTreeMap.Range.{entries_between, range_contains}
 use Rattle.std.specs.Ordering.{nat_cmp, is_lt, is_le, is_eq}
 use Rattle.std.specs.declared.cmp.Ordering.TheVariants.{Less}
 use Rattle.std.specs.declared.ops.Bound.TheVariants.{Included}
-use Rattle.std.proofs.lemmas.Bool.{cases_lt, eq-eqb, eqb-true, lt-ltb, le-ltb}
+use Rattle.std.proofs.lemmas.Bool.{cases_lt, eq-eqb, eqb-true}
 use Rattle.std.proofs.lemmas.Map.Entries.{lookup-filter-keys}
-use Rattle.cedr_base.specs.declared.time.TheConstants.{FOREVER}
 use Rattle.cedr_base.specs.declared.field.Field.{Field}
 use Rattle.cedr_base.specs.declared.row.Row.{Row}
-use Rattle.cedr_base.specs.declared.change.Change.{Change}
-use Rattle.cedr_base.specs.Rows.{IsRow, AreRows, row_cmp, count_of}
-use Rattle.cedr_base.specs.Changes.{IsChange, sync_of}
-use Rattle.cedr_stream.specs.Repairs.{IsMoved}
-use Rattle.cedr_stream.proofs.Moves.{sum_by-moved}
+use Rattle.cedr_base.specs.Rows.{row_cmp, count_of}
 use Rattle.op_group.specs.declared.segment.Segment.{Segment}
-use Rattle.op_group.specs.Groups.{number_at, segments}
-use Rattle.op_group.specs.Cuts.{segment_at, totals, begun, ended_at, rows_after, rows_in, IsNextCut, IsLastCut}
-use Rattle.op_group.specs.Measures.{edge_at, part_at, edges_of, living_of, sums_of, among, AllAbove, Ascends, row_from, one_row, rows_at, Fits, is_cut_of}
-use Rattle.op_group.specs.TimeLaws.{below_test, above_test, same_count, false_not_true}
+use Rattle.op_group.specs.Groups.{segments}
+use Rattle.op_group.specs.Cuts.{segment_at, totals, begun, ended_at, rows_after, rows_in}
+use Rattle.op_group.specs.Measures.{living_of, sums_of, among, AllAbove, Ascends, row_from, one_row, rows_at, Fits, is_cut_of}
+use Rattle.op_group.specs.TimeLaws.{above_test, same_count, false_not_true}
 use Rattle.op_group.specs.CutLaws.{above_among, fits_from_there, there_from_fits}
-use Rattle.op_group.specs.SegmentLaws.{fits_alike, segment_fits, fits_segment, map_alike}
-use Rattle.op_group.specs.BoundLaws.{last_of, Outside, untouched_sums, edges_untouched, parts_untouched, Untouched}
-use Rattle.op_group.specs.State.{ShowsRows, asked, Turned}
-use Rattle.cedr_table.proofs.RowsLemmas.{first_is, others_are}
+use Rattle.op_group.specs.SegmentLaws.{fits_alike, segment_fits, fits_segment}
+use Rattle.op_group.specs.State.{ShowsFrom, asked}
 use Rattle.op_group.proofs.Times.{at_is, lt_cmp, gt_cmp, cmp_lt, not_lt_cmp}
-use Rattle.op_group.proofs.Shown.{shown_some}
+use Rattle.op_group.proofs.SinceLemmas.{cut_is, cut_shown}
 
 -- the times of entries
 abbrev pub times_of : List (ℕ × Segment) → List ℕ
@@ -121,22 +114,13 @@ agree_all living sums [] up h = tt
 agree_all living sums ((p, s0) ∷ cuts) up h = (h p s0 (head_found p s0 cuts), agree_all living sums cuts up.1 (λ t s found. h t s (tail_found t p s s0 cuts up.0 found)))
 
 -- what a map shows agrees
-agree_shown : (sums : List ℕ) (cuts : List (ℕ × Segment)) (rows : List Row) → Ascends (times_of cuts) → ShowsRows sums cuts rows → AllAgree (living_of rows) (sums_of sums rows) cuts
-agree_shown sums cuts rows up shows = agree_all (living_of rows) (sums_of sums rows) cuts up (λ t s found.
-    let is = shown_some s (edges_of rows t) (living_of rows t) (sums_of sums rows t) (sym found ∙ shows.at t) in (is.living_are, is.sums_are))
+agree_shown : (sums : List ℕ) (mark from : ℕ) (cuts : List (ℕ × Segment)) (rows : List Row) → Ascends (times_of cuts) → ShowsFrom sums mark from cuts rows → AllAgree (living_of rows) (sums_of sums rows) cuts
+agree_shown sums mark from cuts rows up shows = agree_all (living_of rows) (sums_of sums rows) cuts up (λ t s found. let is = cut_shown sums mark from cuts rows t s shows found in (is.living_are, is.sums_are))
 
-some_is_at : (n l : ℕ) (ts : List ℕ) (b : Bool) → nat_eq n 0 ≡ b → is_some (cond {A = Option Segment} b None (Some (record { edges = n; living = l; totals = ts }))) ≡ nat_lt 0 n
-some_is_at n l ts true h = let none = eqb-true n 0 h in sym (le-ltb 0 n (omega arith))
-some_is_at n l ts false h = let some = Rattle.std.proofs.lemmas.Bool.eqb-false n 0 h in sym (lt-ltb 0 n (omega arith))
-
--- a map has a segment at the cut points
-pub cut_is : (sums : List ℕ) (cuts : List (ℕ × Segment)) (rows : List Row) (t : ℕ) → ShowsRows sums cuts rows → is_some (segment_at t cuts) ≡ is_cut_of rows t
-cut_is sums cuts rows t shows = ap (λ o. is_some o) (shows.at t) ∙ some_is_at (edges_of rows t) (living_of rows t) (sums_of sums rows t) (nat_eq (edges_of rows t) 0) refl
-
-abbrev within : ℕ → ℕ → ℕ → Bool
+abbrev pub within : ℕ → ℕ → ℕ → Bool
 within lo hi t = range_contains nat_cmp (Included lo) (Included hi) t
 
-abbrev between : ℕ → ℕ → List (ℕ × Segment) → List (ℕ × Segment)
+abbrev pub between : ℕ → ℕ → List (ℕ × Segment) → List (ℕ × Segment)
 between lo hi cuts = entries_between nat_cmp (Included lo) (Included hi) cuts
 
 le_test : (lo t : ℕ) → lo ≤ t → is_le (nat_cmp lo t) ≡ true
@@ -181,31 +165,32 @@ some_cond : (b : Bool) (o : Option Segment) → is_some (cond b o None) ≡ cond
 some_cond true o = refl
 some_cond false o = refl
 
+cut_between : (sums : List ℕ) (mark from : ℕ) (cuts : List (ℕ × Segment)) (rows : List Row) (lo hi t : ℕ) (b : Bool) → within lo hi t ≡ b → ShowsFrom sums mark from cuts rows → from ≤ lo → cond b (is_some (segment_at t cuts)) false ≡ cond b (is_cut_of rows t) false
+cut_between sums mark from cuts rows lo hi t true is shows low = let place = true_within lo hi t is in let over = place.0 in cut_is sums mark from cuts rows t shows (omega arith)
+cut_between sums mark from cuts rows lo hi t false is shows low = refl
+
 -- the times between two times are the cut points there
-among_between : (sums : List ℕ) (cuts : List (ℕ × Segment)) (rows : List Row) (lo hi t : ℕ) → ShowsRows sums cuts rows → among t (times_of (between lo hi cuts)) ≡ cond (within lo hi t) (is_cut_of rows t) false
-among_between sums cuts rows lo hi t shows =
+among_between : (sums : List ℕ) (mark from : ℕ) (cuts : List (ℕ × Segment)) (rows : List Row) (lo hi t : ℕ) → ShowsFrom sums mark from cuts rows → from ≤ lo → among t (times_of (between lo hi cuts)) ≡ cond (within lo hi t) (is_cut_of rows t) false
+among_between sums mark from cuts rows lo hi t shows low =
     among_times t (between lo hi cuts)
     ∙ (ap (λ o. is_some o) (lookup-filter-keys (is_at (nat_cmp t)) (within lo hi) (within lo hi t) (λ k found. ap (within lo hi) (sym (eqb-true t k (sym (at_is t k) ∙ found)))) cuts)
     ∙ (some_cond (within lo hi t) (segment_at t cuts)
-    ∙ ap (λ b. cond (within lo hi t) b false) (cut_is sums cuts rows t shows)))
+    ∙ cut_between sums mark from cuts rows lo hi t (within lo hi t) refl shows low))
 
 cond_true : (b c : Bool) → cond b c false ≡ true → (b ≡ true) × (c ≡ true)
 cond_true true c h = (refl, h)
 cond_true false c h = cc
 
-module _ (counted : Bool) (sums : List ℕ) (key : List Field) (cuts : List (ℕ × Segment)) (rows : List Row) (lo hi : ℕ) (up : Ascends (times_of cuts)) (shows : ShowsRows sums cuts rows) where
-  abbrev found : List Row
-  found = rows_in counted key (between lo hi cuts)
-
+module _ (counted : Bool) (sums : List ℕ) (key : List Field) (cuts : List (ℕ × Segment)) (rows : List Row) (lo hi mark from : ℕ) (up : Ascends (times_of cuts)) (shows : ShowsFrom sums mark from cuts rows) (low : from ≤ lo) where
   found_are : rows_in counted key (between lo hi cuts) ≡ rows_at counted key (living_of rows) (sums_of sums rows) (times_of (between lo hi cuts))
-  found_are = rows_are (living_of rows) (sums_of sums rows) counted key (between lo hi cuts) (agree_kept (living_of rows) (sums_of sums rows) (within lo hi) cuts (agree_shown sums cuts rows up shows))
+  found_are = rows_are (living_of rows) (sums_of sums rows) counted key (between lo hi cuts) (agree_kept (living_of rows) (sums_of sums rows) (within lo hi) cuts (agree_shown sums mark from cuts rows up shows))
 
   found_up : Ascends (times_of (between lo hi cuts))
   found_up = ascend_kept (within lo hi) cuts up
 
   found_fits : (r : Row) → 0 < count_of r (rows_in counted key (between lo hi cuts)) → Fits counted key (living_of rows) (sums_of sums rows) (λ t. cond (within lo hi t) (is_cut_of rows t) false) r
   found_fits r there = fits_alike counted key (living_of rows) (living_of rows) (sums_of sums rows) (sums_of sums rows) (λ t. among t (times_of (between lo hi cuts))) (λ t. cond (within lo hi t) (is_cut_of rows t) false) r
-      (λ t over under. among_between sums cuts rows lo hi t shows) refl refl
+      (λ t over under. among_between sums mark from cuts rows lo hi t shows low) refl refl
       (fits_from_there counted key (living_of rows) (sums_of sums rows) (times_of (between lo hi cuts)) r found_up (omega (arith, there, ap (count_of r) found_are)))
 
   -- a row that is found lies between the two times
@@ -219,147 +204,15 @@ module _ (counted : Bool) (sums : List ℕ) (key : List Field) (cuts : List (ℕ
 
   -- and is one that the group makes, and each of these between the two times is found
   pub found_is : (r : Row) → lo ≤ r.begin → r.end ≤ hi → count_of r (rows_in counted key (between lo hi cuts)) ≡ count_of r (segments (asked counted sums) key rows)
-  found_is r low high = same_count (count_of r (rows_in counted key (between lo hi cuts))) (count_of r (segments (asked counted sums) key rows))
+  found_is r after before = same_count (count_of r (rows_in counted key (between lo hi cuts))) (count_of r (segments (asked counted sums) key rows))
       (λ there. fits_segment (asked counted sums) key rows r (fits_alike counted key (living_of rows) (living_of rows) (sums_of sums rows) (sums_of sums rows) (λ t. cond (within lo hi t) (is_cut_of rows t) false) (is_cut_of rows) r
       (λ t over under. cut_within t (omega arith) (omega arith)) refl refl (found_fits r there)))
       (λ there. ap (count_of r) found_are ∙ there_from_fits counted key (living_of rows) (sums_of sums rows) (times_of (between lo hi cuts)) r found_up
       (fits_alike counted key (living_of rows) (living_of rows) (sums_of sums rows) (sums_of sums rows) (is_cut_of rows) (λ t. among t (times_of (between lo hi cuts))) r
-      (λ t over under. sym (among_between sums cuts rows lo hi t shows ∙ cut_within t (omega arith) (omega arith))) refl refl (segment_fits (asked counted sums) key rows r there)))
+      (λ t over under. sym (among_between sums mark from cuts rows lo hi t shows low ∙ cut_within t (omega arith) (omega arith))) refl refl (segment_fits (asked counted sums) key rows r there)))
 
-  found_none : (r : Row) → ((lo ≤ r.begin) × (r.end ≤ hi) → ⊥) → count_of r (rows_in counted key (between lo hi cuts)) ≡ 0
+  pub found_none : (r : Row) → ((lo ≤ r.begin) × (r.end ≤ hi) → ⊥) → count_of r (rows_in counted key (between lo hi cuts)) ≡ 0
   found_none r outside = elim (cases_lt 0 (count_of r (rows_in counted key (between lo hi cuts)))) [ inl there ↦ absurd (outside (found_within r there)) | inr none ↦ omega arith ]
-
--- outside the times that a change touches a group's rows count the same
-group_outside : (sums : List ℕ) (c : Change) (old new : List Row) (t : ℕ) → IsChange c → IsMoved c old new → Outside c t → (edges_of old t ≡ edges_of new t) × (living_of old t ≡ living_of new t) × (sums_of sums old t ≡ sums_of sums new t)
-group_outside sums c old new t is moved outside = (
-  still (edge_at t) (edges_untouched t c is outside),
-  still (part_at (λ _. 1) t) (parts_untouched (λ _. 1) (λ r e. refl) t c is outside),
-  map_alike (λ column. sum_by (part_at (number_at column) t) old % 2 ^ 128) (λ column. sum_by (part_at (number_at column) t) new % 2 ^ 128) sums (λ column. ap (λ n. n % 2 ^ 128) (still (part_at (number_at column) t) (parts_untouched (number_at column) (λ r e. refl) t c is outside))),
-)
-  where
-    still : (w : Row → ℕ) → Untouched w c → sum_by w old ≡ sum_by w new
-    still w untouched = omega (arith, sum_by-moved w c old new moved.sums, untouched_sums w c untouched)
-
-module _ (counted : Bool) (sums : List ℕ) (key : List Field) (c : Change) (old new : List Row) (is : IsChange c) (moved : IsMoved c old new) where
-  -- a row all of whose times are outside is made of both or of none
-  same_made : (r : Row) → ((t : ℕ) → r.begin ≤ t → t ≤ r.end → Outside c t) → count_of r (segments (asked counted sums) key old) ≡ count_of r (segments (asked counted sums) key new)
-  same_made r outside = same_count (count_of r (segments (asked counted sums) key old)) (count_of r (segments (asked counted sums) key new))
-      (λ there.
-      let fits = segment_fits (asked counted sums) key old r there in
-      let order : r.begin < r.end = fits.order in
-      let first = group_outside sums c old new r.begin is moved (outside r.begin (omega arith) (omega arith)) in
-      fits_segment (asked counted sums) key new r (fits_alike counted key (living_of old) (living_of new) (sums_of sums old) (sums_of sums new) (is_cut_of old) (is_cut_of new) r
-      (λ t over under. ap (nat_lt 0) (group_outside sums c old new t is moved (outside t over under)).0) first.1 first.2 fits))
-      (λ there.
-      let fits = segment_fits (asked counted sums) key new r there in
-      let order : r.begin < r.end = fits.order in
-      let first = group_outside sums c old new r.begin is moved (outside r.begin (omega arith) (omega arith)) in
-      fits_segment (asked counted sums) key old r (fits_alike counted key (living_of new) (living_of old) (sums_of sums new) (sums_of sums old) (is_cut_of new) (is_cut_of old) r
-      (λ t over under. sym (ap (nat_lt 0) (group_outside sums c old new t is moved (outside t over under)).0)) (sym first.1) (sym first.2) fits))
-
-between_before : (counted : Bool) (key : List Field) (living : ℕ → ℕ) (sums : ℕ → List ℕ) (is_cut : ℕ → Bool) (r : Row) (lo : ℕ) → Fits counted key living sums is_cut r → is_cut lo ≡ true → r.begin < lo → r.end ≤ lo
-between_before counted key living sums is_cut r lo fits cut less = elim (cases_lt lo r.end) [
-  | inl over ↦ absurd (false_not_true (is_cut lo) (fits.apart lo less over) cut)
-  | inr not_over ↦ not_over
-]
-
-between_after : (counted : Bool) (key : List Field) (living : ℕ → ℕ) (sums : ℕ → List ℕ) (is_cut : ℕ → Bool) (r : Row) (hi : ℕ) → Fits counted key living sums is_cut r → is_cut hi ≡ true → hi < r.end → hi ≤ r.begin
-between_after counted key living sums is_cut r hi fits cut over = elim (cases_lt r.begin hi) [
-  | inl less ↦ absurd (false_not_true (is_cut hi) (fits.apart hi less over) cut)
-  | inr not_less ↦ not_less
-]
-
-one_edge : (t : ℕ) (x : Row) → IsRow x → 0 < edge_at t x → t ≤ FOREVER
-one_edge t x is some = elim (cases_lt FOREVER t) [
-  | inl over ↦
-      let begins = is.begins in
-      let ends = is.ends in
-      absurd (omega (arith, some, Rattle.op_group.specs.TimeLaws.one_elsewhere x.begin t (below_test x.begin t (omega arith)), Rattle.op_group.specs.TimeLaws.one_elsewhere x.end t (below_test x.end t (omega arith))))
-  | inr time ↦ time
-]
-
--- begins and ends are times
-pub edges_are_times : (rows : List Row) (t : ℕ) → AreRows rows → is_cut_of rows t ≡ true → t ≤ FOREVER
-edges_are_times rows t are cut = within_rows rows are (Rattle.std.proofs.lemmas.Bool.ltb-true 0 (edges_of rows t) cut)
-  where
-    within_rows : (rows : List Row) → AreRows rows → 0 < edges_of rows t → t ≤ FOREVER
-    within_rows [] are some = absurd (omega arith)
-    within_rows (x ∷ rows) are some = elim (cases_lt 0 (edge_at t x)) [
-      | inl here ↦ one_edge t x (first_is x rows are) here
-      | inr not_here ↦ within_rows rows (others_are x rows are) (omega (arith, some, not_here, Rattle.std.proofs.lemmas.List.Sums.sum_by-cons (edge_at t) x rows))
-    ]
-
-some_cut : (cuts : List (ℕ × Segment)) (sums : List ℕ) (rows : List Row) (t : ℕ) → ShowsRows sums cuts rows → IsSome (segment_at t cuts) → is_cut_of rows t ≡ true
-some_cut cuts sums rows t shows there = sym (cut_is sums cuts rows t shows) ∙ there
-
-module _ (counted : Bool) (sums : List ℕ) (key : List Field) (c : Change) (old new : List Row) (cuts cuts' : List (ℕ × Segment)) (lo hi : ℕ)
-    (is : IsChange c) (moved : IsMoved c old new) (old_rows : AreRows old) (new_rows : AreRows new)
-    (up : Ascends (times_of cuts)) (up' : Ascends (times_of cuts')) (shows : ShowsRows sums cuts old) (shows' : ShowsRows sums cuts' new)
-    (first : IsLastCut cuts (sync_of c) lo) (last : IsNextCut cuts (last_of c + 1) hi) where
-  -- a cut point that no change touches is one of both tables
-  still_cut : (t : ℕ) → Outside c t → is_cut_of old t ≡ is_cut_of new t
-  still_cut t outside = ap (nat_lt 0) (group_outside sums c old new t is moved outside).0
-
-  before_all : (r : Row) (rows : List Row) → is_cut_of rows lo ≡ true → lo < sync_of c → Fits counted key (living_of rows) (sums_of sums rows) (is_cut_of rows) r → r.begin < lo → (t : ℕ) → r.begin ≤ t → t ≤ r.end → Outside c t
-  before_all r rows cut less fits under t over within_end =
-      let ends = between_before counted key (living_of rows) (sums_of sums rows) (is_cut_of rows) r lo fits cut under in
-      inl (omega arith)
-
-  after_all : (r : Row) (rows : List Row) → is_cut_of rows hi ≡ true → Fits counted key (living_of rows) (sums_of sums rows) (is_cut_of rows) r → hi < r.end → (t : ℕ) → r.begin ≤ t → t ≤ r.end → Outside c t
-  after_all r rows cut fits over t from within_end =
-      let begins = between_after counted key (living_of rows) (sums_of sums rows) (is_cut_of rows) r hi fits cut over in
-      let after = last.after in
-      inr (omega arith)
-
-  -- a row that isn't between the two times has only times that the change doesn't touch
-  others_outside : (rows : List Row) (r : Row) → ((t : ℕ) → Outside c t → is_cut_of old t ≡ is_cut_of rows t) → AreRows rows → Fits counted key (living_of rows) (sums_of sums rows) (is_cut_of rows) r → (r.begin < lo) ⊎ (hi < r.end) → (t : ℕ) → r.begin ≤ t → t ≤ r.end → Outside c t
-  others_outside rows r same are fits (inl under) = elim first.there [
-    | inl zero_is ↦ absurd (omega arith)
-    | inr there ↦
-        let less = there.1 in
-        before_all r rows (sym (same lo (inl less)) ∙ some_cut cuts sums old lo shows there.0) less fits under
-  ]
-  others_outside rows r same are fits (inr over) = elim last.there [
-    | inl most ↦ let time = edges_are_times rows r.end are fits.ends in absurd (omega arith)
-    | inr there ↦ let after = last.after in after_all r rows (sym (same hi (inr (omega arith))) ∙ some_cut cuts sums old hi shows there) fits over
-  ]
-
-  apart_same : (r : Row) → (r.begin < lo) ⊎ (hi < r.end) → count_of r (segments (asked counted sums) key old) ≡ count_of r (segments (asked counted sums) key new)
-  apart_same r apart = elim (cases_lt 0 (count_of r (segments (asked counted sums) key old))) [
-    | inl there ↦ same_made counted sums key c old new is moved r (others_outside old r (λ t outside. refl) old_rows (segment_fits (asked counted sums) key old r there) apart)
-    | inr none ↦ elim (cases_lt 0 (count_of r (segments (asked counted sums) key new))) [
-      | inl there ↦ same_made counted sums key c old new is moved r (others_outside new r still_cut new_rows (segment_fits (asked counted sums) key new r there) apart)
-      | inr nothing ↦ omega arith
-    ]
-  ]
-
-  apart_sums : (r : Row) → (r.begin < lo) ⊎ (hi < r.end) → count_of r (segments (asked counted sums) key new) + count_of r (rows_in counted key (between lo hi cuts)) ≡ count_of r (segments (asked counted sums) key old) + count_of r (rows_in counted key (between lo hi cuts'))
-  apart_sums r apart =
-      let outside : (lo ≤ r.begin) × (r.end ≤ hi) → ⊥ = λ h. elim apart [ inl under ↦ (let x = h.0 in omega arith) | inr over ↦ (let x = h.1 in omega arith) ] in
-      omega (arith, apart_same r apart, found_none counted sums key cuts old lo hi up shows r outside, found_none counted sums key cuts' new lo hi up' shows' r outside)
-
-  others_stay : (r : Row) → count_of r (segments (asked counted sums) key new) + count_of r (rows_in counted key (between lo hi cuts)) ≡ count_of r (segments (asked counted sums) key old) + count_of r (rows_in counted key (between lo hi cuts'))
-  others_stay r = elim (cases_lt r.begin lo) [
-    | inl under ↦ apart_sums r (inl under)
-    | inr low ↦ elim (cases_lt hi r.end) [
-      | inl over ↦ apart_sums r (inr over)
-      | inr high ↦ omega (arith, found_is counted sums key cuts old lo hi up shows r low high, found_is counted sums key cuts' new lo hi up' shows' r low high)
-    ]
-  ]
-
-  found_most : (cuts0 : List (ℕ × Segment)) (rows : List Row) → Ascends (times_of cuts0) → ShowsRows sums cuts0 rows → (r : Row) → count_of r (rows_in counted key (between lo hi cuts0)) ≤ count_of r (segments (asked counted sums) key rows)
-  found_most cuts0 rows up0 shows0 r = elim (cases_lt 0 (count_of r (rows_in counted key (between lo hi cuts0)))) [
-    | inl there ↦ let place = found_within counted sums key cuts0 rows lo hi up0 shows0 r there in omega (arith, found_is counted sums key cuts0 rows lo hi up0 shows0 r place.0 place.1)
-    | inr none ↦ omega arith
-  ]
-
-  -- only the rows between the two times may change
-  pub turned_between : Turned counted sums key old new (rows_in counted key (between lo hi cuts)) (rows_in counted key (between lo hi cuts'))
-  turned_between = record {
-    some_old = λ r. found_most cuts old up shows r;
-    some_new = λ r. found_most cuts' new up' shows' r;
-    others = others_stay;
-  }
 
 -- each row ends after the one before it
 abbrev EndAfter : ℕ → List Row → Type 0

@@ -15,8 +15,8 @@ use Rattle.cedr_base.proofs.Bags.{count_of-cons, one_if_same_exact}
 use Rattle.cedr_stream.specs.Repairs.{IsMoved}
 use Rattle.cedr_stream.proofs.BagSums.{count_of-itself, same_back}
 use Rattle.cedr_stream.proofs.Moves.{sum_by-moved, remnant_some, remnant_none}
-use Rattle.op_group.specs.Groups.{Grouping, number_at, key_of, same_payload, rows_of, grouped, cut_points, least_from, is_open, open_from}
-use Rattle.op_group.specs.Measures.{lives_at, edge_at, part_at, edges_of, living_of, sums_of, among, row_from, Fits, is_cut_of, key_in, IsMade}
+use Rattle.op_group.specs.Groups.{Grouping, number_at, key_of, same_payload, rows_of, grouped, cut_points, least_from, is_open, open_from, lives_at}
+use Rattle.op_group.specs.Measures.{edge_at, part_at, edges_of, living_of, sums_of, among, row_from, Fits, is_cut_of, key_in, IsMade}
 use Rattle.op_group.specs.TimeLaws.{below_test, above_test, one_elsewhere, false_not_true}
 use Rattle.op_group.specs.CutLaws.{next_of}
 use Rattle.op_group.specs.SegmentLaws.{sum_by-filter, cuts_ascend, among_cuts, edge_there, fits_alike}

@@ -84,11 +84,11 @@ pub record IsNextCut (cuts : List (ℕ × Segment)) (t next : ℕ) : Type 0 wher
   pub none : (u : ℕ) → t ≤ u → u < next → segment_at u cuts ≡ None
   pub there : (next ≡ 2 ^ 64 - 1) ⊎ IsSome (segment_at next cuts)
 
--- the last cut point before a time, or 0 where there is none
+-- the last cut point before a time, or that time where there is none
 pub record IsLastCut (cuts : List (ℕ × Segment)) (t last : ℕ) : Type 0 where
   pub before : last ≤ t
   pub none : (u : ℕ) → last < u → u < t → segment_at u cuts ≡ None
-  pub there : (last ≡ 0) ⊎ (IsSome (segment_at last cuts) × (last < t))
+  pub there : ((last ≡ t) × ((u : ℕ) → u < t → segment_at u cuts ≡ None)) ⊎ (IsSome (segment_at last cuts) × (last < t))
 
 -- a segment has what is valid just before a time
 pub record IsCarried (cuts : List (ℕ × Segment)) (t width : ℕ) (s : Segment) : Type 0 where

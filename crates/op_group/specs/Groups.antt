@@ -1,7 +1,7 @@
 -- Groups of rows: what each group makes of its rows, and what may be promised at a mark.
-use Rattle.std.specs.Prelude.{ℕ, ◌%◌, ◌^◌, List, [], ◌∷◌, ◌++◌, Bool, true, false, ◌&&◌, Option, Some, None, length, map, sum_by, min, nat_lt, nat_le, nat_eq, if◌then◌else◌}
+use Rattle.std.specs.Prelude.{ℕ, ◌%◌, ◌^◌, List, [], ◌∷◌, ◌++◌, Bool, false, ◌&&◌, ◌||◌, Option, Some, None, length, map, sum_by, min, nat_lt, nat_le, nat_eq, if◌then◌else◌}
 use Rattle.std.specs.Int.{w128, cast_unsigned, cast_signed}
-use Rattle.std.specs.List.{filter, flat_map, list_any, slice_get}
+use Rattle.std.specs.List.{filter, flat_map, list_any, slice_get, count_by}
 use Rattle.std.specs.Ordering.{is_eq}
 use Rattle.cedr_base.specs.declared.field.Field.{Field}
 use Rattle.cedr_base.specs.declared.field.Field.TheVariants.{Number, Bytes}
@@ -101,12 +101,21 @@ is_open mark r = nat_lt r.begin mark && nat_le mark r.end
 abbrev pub open_from : ℕ → List Row → ℕ
 open_from mark rows = least_from mark (map (λ (r : Row). r.begin) (filter (is_open mark) rows))
 
+-- the row is valid at a time
+abbrev pub lives_at : ℕ → Row → Bool
+lives_at t r = nat_le r.begin t && nat_lt t r.end
+
+-- At a mark a row that stands for a cut point of a group, from it to the next one, may still be held where it begins at
+-- the mark or later, or where it ends at the mark or later and some row of the group is valid at its begin.
+abbrev pub may_be_held : Grouping → List Row → ℕ → Row → Bool
+may_be_held grouping rows mark r = nat_le mark r.begin || (nat_le mark r.end && nat_lt 0 (count_by (lives_at r.begin) (rows_of grouping r.payload rows)))
+
 abbrev pub group_of : Grouping → Meaning
 group_of grouping = record {
   ports = 1;
   result = λ tables. grouped grouping (table_at tables 0);
   bound = λ tables marks. open_from (mark_at marks 0) (grouped grouping (table_at tables 0));
-  may_hold = λ _ _ _ _. true;
+  may_hold = λ tables marks port r. nat_eq port 0 && may_be_held grouping (table_at tables 0) (mark_at marks 0) r;
   echoes = false;
   stateless = false;
 }

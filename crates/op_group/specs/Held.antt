@@ -1,5 +1,5 @@
 -- What an operator over groups keeps between changes, as rows.
-use Rattle.std.specs.Prelude.{ℕ, List, [], ◌∷◌, map}
+use Rattle.std.specs.Prelude.{ℕ, List, [], ◌∷◌}
 use Rattle.std.specs.List.{flat_map}
 use Rattle.std.specs.BTreeMap.{BTreeMap}
 use Rattle.cedr_base.specs.declared.time.TheConstants.{FOREVER}
@@ -7,7 +7,6 @@ use Rattle.cedr_base.specs.declared.field.Field.{Field}
 use Rattle.cedr_base.specs.declared.row.Row.{Row}
 use Rattle.cedr_table.specs.Operators.{Tables}
 use Rattle.op_group.specs.declared.segment.Segment.{Segment}
-use Rattle.op_group.specs.declared.index.Interval.{Interval}
 
 -- the first of some cut points, and FOREVER where there is none
 abbrev pub first_cut : List (ℕ × Segment) → ℕ
@@ -23,10 +22,6 @@ cut_rows key (cut ∷ cuts) = record { end = first_cut cuts; begin = cut.0; payl
 abbrev pub group_rows : List (List Field × BTreeMap ℕ Segment) → List Row
 group_rows groups = flat_map (λ group. cut_rows group.0 group.1.entries) groups
 
--- the intervals that an index counts: a row without a payload for each one
-abbrev pub interval_rows : List (Interval × ℕ) → List Row
-interval_rows index = map (λ e. record { end = e.0.end; begin = e.0.begin; payload = [] }) index
-
--- the cut points of all groups, and then the intervals of the index
-abbrev pub group_held : List (List Field × BTreeMap ℕ Segment) → List (Interval × ℕ) → Tables
-group_held groups index = group_rows groups ∷ interval_rows index ∷ []
+-- the cut points of all groups, on the only port
+abbrev pub group_held : List (List Field × BTreeMap ℕ Segment) → Tables
+group_held groups = group_rows groups ∷ []

@@ -6,7 +6,7 @@ pub mod CutLaws
 pub mod SegmentLaws
 pub mod GroupLaws
 pub mod BoundLaws
-pub mod Index
+pub mod Points
 pub mod State
 pub mod Held
 pub mod StateLaws

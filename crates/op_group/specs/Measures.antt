@@ -1,13 +1,9 @@
 -- What stands and what is valid at a time, among the rows of one group.
-use Rattle.std.specs.Prelude.{ℕ, ◌≡◌, ◌<◌, ◌+◌, ◌-◌, ◌%◌, ◌^◌, List, [], ◌∷◌, ◌++◌, Bool, true, false, cond, ◌&&◌, length, map, take, sum_by, nat_lt, nat_le, nat_eq}
+use Rattle.std.specs.Prelude.{ℕ, ◌≡◌, ◌<◌, ◌+◌, ◌-◌, ◌%◌, ◌^◌, List, [], ◌∷◌, ◌++◌, Bool, true, false, cond, length, map, take, sum_by, nat_lt, nat_eq}
 use Rattle.cedr_base.specs.declared.field.Field.{Field}
 use Rattle.cedr_base.specs.declared.row.Row.{Row}
-use Rattle.op_group.specs.Groups.{Grouping, number_at, rows_of}
+use Rattle.op_group.specs.Groups.{Grouping, lives_at, number_at, rows_of}
 use Rattle.op_group.specs.Cuts.{one_at, totals}
-
--- the row is valid at a time
-abbrev pub lives_at : ℕ → Row → Bool
-lives_at t r = nat_le r.begin t && nat_lt t r.end
 
 -- how many of its begin and its end stand at a time
 abbrev pub edge_at : ℕ → Row → ℕ

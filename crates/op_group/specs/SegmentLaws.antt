@@ -12,9 +12,9 @@ use Rattle.cedr_base.specs.declared.row.Row.{Row}
 use Rattle.cedr_base.specs.Rows.{count_of}
 use Rattle.cedr_base.proofs.Bags.{count_of-cons}
 use Rattle.cedr_stream.proofs.BagSums.{count_of-itself, sum_by-without}
-use Rattle.op_group.specs.Groups.{Grouping, modular, number_at, totals_of, row_between, spans, neighbours, cut_points, put_time, segments}
+use Rattle.op_group.specs.Groups.{Grouping, modular, number_at, totals_of, row_between, spans, neighbours, cut_points, put_time, segments, lives_at}
 use Rattle.op_group.specs.Cuts.{one_at, totals, StaysBetweenCuts}
-use Rattle.op_group.specs.Measures.{lives_at, edge_at, part_at, edges_of, living_of, sums_of, among, AllAbove, Ascends, one_row, rows_at, Fits, is_cut_of}
+use Rattle.op_group.specs.Measures.{edge_at, part_at, edges_of, living_of, sums_of, among, AllAbove, Ascends, one_row, rows_at, Fits, is_cut_of}
 use Rattle.op_group.specs.TimeLaws.{above_test, one_here, false_not_true, still_valid, not_valid_yet}
 use Rattle.op_group.specs.CutLaws.{among_tail, none_between, above_lower, fits_from_there, there_from_fits}
 

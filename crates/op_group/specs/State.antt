@@ -1,5 +1,5 @@
 -- What an operator over groups keeps, and how it answers a change.
-use Rattle.std.specs.Prelude.{ℕ, ◌≡◌, ◌≤◌, ◌+◌, List, [], ◌++◌, Bool, Option, Some, None, length}
+use Rattle.std.specs.Prelude.{ℕ, ◌≡◌, ◌<◌, ◌≤◌, ◌+◌, ◌⊎◌, List, [], ◌++◌, Bool, true, false, Option, Some, None, length, replicate, nat_le, is_some, not, ◌&&◌, if◌then◌else◌}
 use Rattle.std.specs.Map.{lookup, keys_of}
 use Rattle.std.specs.List.Sorted.{IsStrictlySortedBy}
 use Rattle.std.specs.Ordering.{nat_cmp}
@@ -12,10 +12,11 @@ use Rattle.cedr_base.specs.Order.{payload_cmp}
 use Rattle.cedr_base.specs.Rows.{count_of, AreRows}
 use Rattle.cedr_table.specs.Operators.{Tables, table_at, mark_at}
 use Rattle.op_group.specs.declared.segment.Segment.{Segment}
-use Rattle.op_group.specs.declared.index.Interval.{Interval}
-use Rattle.op_group.specs.Index.{IsIndex}
-use Rattle.op_group.specs.Groups.{Grouping, rows_of, segments, grouped}
-use Rattle.op_group.specs.Cuts.{Shows, differences}
+use Rattle.op_group.specs.declared.points.CutPoint.{CutPoint}
+use Rattle.op_group.specs.declared.points.Points.{Points}
+use Rattle.op_group.specs.Points.{has_point, left_from, IsOpenCut}
+use Rattle.op_group.specs.Groups.{Grouping, same_payload, rows_of, segments}
+use Rattle.op_group.specs.Cuts.{Shows, segment_at, differences}
 use Rattle.op_group.specs.Measures.{edges_of, living_of, sums_of}
 
 -- the cut points of a group, where there are any
@@ -26,31 +27,58 @@ entries_of (Some cuts) = cuts.entries
 abbrev pub cuts_of : List (List Field × BTreeMap ℕ Segment) → List Field → List (ℕ × Segment)
 cuts_of groups key = entries_of (lookup (is_at (payload_cmp key)) groups)
 
--- a map shows the rows of a group
-abbrev pub ShowsRows : List ℕ → List (ℕ × Segment) → List Row → Type 0
-ShowsRows sums cuts rows = Shows cuts (edges_of rows) (living_of rows) (sums_of sums rows)
+-- what a function says from a time on, and something else before that
+abbrev pub since : {X : Type 0} → ℕ → X → (ℕ → X) → ℕ → X
+since from before f t = if nat_le from t then f t else before
 
--- a map of groups shows the rows of each group
-abbrev pub ShowsAll : Grouping → List (List Field × BTreeMap ℕ Segment) → List Row → Type 0
-ShowsAll g groups rows = (key : List Field) → ShowsRows g.sums (cuts_of groups key) (rows_of g key rows)
+-- A map shows the rows of a group from a time on, which is no later than the mark: a cut point before the mark, or a
+-- time before which nothing was valid.
+pub record ShowsFrom (sums : List ℕ) (mark from : ℕ) (cuts : List (ℕ × Segment)) (rows : List Row) : Type 0 where
+  pub below : from ≤ mark
+  pub starts : ((from < mark) × (0 < edges_of rows from)) ⊎ ((t : ℕ) → t + 1 ≡ from → living_of rows t ≡ 0)
+  pub shows : Shows cuts (since from 0 (edges_of rows)) (since from 0 (living_of rows)) (since from (replicate (length sums) 0) (sums_of sums rows))
+
+-- the map shows the rows of a group from some time on
+pub record ShowsRows (sums : List ℕ) (mark : ℕ) (cuts : List (ℕ × Segment)) (rows : List Row) : Type 0 where
+  pub from : ℕ
+  pub shown : ShowsFrom sums mark from cuts rows
 
 -- the cut points of each group ascend
 abbrev pub AllOrdered : List (List Field × BTreeMap ℕ Segment) → Type 0
 AllOrdered groups = (key : List Field) → IsStrictlySortedBy nat_cmp (keys_of (cuts_of groups key))
 
+-- each group that is kept has a cut point
+abbrev pub NoneEmpty : List (List Field × BTreeMap ℕ Segment) → Type 0
+NoneEmpty groups = (key : List Field) (cuts : BTreeMap ℕ Segment) → lookup (is_at (payload_cmp key)) groups ≡ Some cuts → 0 < length cuts.entries
+
+-- a mark has passed a cut point: it is the first one that its group still has, and some row is valid from it on
+pub record IsPassed (g : Grouping) (groups : List (List Field × BTreeMap ℕ Segment)) (rows : List Row) (mark t : ℕ) (key : List Field) : Type 0 where
+  pub past : t < mark
+  pub first : (u : ℕ) → u < t → segment_at u (cuts_of groups key) ≡ None
+  pub lives : 0 < living_of (rows_of g key rows) t
+
+-- The groups show the rows of each group; one set has all their cut points; and another has those of them that no mark
+-- has passed.
+pub record KeepsGroups (g : Grouping) (groups : List (List Field × BTreeMap ℕ Segment)) (all due : List CutPoint) (rows : List Row) (mark : ℕ) : Type 0 where
+  pub sorted : IsStrictlySortedBy payload_cmp (keys_of groups)
+  pub ordered : AllOrdered groups
+  pub some_cuts : NoneEmpty groups
+  pub shown : (key : List Field) → ShowsRows g.sums mark (cuts_of groups key) (rows_of g key rows)
+  pub entered : (t : ℕ) (key : List Field) → has_point all t key ≡ is_some (segment_at t (cuts_of groups key))
+  pub still : (t : ℕ) (key : List Field) → has_point due t key ≡ true → has_point all t key ≡ true
+  pub passed : (t : ℕ) (key : List Field) → has_point all t key ≡ true → has_point due t key ≡ false → IsPassed g groups rows mark t key
+
+-- one port, whose table is kept by groups
+pub record StandsForGroups (g : Grouping) (groups : List (List Field × BTreeMap ℕ Segment)) (points : Points) (tables : Tables) (marks : List ℕ) : Type 0 where
+  pub table : length tables ≡ 1
+  pub mark : length marks ≡ 1
+  pub rows : AreRows (table_at tables 0)
+  pub keeps : KeepsGroups g groups points.all.keys points.due.keys (table_at tables 0) (mark_at marks 0)
+
 -- the row of a change
 abbrev pub row_of : Change → Row
 row_of (Add r) = r
 row_of (Cut r e) = r
-
--- one port, each group's cut points show its rows, and the index counts the intervals of the result
-pub record StandsForGroups (g : Grouping) (groups : List (List Field × BTreeMap ℕ Segment)) (index : List (Interval × ℕ)) (tables : Tables) (marks : List ℕ) : Type 0 where
-  pub table : length tables ≡ 1
-  pub mark : length marks ≡ 1
-  pub rows : AreRows (table_at tables 0)
-  pub ordered : AllOrdered groups
-  pub shown : ShowsAll g groups (table_at tables 0)
-  pub counted : IsIndex index (mark_at marks 0) (grouped g (table_at tables 0))
 
 -- what is asked of groups, but for the columns of the key
 abbrev pub asked : Bool → List ℕ → Grouping
@@ -68,3 +96,18 @@ pub record Answers (counted : Bool) (sums : List ℕ) (key : List Field) (old ne
   pub news : List Row
   pub appended : after ≡ before ++ differences olds news
   pub turned : Turned counted sums key old new olds news
+
+-- At a cut point of a group what was before it is left out of its cut points, and so is the cut point itself where
+-- nothing is valid from it on. What leaves the group leaves the set of all cut points.
+pub record Settles (at : ℕ) (key : List Field) (groups groups' : List (List Field × BTreeMap ℕ Segment)) (all all' : List CutPoint) : Type 0 where
+  pub sorted : IsStrictlySortedBy payload_cmp (keys_of groups')
+  pub ordered : AllOrdered groups → AllOrdered groups'
+  pub some_cuts : NoneEmpty groups → NoneEmpty groups'
+  pub cuts_left : (u : ℕ) (other : List Field) → segment_at u (cuts_of groups' other) ≡ (if same_payload key other then left_from at (cuts_of groups other) u else segment_at u (cuts_of groups other))
+  pub points_left : (u : ℕ) (other : List Field) → has_point all' u other ≡ (if is_some (segment_at u (cuts_of groups other)) && not (is_some (segment_at u (cuts_of groups' other))) then false else has_point all u other)
+
+-- at a mark a time is the first cut point that is open at it, or else the mark
+pub record IsFirstOpen (groups : List (List Field × BTreeMap ℕ Segment)) (all : List CutPoint) (mark result : ℕ) : Type 0 where
+  pub is : (result ≡ mark) ⊎ ((key : List Field) × (has_point all result key ≡ true) × (result < mark) × IsOpenCut (cuts_of groups key) result mark)
+  pub first : (t : ℕ) (key : List Field) → has_point all t key ≡ true → t < mark → IsOpenCut (cuts_of groups key) t mark → result ≤ t
+  pub within : result ≤ mark

@@ -1,6 +1,6 @@
 -- What the state of an operator over groups stands for.
-use Rattle.std.proofs.Common.{◌≡◌, ℕ, ◌≤◌, List, [], length, refl, ap, sym, ◌∙◌, subst, arith}
-use Rattle.std.specs.Prelude.{Option, Some, None, cond, nat_eq}
+use Rattle.std.proofs.Common.{◌≡◌, ℕ, ◌<◌, ◌≤◌, inl, inr, List, [], length, refl, ap, sym, ◌∙◌, subst, arith}
+use Rattle.std.specs.Prelude.{Option, Some, None, cond, nat_eq, nat_le, replicate}
 use Rattle.std.specs.BTreeMap.{BTreeMap}
 use Rattle.cedr_base.specs.declared.time.TheConstants.{FOREVER}
 use Rattle.cedr_base.specs.declared.field.Field.{Field}
@@ -12,44 +12,84 @@ use Rattle.cedr_stream.proofs.Moves.{may_is}
 use Rattle.cedr_table.specs.Operators.{Tables, table_at, mark_at, with_table, CanTake, AllRise, SameTables}
 use Rattle.cedr_table.specs.PortLaws.{rise_length, rise_at, same_length, same_at, time_at, table_at-with}
 use Rattle.cedr_table.specs.OperatorLaws.{OperatorLaws}
-use Rattle.cedr_stream.proofs.BagSums.{sum_by-same, same_back}
+use Rattle.cedr_stream.proofs.BagSums.{same_back}
 use Rattle.cedr_table.proofs.RowsLemmas.{same_are}
 use Rattle.op_group.specs.declared.segment.Segment.{Segment}
-use Rattle.op_group.specs.declared.index.Interval.{Interval}
-use Rattle.op_group.specs.Index.{interval_of, one_if_same_interval}
+use Rattle.op_group.specs.declared.points.CutPoint.{CutPoint}
+use Rattle.op_group.specs.declared.points.Points.{Points}
 use Rattle.op_group.specs.Groups.{Grouping, group_of, number_at, rows_of, grouped, open_from}
 use Rattle.op_group.specs.Measures.{edge_at, part_at, edges_of, living_of, sums_of}
 use Rattle.op_group.specs.GroupLaws.{same_grouped, group_sum, SameAt, same_at as same_sums}
 use Rattle.op_group.specs.BoundLaws.{open_below, open_rises, open_stays}
-use Rattle.op_group.specs.State.{ShowsRows, cuts_of, StandsForGroups}
+use Rattle.op_group.specs.State.{ShowsFrom, KeepsGroups, StandsForGroups}
 
-pub stands_rising : (g : Grouping) (groups : List (List Field × BTreeMap ℕ Segment)) (index : List (Interval × ℕ)) (tables : Tables) (marks later : List ℕ) → AllRise marks later → StandsForGroups g groups index tables marks → StandsForGroups g groups index tables later
-stands_rising g groups index tables marks later rise h = record { table = h.table; mark = rise_length marks later rise ∙ h.mark; rows = h.rows; ordered = h.ordered; shown = h.shown; counted = λ i within. h.counted i (omega (arith, rise_at 0 marks later rise)) }
-
--- what is shown at a time
-abbrev shown_as : ℕ → ℕ → List ℕ → Option Segment
-shown_as edges living sums = cond (nat_eq edges 0) None (Some (record { edges = edges; living = living; totals = sums }))
-
--- what shows a bag shows each list of it
-shows_bag : (g : Grouping) (key : List Field) (cuts : List (ℕ × Segment)) (xs ys : List Row) → SameRows xs ys → ShowsRows g.sums cuts (rows_of g key xs) → ShowsRows g.sums cuts (rows_of g key ys)
-shows_bag g key cuts xs ys same shows = record {
-  at = λ t.
-      let is : SameAt g key xs ys t = same_sums g key xs ys t (group_sum g key (edge_at t) xs ys same) (group_sum g key (part_at (λ _. 1) t) xs ys same) (λ column. group_sum g key (part_at (number_at column) t) xs ys same) in
-      shows.at t ∙ (ap (λ n. shown_as n (living_of (rows_of g key xs) t) (sums_of g.sums (rows_of g key xs) t)) is.edges
-      ∙ (ap (λ n. shown_as (edges_of (rows_of g key ys) t) n (sums_of g.sums (rows_of g key xs) t)) is.living
-      ∙ ap (λ ns. shown_as (edges_of (rows_of g key ys) t) (living_of (rows_of g key ys) t) ns) is.sums));
+-- what is shown from a time on is shown at a later mark too
+from_rising : (sums : List ℕ) (mark later from : ℕ) (cuts : List (ℕ × Segment)) (rows : List Row) → mark ≤ later → ShowsFrom sums mark from cuts rows → ShowsFrom sums later from cuts rows
+from_rising sums mark later from cuts rows rise h = record {
+  below = (let low = h.below in omega arith);
+  starts = elim h.starts [ inl at_cut ↦ inl ((let low = at_cut.0 in omega arith), at_cut.1) | inr quiet ↦ inr quiet ];
+  shows = h.shows;
 }
 
-pub stands_alike : (g : Grouping) (groups : List (List Field × BTreeMap ℕ Segment)) (index : List (Interval × ℕ)) (tables others : Tables) (marks : List ℕ) → SameTables tables others → StandsForGroups g groups index tables marks → StandsForGroups g groups index others marks
-stands_alike g groups index tables others marks same h =
+keeps_rising : (g : Grouping) (groups : List (List Field × BTreeMap ℕ Segment)) (all due : List CutPoint) (rows : List Row) (mark later : ℕ) → mark ≤ later → KeepsGroups g groups all due rows mark → KeepsGroups g groups all due rows later
+keeps_rising g groups all due rows mark later rise h = record {
+  sorted = h.sorted;
+  ordered = h.ordered;
+  some_cuts = h.some_cuts;
+  shown = λ key. record { from = (h.shown key).from; shown = from_rising g.sums mark later (h.shown key).from _ _ rise (h.shown key).shown };
+  entered = h.entered;
+  still = h.still;
+  passed = λ t key there gone. let is = h.passed t key there gone in record { past = (let low = is.past in omega arith); first = is.first; lives = is.lives };
+}
+
+pub stands_rising : (g : Grouping) (groups : List (List Field × BTreeMap ℕ Segment)) (points : Points) (tables : Tables) (marks later : List ℕ) → AllRise marks later → StandsForGroups g groups points tables marks → StandsForGroups g groups points tables later
+stands_rising g groups points tables marks later rise h = record { table = h.table; mark = rise_length marks later rise ∙ h.mark; rows = h.rows; keeps = keeps_rising g groups points.all.keys points.due.keys (table_at tables 0) (mark_at marks 0) (mark_at later 0) (rise_at 0 marks later rise) h.keeps }
+
+-- what is shown at a time
+abbrev pub shown_as : ℕ → ℕ → List ℕ → Option Segment
+shown_as edges living sums = cond (nat_eq edges 0) None (Some (record { edges = edges; living = living; totals = sums }))
+
+-- what shows some rows of a group shows others that count the same at each time
+pub from_alike : (sums : List ℕ) (mark from : ℕ) (cuts : List (ℕ × Segment)) (xs ys : List Row) → ((t : ℕ) → edges_of xs t ≡ edges_of ys t) → ((t : ℕ) → living_of xs t ≡ living_of ys t) → ((t : ℕ) → sums_of sums xs t ≡ sums_of sums ys t)
+    → ShowsFrom sums mark from cuts xs → ShowsFrom sums mark from cuts ys
+from_alike sums mark from cuts xs ys e f g h = record {
+  below = h.below;
+  starts = elim h.starts [ inl at_cut ↦ inl (at_cut.0, subst (λ (n : ℕ). 0 < n) (e from) at_cut.1) | inr quiet ↦ inr (λ t is. sym (f t) ∙ quiet t is) ];
+  shows = record {
+    at = λ t.
+        h.shows.at t
+        ∙ (ap (λ n. shown_as (cond (nat_le from t) n 0) (cond (nat_le from t) (living_of xs t) 0) (cond (nat_le from t) (sums_of sums xs t) (replicate (length sums) 0))) (e t)
+        ∙ (ap (λ n. shown_as (cond (nat_le from t) (edges_of ys t) 0) (cond (nat_le from t) n 0) (cond (nat_le from t) (sums_of sums xs t) (replicate (length sums) 0))) (f t)
+        ∙ ap (λ ns. shown_as (cond (nat_le from t) (edges_of ys t) 0) (cond (nat_le from t) (living_of ys t) 0) (cond (nat_le from t) ns (replicate (length sums) 0))) (g t)));
+  };
+}
+
+pub same_of_bags : (g : Grouping) (key : List Field) (xs ys : List Row) (t : ℕ) → SameRows xs ys → SameAt g key xs ys t
+same_of_bags g key xs ys t same = same_sums g key xs ys t (group_sum g key (edge_at t) xs ys same) (group_sum g key (part_at (λ _. 1) t) xs ys same) (λ column. group_sum g key (part_at (number_at column) t) xs ys same)
+
+-- what keeps a bag keeps each list of it
+keeps_alike : (g : Grouping) (groups : List (List Field × BTreeMap ℕ Segment)) (all due : List CutPoint) (xs ys : List Row) (mark : ℕ) → SameRows xs ys → KeepsGroups g groups all due xs mark → KeepsGroups g groups all due ys mark
+keeps_alike g groups all due xs ys mark same h = record {
+  sorted = h.sorted;
+  ordered = h.ordered;
+  some_cuts = h.some_cuts;
+  shown = λ key. record {
+    from = (h.shown key).from;
+    shown = from_alike g.sums mark (h.shown key).from _ (rows_of g key xs) (rows_of g key ys) (λ t. (same_of_bags g key xs ys t same).edges) (λ t. (same_of_bags g key xs ys t same).living) (λ t. (same_of_bags g key xs ys t same).sums) (h.shown key).shown;
+  };
+  entered = h.entered;
+  still = h.still;
+  passed = λ t key there gone. let is = h.passed t key there gone in record { past = is.past; first = is.first; lives = subst (λ (n : ℕ). 0 < n) (same_of_bags g key xs ys t same).living is.lives };
+}
+
+pub stands_alike : (g : Grouping) (groups : List (List Field × BTreeMap ℕ Segment)) (points : Points) (tables others : Tables) (marks : List ℕ) → SameTables tables others → StandsForGroups g groups points tables marks → StandsForGroups g groups points others marks
+stands_alike g groups points tables others marks same h =
     let rows = same_at 0 tables others same in
     record {
       table = same_length tables others same ∙ h.table;
       mark = h.mark;
       rows = same_are (table_at others 0) (table_at tables 0) (same_back (table_at tables 0) (table_at others 0) rows) h.rows;
-      ordered = h.ordered;
-      shown = λ key. shows_bag g key (cuts_of groups key) (table_at tables 0) (table_at others 0) rows (h.shown key);
-      counted = λ i within. h.counted i within ∙ sum_by-same (λ r. one_if_same_interval (interval_of r) i) (grouped g (table_at tables 0)) (grouped g (table_at others 0)) (same_grouped g (table_at tables 0) (table_at others 0) rows);
+      keeps = keeps_alike g groups points.all.keys points.due.keys (table_at tables 0) (table_at others 0) (mark_at marks 0) rows h.keeps;
     }
 
 -- the only port's mark is at most a change's sync
@@ -66,11 +106,11 @@ bound_stays_on_one g tables marks port c after one can moved =
 pub open_is_time : (mark : ℕ) (rows : List Row) → mark ≤ FOREVER → open_from mark rows ≤ FOREVER
 open_is_time mark rows h = let below = open_below mark rows in omega arith
 
-pub group_laws : (g : Grouping) (groups : List (List Field × BTreeMap ℕ Segment)) (index : List (Interval × ℕ)) → OperatorLaws (group_of g) (StandsForGroups g groups index)
-group_laws g groups index = record {
+pub group_laws : (g : Grouping) (groups : List (List Field × BTreeMap ℕ Segment)) (points : Points) → OperatorLaws (group_of g) (StandsForGroups g groups points)
+group_laws g groups points = record {
   sized = λ tables marks h. (h.table, h.mark);
-  rising = λ tables marks later h k. stands_rising g groups index tables marks later k h;
-  alike = λ tables others marks k h. stands_alike g groups index tables others marks k h;
+  rising = λ tables marks later h k. stands_rising g groups points tables marks later k h;
+  alike = λ tables others marks k h. stands_alike g groups points tables others marks k h;
   same_rows = λ tables others k. same_grouped g (table_at tables 0) (table_at others 0) (same_at 0 tables others k);
   nothing = record { each = λ r. refl };
   bound_rises = λ tables marks later h k. open_rises (mark_at marks 0) (mark_at later 0) (grouped g (table_at tables 0)) (rise_at 0 marks later k);

@@ -19,13 +19,13 @@ pub(crate) fn cut_from(cuts: &Cuts, from: Time) -> Time
     }
 }
 
-/// The last cut point before a time, or 0 where there is none.
+/// The last cut point before a time, or that time where there is none.
 pub(crate) fn cut_before(cuts: &Cuts, to: Time) -> Time
     ensures { IsLastCut cuts.now.entries to result }
 {
     match cuts.range(..to).next_back() {
         Some((at, _)) => *at,
-        None => 0,
+        None => to,
     }
 }
 
@@ -169,7 +169,7 @@ pub(crate) fn cut_row(
     earlier: Time,
     numbers: &[u128],
 ) -> Result<(), OutOfMemory>
-    ensures { OnOk result ((edges : ℕ → ℕ) (living : ℕ → ℕ) (sums : ℕ → List ℕ) → Shows cuts.old.entries edges living sums → StaysBetweenCuts (length numbers.now) edges living sums → 0 < edges begin → 0 < edges end → begin < end
+    ensures { OnOk result ((edges : ℕ → ℕ) (living : ℕ → ℕ) (sums : ℕ → List ℕ) → Shows cuts.old.entries edges living sums → StaysBetweenCuts (length numbers.now) edges living sums → (earlier ≤ begin → 0 < edges begin) → 0 < edges end → begin < end
         → Shows cuts.new.entries (λ t. (edges t + (if nat_lt begin earlier then one_at earlier t else 0)) - one_at end t - (if nat_lt begin earlier then 0 else one_at begin t)) (λ t. if nat_le earlier t && nat_lt t end then living t - 1 else living t) (λ t. if nat_le earlier t && nat_lt t end then summed (sums t) numbers.now else sums t)) }
 {
     add_earlier_end(alloc, cuts, begin, earlier, numbers.len())?;

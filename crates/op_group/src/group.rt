@@ -1,26 +1,28 @@
-ghost use Rattle.std.specs.Prelude.{◌≡◌, ◌++◌, ◌≤◌, ◌<◌, ◌∷◌, [], ℕ, List, OnOk, OnErr, Some, None, IfOk, cond, length, take};
+ghost use Rattle.std.specs.Prelude.{◌≡◌, ◌≤◌, ◌<◌, ◌∷◌, [], ℕ, List, OnOk, cond, length, take};
+ghost use Rattle.std.specs.List.Sorted.{IsStrictlySortedBy};
+ghost use Rattle.std.specs.Map.{keys_of};
 ghost use Rattle.std.specs.BTreeMap.{is_at, IsOrdered};
 ghost use Rattle.std.specs.Ordering.{nat_cmp};
 ghost use Rattle.cedr_base.specs.declared.row.Row.{Row};
 ghost use Rattle.cedr_base.specs.declared.field.Field.{Field};
 ghost use Rattle.cedr_base.specs.Order.{payload_cmp};
 ghost use Rattle.cedr_base.specs.Rows.{AreRows};
-ghost use Rattle.cedr_base.specs.Changes.{IsChange, MayFollow};
+ghost use Rattle.cedr_base.specs.Changes.{IsChange, MayFollow, sync_of};
 ghost use Rattle.cedr_stream.specs.Repairs.{IsMoved};
 ghost use Rattle.op_group.specs.Groups.{grouping_by, group_of, key_of, rows_of};
-ghost use Rattle.op_group.specs.State.{ShowsRows, ShowsAll, AllOrdered, Answers, cuts_of, row_of};
-ghost use Rattle.op_group.specs.Index.{Follows};
-ghost use Rattle.cedr_base.specs.declared.change.Change.{Change as ChangeValue};
+ghost use Rattle.op_group.specs.State.{ShowsFrom, KeepsGroups, NoneEmpty, Answers, cuts_of, row_of};
 
 use crate::answer::{push_differences, rows_between};
+use crate::bound::first_open;
 use crate::cuts::{Cuts, add_row, cut_before, cut_from, cut_row};
-use crate::index::{Index, first_open, follow, forget};
+use crate::forget::forget;
+use crate::points::{CutPoint, Points, follow};
 use crate::segment::numbers;
 use cedr_base::{Change, OutOfMemory, Payload, Row, Time};
 use cedr_expr::Keep;
 use cedr_table::Operator;
 use std::alloc::Global;
-use std::collections::BTreeMap;
+use std::collections::{BTreeMap, BTreeSet};
 
 /// The groups by their keys. No group is kept that has no cut point.
 pub(crate) type Groups = BTreeMap<Payload, Cuts>;
@@ -28,15 +30,16 @@ pub(crate) type Groups = BTreeMap<Payload, Cuts>;
 /// Counts and sums of groups: the rows with equal key fields form one group, and each two neighbouring cut points of
 /// it between which some of its rows are valid give one row, with the key, the count and the sums of these rows.
 ///
-/// It keeps no rows, but the cut points of each group with what is valid from each of them on, and an index of the
-/// intervals of the result's rows that may be open at a later mark.
+/// It keeps no rows, but the cut points of each group with what is valid from each of them on. At a mark it forgets
+/// what no later change and no bound depends on: of the cut points before the mark a group keeps the last one, where some
+/// row is valid from it on, and a group that has no cut point left goes.
 #[derive(Drop)]
 pub struct Group {
     keys: Keep,
     count: bool,
     sums: Vec<usize>,
-    groups: Groups,
-    index: Index,
+    pub(crate) groups: Groups,
+    pub(crate) points: Points,
 }
 
 impl Group {
@@ -51,7 +54,10 @@ impl Group {
             count,
             sums,
             groups: BTreeMap::new(alloc),
-            index: BTreeMap::new(alloc),
+            points: Points {
+                all: BTreeSet::new(alloc),
+                due: BTreeSet::new(alloc),
+            },
         }
     }
 }
@@ -63,7 +69,7 @@ fn change_cuts(
     cuts: &mut Cuts,
     change: &Change,
 ) -> Result<(), OutOfMemory>
-    ensures { OnOk result ((old new : List Row) → ShowsRows sums.now cuts.old.entries old → MayFollow old [] change.now → IsMoved change.now old new → ShowsRows sums.now cuts.new.entries new) }
+    ensures { OnOk result ((old new : List Row) (mark from : ℕ) → ShowsFrom sums.now mark from cuts.old.entries old → MayFollow old [] change.now → IsMoved change.now old new → mark ≤ sync_of change.now → ShowsFrom sums.now mark from cuts.new.entries new) }
 {
     match change {
         Change::Add(row) => {
@@ -98,8 +104,8 @@ fn answer_in(
     out: &mut Vec<Change>,
 ) -> Result<(), OutOfMemory>
     requires { IsChange change.now }
-    ensures shown { OnOk result ((old new : List Row) → ShowsRows sums.now cuts.old.entries old → MayFollow old [] change.now → IsMoved change.now old new → ShowsRows sums.now cuts.new.entries new) }
-    ensures answers { OnOk result ((old new : List Row) → ShowsRows sums.now cuts.old.entries old → MayFollow old [] change.now → IsMoved change.now old new → AreRows old → AreRows new → Answers count sums.now key.now old new out.old.items out.new.items) }
+    ensures shown { OnOk result ((old new : List Row) (mark from : ℕ) → ShowsFrom sums.now mark from cuts.old.entries old → MayFollow old [] change.now → IsMoved change.now old new → mark ≤ sync_of change.now → ShowsFrom sums.now mark from cuts.new.entries new) }
+    ensures answers { OnOk result ((old new : List Row) (mark from : ℕ) → ShowsFrom sums.now mark from cuts.old.entries old → MayFollow old [] change.now → IsMoved change.now old new → mark ≤ sync_of change.now → AreRows old → AreRows new → Answers count sums.now key.now old new out.old.items out.new.items) }
     ensures ordered { OnOk result (IsOrdered nat_cmp cuts.new) }
     ensures kept { take (length out.old.items) out.new.items ≡ out.old.items }
 {
@@ -115,6 +121,8 @@ fn answer_in(
 fn take_group(alloc: Global, groups: &mut Groups, key: &Payload) -> Cuts
     ensures cuts { result.entries ≡ cuts_of groups.old.entries key.now }
     ensures others { (other : List Field) → cuts_of groups.new.entries other ≡ cond (is_at (payload_cmp key.now) other) [] (cuts_of groups.old.entries other) }
+    ensures some_cuts { NoneEmpty groups.old.entries → NoneEmpty groups.new.entries }
+    ensures sorted { IsOrdered payload_cmp groups.new }
 {
     match groups.remove(key) {
         Some(cuts) => cuts,
@@ -125,7 +133,9 @@ fn take_group(alloc: Global, groups: &mut Groups, key: &Payload) -> Cuts
 /// Puts the cut points of a group among the groups, where it has any.
 fn put_group(groups: &mut Groups, key: Payload, cuts: Cuts) -> Result<(), OutOfMemory>
     requires { cuts_of groups.old.entries key ≡ [] }
-    ensures { OnOk result ((other : List Field) → cuts_of groups.new.entries other ≡ cond (is_at (payload_cmp key) other) cuts.entries (cuts_of groups.old.entries other)) }
+    ensures cuts { OnOk result ((other : List Field) → cuts_of groups.new.entries other ≡ cond (is_at (payload_cmp key) other) cuts.entries (cuts_of groups.old.entries other)) }
+    ensures some_cuts { OnOk result (NoneEmpty groups.old.entries → NoneEmpty groups.new.entries) }
+    ensures sorted { IsOrdered payload_cmp groups.old → IsOrdered payload_cmp groups.new }
 {
     if cuts.is_empty() {
         return Ok(());
@@ -141,46 +151,23 @@ pub(crate) fn answer(
     count: bool,
     sums: &[usize],
     groups: &mut Groups,
+    points: &mut Points,
     change: &Change,
     out: &mut Vec<Change>,
 ) -> Result<(), OutOfMemory>
     requires { IsChange change.now }
-    ensures shown { OnOk result ((old new : List Row) → ShowsAll (grouping_by keys.now count sums.now) groups.old.entries old → MayFollow old [] change.now → IsMoved change.now old new → ShowsAll (grouping_by keys.now count sums.now) groups.new.entries new) }
-    ensures ordered { OnOk result (AllOrdered groups.old.entries → AllOrdered groups.new.entries) }
-    ensures answers { OnOk result ((old new : List Row) → ShowsAll (grouping_by keys.now count sums.now) groups.old.entries old → MayFollow old [] change.now → IsMoved change.now old new → AreRows old
+    ensures keeps { OnOk result ((old new : List Row) (mark : ℕ) → KeepsGroups (grouping_by keys.now count sums.now) groups.old.entries points.old.all.keys points.old.due.keys old mark → MayFollow old [] change.now → IsMoved change.now old new → mark ≤ sync_of change.now → KeepsGroups (grouping_by keys.now count sums.now) groups.new.entries points.new.all.keys points.new.due.keys new mark) }
+    ensures answers { OnOk result ((old new : List Row) (mark : ℕ) → KeepsGroups (grouping_by keys.now count sums.now) groups.old.entries points.old.all.keys points.old.due.keys old mark → MayFollow old [] change.now → IsMoved change.now old new → mark ≤ sync_of change.now → AreRows old
         → let key = key_of (grouping_by keys.now count sums.now) (row_of change.now) in Answers count sums.now key (rows_of (grouping_by keys.now count sums.now) key old) (rows_of (grouping_by keys.now count sums.now) key new) out.old.items out.new.items) }
     ensures kept { take (length out.old.items) out.new.items ≡ out.old.items }
 {
     let key = keys.apply(alloc, &row_in(change).payload)?;
     let mut cuts = take_group(alloc, groups, &key);
     answer_in(alloc, count, sums, &key, &mut cuts, change, out)?;
-    put_group(groups, key, cuts)
-}
-
-/// The groups take a change, append what answers it, and the index follows that. Where memory runs out some of that
-/// may stand there.
-#[tactic(auto, using(crate::proofs::Answered::long_enough))]
-pub(crate) fn answer_indexed(
-    alloc: Global,
-    keys: &Keep,
-    count: bool,
-    sums: &[usize],
-    groups: &mut Groups,
-    index: &mut Index,
-    change: &Change,
-    out: &mut Vec<Change>,
-) -> Result<(), OutOfMemory>
-    requires { IsChange change.now }
-    ensures shown { OnOk result ((old new : List Row) → ShowsAll (grouping_by keys.now count sums.now) groups.old.entries old → MayFollow old [] change.now → IsMoved change.now old new → ShowsAll (grouping_by keys.now count sums.now) groups.new.entries new) }
-    ensures ordered { OnOk result (AllOrdered groups.old.entries → AllOrdered groups.new.entries) }
-    ensures answers { OnOk result ((old new : List Row) → ShowsAll (grouping_by keys.now count sums.now) groups.old.entries old → MayFollow old [] change.now → IsMoved change.now old new → AreRows old
-        → let key = key_of (grouping_by keys.now count sums.now) (row_of change.now) in Answers count sums.now key (rows_of (grouping_by keys.now count sums.now) key old) (rows_of (grouping_by keys.now count sums.now) key new) out.old.items out.new.items) }
-    ensures indexed { OnOk result ((appended : List ChangeValue) → out.new.items ≡ out.old.items ++ appended → Follows index.old.entries index.new.entries appended) }
-    ensures kept { take (length out.old.items) out.new.items ≡ out.old.items }
-{
-    let before = out.len();
-    answer(alloc, keys, count, sums, groups, change, out)?;
-    follow(index, &out[before..])
+    let at = change.sync();
+    let mut point = CutPoint { at, key };
+    follow(alloc, points, &mut point, &cuts, row_in(change).end)?;
+    put_group(groups, point.key, cuts)
 }
 
 impl Operator for Group {
@@ -191,9 +178,9 @@ impl Operator for Group {
 
     ghost meaning = { λ s. group_of (grouping_by s.keys s.count s.sums.items) };
 
-    ghost stands = { λ s tables marks. StandsForGroups (grouping_by s.keys s.count s.sums.items) s.groups.entries s.index.entries tables marks };
+    ghost stands = { λ s tables marks. StandsForGroups (grouping_by s.keys s.count s.sums.items) s.groups.entries s.points tables marks };
 
-    ghost held = { λ s. group_held s.groups.entries s.index.entries };
+    ghost held = { λ s. group_held s.groups.entries };
 
     fn ports(&self) -> usize {
         1
@@ -207,13 +194,13 @@ impl Operator for Group {
         out: &mut Vec<Change>,
     ) -> Result<(), OutOfMemory> {
         let before = out.len();
-        let result = answer_indexed(
+        let result = answer(
             alloc,
             &self.keys,
             self.count,
             self.sums.as_slice(),
             &mut self.groups,
-            &mut self.index,
+            &mut self.points,
             change,
             out,
         );
@@ -224,12 +211,12 @@ impl Operator for Group {
     }
 
     fn bound(&self, marks: &[Time]) -> Time {
-        first_open(&self.index, marks[0])
+        first_open(&self.groups, &self.points.all, marks[0])
     }
 
     fn trim(&mut self, marks: &[Time]) {
-        forget(&mut self.index, marks[0]);
+        forget(&mut self.groups, &mut self.points, marks[0]);
     }
 
-    ghost lawful = { λ s. group_laws (grouping_by s.keys s.count s.sums.items) s.groups.entries s.index.entries };
+    ghost lawful = { λ s. group_laws (grouping_by s.keys s.count s.sums.items) s.groups.entries s.points };
 }

@@ -1,4 +1,4 @@
-ghost use Rattle.std.specs.Prelude.{◌≤◌, OnOk, IfOk, length, replicate};
+ghost use Rattle.std.specs.Prelude.{◌≤◌, ◌∷◌, [], OnOk, IfOk};
 ghost use Rattle.cedr_base.specs.declared.time.TheConstants.{FOREVER};
 
 use crate::Group;
@@ -22,7 +22,7 @@ struct Fed {
 
 /// A new grouping by some columns of payloads of a text and three numbers.
 fn grouping(alloc: Global, keys: &[usize], count: bool, sums: &[usize]) -> Result<Fed, Fail>
-    ensures { IfOk result (λ fed. ⟦<Group as Operator>⟧.stands fed.group fed.tables.items (replicate (length fed.tables.items) 0)) }
+    ensures { IfOk result (λ fed. ⟦<Group as Operator>⟧.stands fed.group fed.tables.items (0 ∷ [])) }
 {
     let types = [
         FieldType::Bytes,
@@ -41,14 +41,15 @@ fn grouping(alloc: Global, keys: &[usize], count: bool, sums: &[usize]) -> Resul
 }
 
 fn take(fed: &mut Fed, change: &Change) -> Result<(), Fail>
-    requires { ⟦<Group as Operator>⟧.stands fed.old.group fed.old.tables.items (replicate (length fed.old.tables.items) 0) }
-    ensures { OnOk result (⟦<Group as Operator>⟧.stands fed.new.group fed.new.tables.items (replicate (length fed.new.tables.items) 0)) }
+    requires { ⟦<Group as Operator>⟧.stands fed.old.group fed.old.tables.items (0 ∷ []) }
+    ensures { OnOk result (⟦<Group as Operator>⟧.stands fed.new.group fed.new.tables.items (0 ∷ [])) }
 {
     let mut out = Vec::new(fed.alloc);
     if !feed(
         fed.alloc,
         &mut fed.group,
         &mut fed.tables,
+        &[0],
         0,
         change,
         &mut out,
@@ -67,22 +68,22 @@ fn apply_all(made: &mut Table, answers: &[Change]) -> Result<(), Fail> {
 }
 
 fn add(fed: &mut Fed, row: Row) -> Result<(), Fail>
-    requires { ⟦<Group as Operator>⟧.stands fed.old.group fed.old.tables.items (replicate (length fed.old.tables.items) 0) }
-    ensures { OnOk result (⟦<Group as Operator>⟧.stands fed.new.group fed.new.tables.items (replicate (length fed.new.tables.items) 0)) }
+    requires { ⟦<Group as Operator>⟧.stands fed.old.group fed.old.tables.items (0 ∷ []) }
+    ensures { OnOk result (⟦<Group as Operator>⟧.stands fed.new.group fed.new.tables.items (0 ∷ [])) }
 {
     take(fed, &Change::Add(row))
 }
 
 fn cut(fed: &mut Fed, row: Row, end: Time) -> Result<(), Fail>
-    requires { ⟦<Group as Operator>⟧.stands fed.old.group fed.old.tables.items (replicate (length fed.old.tables.items) 0) }
-    ensures { OnOk result (⟦<Group as Operator>⟧.stands fed.new.group fed.new.tables.items (replicate (length fed.new.tables.items) 0)) }
+    requires { ⟦<Group as Operator>⟧.stands fed.old.group fed.old.tables.items (0 ∷ []) }
+    ensures { OnOk result (⟦<Group as Operator>⟧.stands fed.new.group fed.new.tables.items (0 ∷ [])) }
 {
     take(fed, &Change::Cut(row, end))
 }
 
 /// The bound at a mark of the port.
 fn bound(fed: &Fed, mark: Time) -> Time
-    requires stands { ⟦<Group as Operator>⟧.stands fed.now.group fed.now.tables.items (replicate (length fed.now.tables.items) 0) }
+    requires stands { ⟦<Group as Operator>⟧.stands fed.now.group fed.now.tables.items (0 ∷ []) }
     requires time { mark ≤ FOREVER }
 {
     fed.group.bound(&[mark])

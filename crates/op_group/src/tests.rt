@@ -1,12 +1,14 @@
 ghost use Rattle.cedr_base.specs.Changes.{IsChange};
 
-use crate::group::{Groups, answer_indexed};
-use crate::index::{Index, first_open, forget};
+use crate::bound::first_open;
+use crate::forget::forget;
+use crate::group::{Groups, answer};
+use crate::points::Points;
 use cedr_base::{Change, FOREVER, Field, FieldType, OutOfMemory, Payload, Row, Text, Time};
 use cedr_expr::Keep;
 use cedr_table::Table;
 use std::alloc::Global;
-use std::collections::BTreeMap;
+use std::collections::{BTreeMap, BTreeSet};
 use std::process::Abort;
 use std::test::Fail;
 
@@ -37,7 +39,7 @@ struct Counted {
     keys: Keep,
     sums: Vec<usize>,
     groups: Groups,
-    index: Index,
+    points: Points,
     made: Table,
 }
 
@@ -50,7 +52,10 @@ impl Counted {
             keys,
             sums: Vec::from_slice(alloc, sums)?,
             groups: BTreeMap::new(alloc),
-            index: BTreeMap::new(alloc),
+            points: Points {
+                all: BTreeSet::new(alloc),
+                due: BTreeSet::new(alloc),
+            },
             made: Table::new(alloc),
         })
     }
@@ -60,13 +65,13 @@ impl Counted {
     {
         let mut out = Vec::new(self.alloc);
         let sums = self.sums.as_slice();
-        answer_indexed(
+        answer(
             self.alloc,
             &self.keys,
             true,
             sums,
             &mut self.groups,
-            &mut self.index,
+            &mut self.points,
             change,
             &mut out,
         )?;
@@ -94,11 +99,11 @@ impl Counted {
 
     /// The bound at a mark.
     fn bound(&self, mark: Time) -> Time {
-        first_open(&self.index, mark)
+        first_open(&self.groups, &self.points.all, mark)
     }
 
     fn trim(&mut self, mark: Time) {
-        forget(&mut self.index, mark);
+        forget(&mut self.groups, &mut self.points, mark);
     }
 
     /// The rows made so far are these.
@@ -274,16 +279,16 @@ fn trimmed_groups_have_the_same_bound(rt: HostRuntime) -> Result<(), Fail> {
     groups.add(row(alloc, b"y", &[], 2, FOREVER)?)?;
     groups.add(row(alloc, b"z", &[], 3, 5)?)?;
     groups.trim(4);
-    assert_eq!(rt; groups.index.len(), 3);
+    assert_eq!(rt; groups.points.all.len(), 6);
     assert_eq!(rt; groups.bound(4), 0);
     groups.trim(8);
-    assert_eq!(rt; groups.index.len(), 2);
+    assert_eq!(rt; groups.points.all.len(), 2);
     assert_eq!(rt; groups.bound(8), 2);
     groups.cut(row(alloc, b"y", &[], 2, FOREVER)?, 8)?;
     assert_eq!(rt; groups.bound(8), 2);
     assert_eq!(rt; groups.bound(9), 9);
     groups.trim(9);
-    assert_eq!(rt; groups.index.len(), 0);
+    assert_eq!(rt; groups.points.all.len(), 0);
     assert_eq!(rt; groups.bound(9), 9);
     Ok(())
 }

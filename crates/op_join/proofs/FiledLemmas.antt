@@ -73,7 +73,7 @@ puts_payload : (c : Change) (r : Row) → 0 < count_of r (puts c) → r.payload 
 puts_payload (Add a) r there = ap (λ (x : Row). x.payload) (one_if_same_exact r a (omega arith))
 puts_payload (Cut a e) r there = remnant_payload a r e (nat_lt a.begin e) there
 
-none_else : (n : ℕ) → ((0 < n) → ⊥) → n ≡ 0
+pub none_else : (n : ℕ) → ((0 < n) → ⊥) → n ≡ 0
 none_else n h = elim (cases_lt 0 n) [ inl some ↦ absurd (h some) | inr none ↦ omega arith ]
 
 module _ (key_of : List Field → List Field) (c : Change) where

@@ -1,6 +1,6 @@
 -- The changes of the pairs of a changed row repair a join.
 use Rattle.std.proofs.Common.{◌≡◌, ℕ, ◌+◌, ◌≤◌, ◌⊎◌, inl, inr, List, [], ◌∷◌, ◌++◌, Bool, true, false, refl, ap, ◌∙◌, arith, min, max}
-use Rattle.std.specs.Prelude.{sum_by}
+use Rattle.std.specs.Prelude.{sum_by, ◌&&◌}
 use Rattle.std.proofs.lemmas.Bool.{cases_lt}
 use Rattle.std.proofs.lemmas.List.Sums.{sum_by-le-sum_by}
 use Rattle.cedr_base.specs.declared.field.Field.{Field}
@@ -19,12 +19,15 @@ use Rattle.op_join.specs.declared.side.Side.{Side}
 use Rattle.op_join.specs.declared.side.Side.TheVariants.{Left, Right}
 use Rattle.op_join.specs.Joins.{PairTest, meet, joined, joined_rows}
 use Rattle.op_join.specs.Pairs.{met, passes_on, both_on, pair_changes, changed_row, all_changes}
-use Rattle.op_join.proofs.SumLemmas.{sum_by-alike, sum_by-plus, sum_by-zero, sum_by-turned, sum_by-partners}
+use Rattle.cedr_table.specs.Counted.{ends_after, SameAmong}
+use Rattle.op_join.proofs.SkipLemmas.{ended_alone}
+use Rattle.cedr_table.proofs.FilterLemmas.{sum_by-among}
+use Rattle.op_join.proofs.SumLemmas.{sum_by-alike, sum_by-plus, sum_by-zero, sum_by-turned}
 use Rattle.op_join.proofs.PairLemmas.{pair_sums, pair_there, cut_takes_late, cut_puts_early, pair_good}
 
--- of the rows that pass with a row, these have as many copies as those
-pub record FindsPartners (pass : PairTest) (side : Side) (a : Row) (found others : List Row) : Type 0 where
-  pub each : (o : Row) → passes_on pass side a.payload o.payload ≡ true → count_of o found ≡ count_of o others
+-- whether a change may touch the row of its row's pair with another one: they pass, and that one ends after the change is seen
+abbrev pub may_meet : PairTest → Side → Change → Row → Bool
+may_meet pass side c o = passes_on pass side (changed_row c).payload o.payload && ends_after (sync_of c) o
 
 module _ (p : PairTest) (side : Side) (c : Change) where
   -- what comes of one other row
@@ -45,8 +48,13 @@ module _ (p : PairTest) (side : Side) (c : Change) where
   none_from (Cut a e) true w begin end h = cc
   none_from (Cut a e) false w begin end h = refl
 
-  fails_alone : (o : Row) → passes_on p side (changed_row c).payload o.payload ≡ false → of_pair o ≡ []
-  fails_alone o h = none_from c (passes_on p side (changed_row c).payload o.payload) (both_on side (changed_row c).payload o.payload) (max (changed_row c).begin o.begin) (min (changed_row c).end o.end) h
+  fails_at : (o : Row) (b d : Bool) → passes_on p side (changed_row c).payload o.payload ≡ b → ends_after (sync_of c) o ≡ d → (b && d) ≡ false → of_pair o ≡ []
+  fails_at o true true is ends h = cc
+  fails_at o true false is ends h = ended_alone p side c o ends
+  fails_at o false d is ends h = none_from c (passes_on p side (changed_row c).payload o.payload) (both_on side (changed_row c).payload o.payload) (max (changed_row c).begin o.begin) (min (changed_row c).end o.end) is
+
+  fails_alone : (o : Row) → may_meet p side c o ≡ false → of_pair o ≡ []
+  fails_alone o h = fails_at o (passes_on p side (changed_row c).payload o.payload) (ends_after (sync_of c) o) refl refl h
 
   abbrev took : Row → Row → ℕ
   took r o = count_of r (all_takes (of_pair o))
@@ -57,16 +65,16 @@ module _ (p : PairTest) (side : Side) (c : Change) where
   abbrev part : Row → Row → Row → ℕ
   part r o x = count_of r (met p side x o)
 
-  module _ (found others : List Row) (finds : FindsPartners p side (changed_row c) found others) where
+  module _ (found others : List Row) (finds : SameAmong (may_meet p side c) found others) where
     all_took : (r : Row) → count_of r (all_takes (all_changes p side c found)) ≡ sum_by (took r) others
     all_took r =
         takes-flat_map r of_pair found
-        ∙ sum_by-partners (λ o. passes_on p side (changed_row c).payload o.payload) (took r) found others finds.each (λ o h. ap (λ (cs : List Change). count_of r (all_takes cs)) (fails_alone o h))
+        ∙ sum_by-among (may_meet p side c) (took r) found others finds (λ o h. ap (λ (cs : List Change). count_of r (all_takes cs)) (fails_alone o h))
 
     all_put : (r : Row) → count_of r (all_puts (all_changes p side c found)) ≡ sum_by (put r) others
     all_put r =
         puts-flat_map r of_pair found
-        ∙ sum_by-partners (λ o. passes_on p side (changed_row c).payload o.payload) (put r) found others finds.each (λ o h. ap (λ (cs : List Change). count_of r (all_puts cs)) (fails_alone o h))
+        ∙ sum_by-among (may_meet p side c) (put r) found others finds (λ o h. ap (λ (cs : List Change). count_of r (all_puts cs)) (fails_alone o h))
 
 no_takes : (p : PairTest) (side : Side) (a r : Row) (found : List Row) → count_of r (all_takes (all_changes p side (Add a) found)) ≡ 0
 no_takes p side a r found = takes-flat_map r (of_pair p side (Add a)) found ∙ sum_by-zero (took p side (Add a) r) found (λ o. ap (count_of r) (takes_adds (met p side a o)))
@@ -79,7 +87,7 @@ all_apart p side (Cut a e) r found = elim (cases_lt e r.end) [
 ]
 
 -- the changes of a row's pairs turn the pairs of what it takes into those of what it puts
-pub pairs_turn : (p : PairTest) (side : Side) (c : Change) (t : ℕ) (found others olds news : List Row) → IsChange c → t ≤ sync_of c → AreRows found → FindsPartners p side (changed_row c) found others
+pub pairs_turn : (p : PairTest) (side : Side) (c : Change) (t : ℕ) (found others olds news : List Row) → IsChange c → t ≤ sync_of c → AreRows found → SameAmong (may_meet p side c) found others
     → ((r : Row) → count_of r olds ≡ sum_by (λ o. sum_by (part p side c r o) (takes c)) others) → ((r : Row) → count_of r news ≡ sum_by (λ o. sum_by (part p side c r o) (puts c)) others)
     → Turns t olds news (all_changes p side c found)
 pairs_turn p side c t found others olds news is late are finds is_old is_new =

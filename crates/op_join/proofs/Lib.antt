@@ -1,8 +1,10 @@
 pub mod KeyLemmas
 pub mod FiledLemmas
+pub mod EndLemmas
 pub mod SumLemmas
 pub mod CutLemmas
 pub mod PairLemmas
 pub mod SkipLemmas
 pub mod JoinLemmas
+pub mod KeepLemmas
 pub mod PortLemmas

@@ -10,7 +10,8 @@ use Rattle.cedr_base.specs.declared.change.Change.TheVariants.{Add, Cut}
 use Rattle.cedr_base.specs.Changes.{sync_of}
 use Rattle.op_join.specs.declared.side.Side.{Side}
 use Rattle.op_join.specs.Joins.{PairTest, meet}
-use Rattle.op_join.specs.Pairs.{met, passes_on, both_on, cut_to, pair_changes, changed_row, all_changes, ends_after}
+use Rattle.cedr_table.specs.Counted.{ends_after}
+use Rattle.op_join.specs.Pairs.{met, passes_on, both_on, cut_to, pair_changes, changed_row, all_changes}
 
 never_meet : (b : Bool) (w : List Field) (s t : ℕ) → nat_lt s t ≡ false → meet b w s t ≡ []
 never_meet true w s t h = ap {B = List Row} (λ d. cond d (record { end = t; begin = s; payload = w } ∷ []) []) h
@@ -26,7 +27,8 @@ never_cut true w s t e h = stays (record { end = t; begin = s; payload = w }) e 
 never_cut false w s t e h = refl
 
 module _ (p : PairTest) (side : Side) where
-  ended_alone : (c : Change) (o : Row) → ends_after (sync_of c) o ≡ false → pair_changes c (met p side (changed_row c) o) ≡ []
+  -- a row that ended by the time that a change is seen gives no change
+  pub ended_alone : (c : Change) (o : Row) → ends_after (sync_of c) o ≡ false → pair_changes c (met p side (changed_row c) o) ≡ []
   ended_alone (Add a) o h =
       ap (λ rows. pair_changes (Add a) rows)
       (never_meet (passes_on p side a.payload o.payload) (both_on side a.payload o.payload) (max a.begin o.begin) (min a.end o.end) (grind (arith, nat_tests, h)))

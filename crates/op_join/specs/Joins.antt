@@ -1,7 +1,10 @@
 -- Joins.
-use Rattle.std.specs.Prelude.{ℕ, ◌≡◌, List, [], ◌∷◌, ◌++◌, length, Bool, true, false, nat_lt, min, max, ◌&&◌, if◌then◌else◌}
+use Rattle.std.specs.Prelude.{ℕ, ◌≡◌, List, [], ◌∷◌, ◌++◌, length, Bool, false, nat_lt, min, max, ◌&&◌, if◌then◌else◌}
+use Rattle.std.specs.List.Sorted.{IsStrictlySortedBy}
+use Rattle.std.specs.Map.{keys_of}
 use Rattle.cedr_base.specs.declared.field.Field.{Field}
 use Rattle.cedr_base.specs.declared.row.Row.{Row}
+use Rattle.cedr_base.specs.Order.{payload_cmp}
 use Rattle.cedr_base.specs.Rows.{AreRows}
 use Rattle.cedr_expr.specs.declared.test.Test.{Test}
 use Rattle.cedr_expr.specs.Tests.{passes}
@@ -9,8 +12,11 @@ use Rattle.cedr_base.specs.declared.change.Change.{Change}
 use Rattle.cedr_stream.specs.Repairs.{IsMoved}
 use Rattle.cedr_table.specs.Operators.{Tables, Meaning, table_at, with_table, least_of, CanTake, Gains}
 use Rattle.cedr_table.specs.Choices.{chosen}
+use Rattle.cedr_table.specs.Counted.{ends_after, SameAmong}
+use Rattle.op_join.specs.declared.filed.Filed.{Filed}
 use Rattle.op_join.specs.Keys.{left_key, right_key}
-use Rattle.op_join.specs.Filed.{FiledRows, Files}
+use Rattle.op_join.specs.Filed.{Files}
+use Rattle.op_join.specs.Ends.{AreEnds}
 
 -- which pairs of payloads pass
 abbrev pub PairTest : Type 0
@@ -29,25 +35,33 @@ abbrev pub joined_rows : PairTest → List Row → List Row
 joined_rows pass (a ∷ b ∷ []) = joined pass a b
 joined_rows pass rows = []
 
--- Two ports. There is one row for each pair that passes, and the bound is the least mark.
+-- Two ports. There is one row for each pair that passes, and the bound is the least mark. A row may be held that ends
+-- after that.
 abbrev pub join_of : List Test → Meaning
 join_of tests = record {
   ports = 2;
   result = chosen (joined_rows (passes tests));
   bound = λ _ marks. least_of marks;
-  may_hold = λ _ _ _ _. true;
+  may_hold = λ _ marks _ r. ends_after (least_of marks) r;
   echoes = false;
   stateless = false;
 }
 
--- both tables are filed under the fields that equality tests compare, and have rows only
-pub record StandsOnTwo (tests : List Test) (width : ℕ) (lefts rights : FiledRows) (tables : Tables) (marks : List ℕ) : Type 0 where
+-- Rows are filed under their keys, with their ends. They are those of a table, but for rows that end by a time.
+pub record Keeps (key_of : List Field → List Field) (filed : Filed) (time : ℕ) (table : List Row) : Type 0 where
+  pub kept : List Row
+  pub same : SameAmong (ends_after time) kept table
+  pub rows : AreRows kept
+  pub files : Files key_of filed.by_key.entries kept
+  pub ends : AreEnds filed.by_key.entries filed.ends
+  pub ordered : IsStrictlySortedBy payload_cmp (keys_of filed.by_key.entries)
+
+-- both tables are filed under the fields that equality tests compare, but for rows that end by the least mark
+pub record StandsOnTwo (tests : List Test) (width : ℕ) (left right : Filed) (tables : Tables) (marks : List ℕ) : Type 0 where
   pub table : length tables ≡ 2
   pub mark : length marks ≡ 2
-  pub left : Files (left_key width tests) lefts (table_at tables 0)
-  pub right : Files (right_key width tests) rights (table_at tables 1)
-  pub left_rows : AreRows (table_at tables 0)
-  pub right_rows : AreRows (table_at tables 1)
+  pub lefts : Keeps (left_key width tests) left (least_of marks) (table_at tables 0)
+  pub rights : Keeps (right_key width tests) right (least_of marks) (table_at tables 1)
 
 -- a state stands for what a legal change of a port makes of the tables
 abbrev pub StandsAfter : (Tables → List ℕ → Type 0) → (Tables → List ℕ → Type 0) → ℕ → Change → Type 0

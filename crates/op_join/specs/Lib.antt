@@ -1,5 +1,6 @@
 pub mod Keys
 pub mod Filed
+pub mod Ends
 pub mod Pairs
 pub mod Joins
 pub mod JoinLaws

@@ -38,7 +38,3 @@ changed_row (Cut a e) = a
 -- what a change does to the rows of all its pairs
 abbrev pub all_changes : PairTest → Side → Change → List Row → List Change
 all_changes pass side c others = flat_map (λ o. pair_changes c (met pass side (changed_row c) o)) others
-
--- a row that ends after a time
-abbrev pub ends_after : ℕ → Row → Bool
-ends_after time r = nat_lt time r.end

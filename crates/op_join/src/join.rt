@@ -5,10 +5,11 @@ ghost use Rattle.cedr_base.specs.Order.{payload_cmp};
 ghost use Rattle.cedr_expr.specs.Tests.{passes};
 ghost use Rattle.cedr_table.specs.Operators.{Tables, CanTake};
 ghost use Rattle.op_join.specs.Keys.{right_key};
-ghost use Rattle.op_join.specs.Filed.{Files, listed, left_partners, right_partners};
+ghost use Rattle.op_join.specs.Filed.{Files, listed};
+ghost use Rattle.op_join.specs.Ends.{AreEnds};
 ghost use Rattle.op_join.specs.Joins.{join_of, StandsOnTwo, StandsAfter, RepairsAfter};
 
-use crate::filed::{Filed, all_rows, note};
+use crate::filed::{ByKey, Filed, all_rows};
 use crate::keys::{full_key, left_key};
 use crate::pairs::row_of;
 use crate::partners::{repair_left, repair_right};
@@ -17,7 +18,6 @@ use cedr_base::{Change, OutOfMemory, Payload, Row, Time};
 use cedr_expr::{Test, Tests};
 use cedr_table::{Operator, least_mark};
 use std::alloc::Global;
-use std::collections::BTreeMap;
 
 /// One row for each pair of a left row and a right one whose payloads pass tests: it is valid while both are, and
 /// its payload is theirs, left then right. Port 0 is the left one. The bound is the least mark.
@@ -25,13 +25,16 @@ use std::collections::BTreeMap;
 /// A change costs O(log n) comparisons, and O(1) for each row of the other port that has its row's key and ends after
 /// the change is seen. The key is the fields that equality tests between the two sides compare, at the width of the left
 /// payloads. Left rows of two widths are allowed: those of another width than the first one meet all rows.
+///
+/// It keeps a row until the least mark reaches its end, and with each row its end in a second order, so that the rows
+/// that ended are found without a look at the others.
 #[derive(Drop)]
 pub struct Join {
     alloc: Global,
     tests: Tests,
     width: usize,
-    left: Filed,
-    right: Filed,
+    pub(crate) left: Filed,
+    pub(crate) right: Filed,
 }
 
 impl Join {
@@ -44,22 +47,22 @@ impl Join {
             alloc,
             tests,
             width: 0,
-            left: BTreeMap::new(alloc),
-            right: BTreeMap::new(alloc),
+            left: Filed::new(alloc),
+            right: Filed::new(alloc),
         }
     }
 
     /// Takes this width as that of the left payloads, where no left row is held. The right rows are filed anew
     /// then, which costs O(n log n) in them: in a plan all left rows have one width, so it happens once.
     fn settle(&mut self, width: usize) -> Result<(), OutOfMemory>
-        ensures stands { OnOk result ((tables : Tables) (marks : List ℕ) → StandsOnTwo self.old.tests self.old.width self.old.left.entries self.old.right.entries tables marks
-            → StandsOnTwo self.new.tests self.new.width self.new.left.entries self.new.right.entries tables marks) }
+        ensures stands { OnOk result ((tables : Tables) (marks : List ℕ) → StandsOnTwo self.old.tests self.old.width self.old.left self.old.right tables marks
+            → StandsOnTwo self.new.tests self.new.width self.new.left self.new.right tables marks) }
         ensures tests { self.new.tests ≡ self.old.tests }
     {
-        if self.width == width || !self.left.is_empty() {
+        if self.width == width || !self.left.by_key.is_empty() {
             return Ok(());
         }
-        self.right = file_right(self.alloc, width, self.tests.as_slice(), &self.right)?;
+        self.right = file_right(self.alloc, width, self.tests.as_slice(), &self.right.by_key)?;
         self.width = width;
         Ok(())
     }
@@ -71,18 +74,18 @@ impl Join {
         change: &Change,
         out: &mut Vec<Change>,
     ) -> Result<(), OutOfMemory>
-        requires { (tables : Tables) × (marks : List ℕ) × StandsOnTwo self.old.tests self.old.width self.old.left.entries self.old.right.entries tables marks × CanTake tables marks 0 change.now }
-        ensures stands { OnOk result (StandsAfter (StandsOnTwo self.old.tests self.old.width self.old.left.entries self.old.right.entries)
-            (StandsOnTwo self.new.tests self.new.width self.new.left.entries self.new.right.entries) 0 change.now) }
-        ensures repairs { OnOk result (RepairsAfter (StandsOnTwo self.old.tests self.old.width self.old.left.entries self.old.right.entries) (join_of self.old.tests) 0 change.now out.old.items out.new.items) }
+        requires { (tables : Tables) × (marks : List ℕ) × StandsOnTwo self.old.tests self.old.width self.old.left self.old.right tables marks × CanTake tables marks 0 change.now }
+        ensures stands { OnOk result (StandsAfter (StandsOnTwo self.old.tests self.old.width self.old.left self.old.right)
+            (StandsOnTwo self.new.tests self.new.width self.new.left self.new.right) 0 change.now) }
+        ensures repairs { OnOk result (RepairsAfter (StandsOnTwo self.old.tests self.old.width self.old.left self.old.right) (join_of self.old.tests) 0 change.now out.old.items out.new.items) }
         ensures tests { self.new.tests ≡ self.old.tests }
         ensures err { OnErr result (take (length out.old.items) out.new.items ≡ out.old.items) }
     {
         let row = row_of(change);
         self.settle(row.payload.fields().len())?;
         let key = left_key(alloc, self.width, self.tests.as_slice(), &row.payload)?;
-        repair_right(alloc, &self.tests, change, &self.right, &key, out)?;
-        note(alloc, &mut self.left, key, change)?;
+        repair_right(alloc, &self.tests, change, &self.right.by_key, &key, out)?;
+        self.left.note(alloc, key, change)?;
         Ok(())
     }
 
@@ -93,10 +96,10 @@ impl Join {
         change: &Change,
         out: &mut Vec<Change>,
     ) -> Result<(), OutOfMemory>
-        requires { (tables : Tables) × (marks : List ℕ) × StandsOnTwo self.old.tests self.old.width self.old.left.entries self.old.right.entries tables marks × CanTake tables marks 1 change.now }
-        ensures stands { OnOk result (StandsAfter (StandsOnTwo self.old.tests self.old.width self.old.left.entries self.old.right.entries)
-            (StandsOnTwo self.new.tests self.new.width self.new.left.entries self.new.right.entries) 1 change.now) }
-        ensures repairs { OnOk result (RepairsAfter (StandsOnTwo self.old.tests self.old.width self.old.left.entries self.old.right.entries) (join_of self.old.tests) 1 change.now out.old.items out.new.items) }
+        requires { (tables : Tables) × (marks : List ℕ) × StandsOnTwo self.old.tests self.old.width self.old.left self.old.right tables marks × CanTake tables marks 1 change.now }
+        ensures stands { OnOk result (StandsAfter (StandsOnTwo self.old.tests self.old.width self.old.left self.old.right)
+            (StandsOnTwo self.new.tests self.new.width self.new.left self.new.right) 1 change.now) }
+        ensures repairs { OnOk result (RepairsAfter (StandsOnTwo self.old.tests self.old.width self.old.left self.old.right) (join_of self.old.tests) 1 change.now out.old.items out.new.items) }
         ensures tests { self.new.tests ≡ self.old.tests }
         ensures err { OnErr result (take (length out.old.items) out.new.items ≡ out.old.items) }
     {
@@ -108,8 +111,8 @@ impl Join {
             self.tests.as_slice(),
             &row.payload,
         )?;
-        repair_left(alloc, &self.tests, change, &self.left, &key, out)?;
-        note(alloc, &mut self.right, key, change)?;
+        repair_left(alloc, &self.tests, change, &self.left.by_key, &key, out)?;
+        self.right.note(alloc, key, change)?;
         Ok(())
     }
 
@@ -121,10 +124,10 @@ impl Join {
         change: &Change,
         out: &mut Vec<Change>,
     ) -> Result<(), OutOfMemory>
-        requires { (tables : Tables) × (marks : List ℕ) × StandsOnTwo self.old.tests self.old.width self.old.left.entries self.old.right.entries tables marks × CanTake tables marks port change.now }
-        ensures stands { OnOk result (StandsAfter (StandsOnTwo self.old.tests self.old.width self.old.left.entries self.old.right.entries)
-            (StandsOnTwo self.new.tests self.new.width self.new.left.entries self.new.right.entries) port change.now) }
-        ensures repairs { OnOk result (RepairsAfter (StandsOnTwo self.old.tests self.old.width self.old.left.entries self.old.right.entries) (join_of self.old.tests) port change.now out.old.items out.new.items) }
+        requires { (tables : Tables) × (marks : List ℕ) × StandsOnTwo self.old.tests self.old.width self.old.left self.old.right tables marks × CanTake tables marks port change.now }
+        ensures stands { OnOk result (StandsAfter (StandsOnTwo self.old.tests self.old.width self.old.left self.old.right)
+            (StandsOnTwo self.new.tests self.new.width self.new.left self.new.right) port change.now) }
+        ensures repairs { OnOk result (RepairsAfter (StandsOnTwo self.old.tests self.old.width self.old.left self.old.right) (join_of self.old.tests) port change.now out.old.items out.new.items) }
         ensures tests { self.new.tests ≡ self.old.tests }
         ensures err { OnErr result (take (length out.old.items) out.new.items ≡ out.old.items) }
     {
@@ -141,16 +144,18 @@ fn file_right(
     alloc: Global,
     width: usize,
     keys: &[Test],
-    right: &Filed,
+    right: &ByKey,
 ) -> Result<Filed, OutOfMemory>
-    ensures filed { IfOk result (λ filed. Files (right_key width keys.now) filed.entries (listed right.now.entries)) }
-    ensures ordered { OnOk result (IsOrdered payload_cmp right.now) }
+    ensures filed { IfOk result (λ filed. Files (right_key width keys.now) filed.by_key.entries (listed right.now.entries)) }
+    ensures ends { IfOk result (λ filed. AreEnds filed.by_key.entries filed.ends) }
+    ensures ordered { IfOk result (λ filed. IsOrdered payload_cmp filed.by_key) }
+    ensures was_ordered { OnOk result (IsOrdered payload_cmp right.now) }
 {
     let rows = all_rows(alloc, right)?;
-    let mut filed = BTreeMap::new(alloc);
+    let mut filed = Filed::new(alloc);
     for row in rows {
         let key = full_key(alloc, Side::Right, width, keys, &row.payload)?;
-        note(alloc, &mut filed, key, &Change::Add(row))?;
+        filed.note(alloc, key, &Change::Add(row))?;
     }
     Ok(filed)
 }
@@ -161,9 +166,9 @@ impl Operator for Join {
 
     ghost meaning = { λ s. join_of s.tests };
 
-    ghost stands = { λ s tables marks. StandsOnTwo s.tests s.width s.left.entries s.right.entries tables marks };
+    ghost stands = { λ s tables marks. StandsOnTwo s.tests s.width s.left s.right tables marks };
 
-    ghost held = { λ s. all_under s.left.entries ∷ all_under s.right.entries ∷ [] };
+    ghost held = { λ s. all_under s.left.by_key.entries ∷ all_under s.right.by_key.entries ∷ [] };
 
     fn ports(&self) -> usize {
         2
@@ -188,7 +193,11 @@ impl Operator for Join {
         least_mark(marks)
     }
 
-    fn trim(&mut self, _marks: &[Time]) {}
+    fn trim(&mut self, marks: &[Time]) {
+        let least = least_mark(marks);
+        self.left.forget_ended(least);
+        self.right.forget_ended(least);
+    }
 
-    ghost lawful = { λ s. join_laws s.tests s.width s.left.entries s.right.entries };
+    ghost lawful = { λ s. join_laws s.tests s.width s.left s.right };
 }

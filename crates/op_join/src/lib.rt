@@ -16,6 +16,8 @@ pub use join::Join;
 #[cfg(test)]
 mod fed_tests;
 #[cfg(test)]
+mod held_tests;
+#[cfg(test)]
 mod tests;
 #[cfg(test)]
 mod worked;

@@ -2,9 +2,9 @@ ghost use Rattle.std.specs.Prelude.{◌≡◌, ◌<◌, ◌++◌, OnOk, OnErr, I
 ghost use Rattle.std.specs.List.{filter};
 ghost use Rattle.cedr_base.specs.declared.time.TheConstants.{FOREVER};
 ghost use Rattle.cedr_base.specs.Changes.{sync_of};
-ghost use Rattle.cedr_table.specs.Counted.{spread};
+ghost use Rattle.cedr_table.specs.Counted.{spread, ends_after};
 ghost use Rattle.cedr_expr.specs.Tests.{passes};
-ghost use Rattle.op_join.specs.Pairs.{passes_on, both_on, met, pair_changes, changed_row, all_changes, ends_after};
+ghost use Rattle.op_join.specs.Pairs.{passes_on, both_on, met, pair_changes, changed_row, all_changes};
 
 use crate::side::Side;
 use cedr_base::{Change, OutOfMemory, Payload, Row, Time};

@@ -8,7 +8,7 @@ ghost use Rattle.op_join.specs.declared.side.Side.TheVariants.{Left, Right};
 ghost use Rattle.op_join.specs.Filed.{under, all_under, left_partners, right_partners};
 ghost use Rattle.op_join.specs.Pairs.{all_changes};
 
-use crate::filed::Filed;
+use crate::filed::ByKey;
 use crate::pairs::repair_pairs;
 use crate::side::Side;
 use cedr_base::{Change, OutOfMemory, Payload};
@@ -22,7 +22,7 @@ fn repair_under(
     tests: &Tests,
     side: Side,
     change: &Change,
-    filed: &Filed,
+    filed: &ByKey,
     key: &Payload,
     out: &mut Vec<Change>,
 ) -> Result<(), OutOfMemory>
@@ -42,7 +42,7 @@ fn repair_all(
     tests: &Tests,
     side: Side,
     change: &Change,
-    filed: &Filed,
+    filed: &ByKey,
     out: &mut Vec<Change>,
 ) -> Result<(), OutOfMemory>
     requires { sync_of change.now < FOREVER }
@@ -62,7 +62,7 @@ pub(crate) fn repair_right(
     alloc: Global,
     tests: &Tests,
     change: &Change,
-    right: &Filed,
+    right: &ByKey,
     key: &Payload,
     out: &mut Vec<Change>,
 ) -> Result<(), OutOfMemory>
@@ -84,7 +84,7 @@ pub(crate) fn repair_left(
     alloc: Global,
     tests: &Tests,
     change: &Change,
-    left: &Filed,
+    left: &ByKey,
     key: &Payload,
     out: &mut Vec<Change>,
 ) -> Result<(), OutOfMemory>

@@ -10,7 +10,7 @@ pub(crate) fn no_tests(alloc: Global) -> Result<Tests, Fail> {
 }
 
 /// Tests that the columns of both payloads are equal.
-fn same_column(alloc: Global) -> Result<Tests, Fail> {
+pub(crate) fn same_column(alloc: Global) -> Result<Tests, Fail> {
     let mut tests = Vec::new(alloc);
     tests.push(Test {
         left: 0,

@@ -3,6 +3,7 @@ use Rattle.std.proofs.Common.{◌≡◌, ℕ, zero, suc, ◌<◌, ◌≤◌, Lis
 use Rattle.cedr_base.specs.declared.time.TheConstants.{FOREVER}
 use Rattle.cedr_base.specs.declared.row.Row.{Row}
 use Rattle.cedr_expr.specs.declared.test.Test.{Test}
+use Rattle.cedr_expr.specs.Tests.{passes}
 use Rattle.cedr_plan.specs.declared.plan.NodeKind.{NodeKind}
 use Rattle.cedr_plan.specs.declared.plan.NodeKind.TheVariants as kind
 use Rattle.cedr_stream.proofs.BagSums.{same_flat_map}
@@ -12,8 +13,7 @@ use Rattle.cedr_table.specs.RowWise.{row_wise}
 use Rattle.op_row.specs.Rows.{selected, projected}
 use Rattle.op_row.specs.Unions.{union_of}
 use Rattle.op_row.specs.UnionLaws.{same_united, nothing_united}
-use Rattle.op_join.specs.Joins.{join_of}
-use Rattle.op_join.specs.JoinLaws.{join_laws}
+use Rattle.op_join.specs.Joins.{join_of, joined_rows}
 use Rattle.op_life.specs.Lifetimes.{with_life, windowed, shifted, shifted_mark, hopped, hopped_mark, started, ended}
 use Rattle.op_life.specs.LifetimeLaws.{multiple_least, shifted_rises, shifted_is_time, hopped_rises, hopped_is_time}
 use Rattle.op_group.specs.Groups.{Grouping, grouping_by, group_of, grouped}
@@ -22,7 +22,7 @@ use Rattle.op_group.specs.BoundLaws.{open_rises, same_open}
 use Rattle.op_group.specs.StateLaws.{open_is_time}
 use Rattle.pat_seq.specs.Sequences.{sequence, sequence_of}
 use Rattle.pat_seq.specs.SequenceLaws.{no_sequence}
-use Rattle.cedr_table.proofs.ChoiceLemmas.{same_chosen}
+use Rattle.cedr_table.proofs.ChoiceLemmas.{same_chosen, nothing_chosen}
 use Rattle.pat_unless.specs.Blocking.{unless_of}
 use Rattle.pat_unless.specs.BlockingLaws.{unless_laws}
 use Rattle.op_planned.specs.Outputs.{handed_on}
@@ -66,18 +66,16 @@ union_meaning n many = record {
 }
 
 join_meaning : (tests : List Test) → MeaningLaws (join_of tests) 2
-join_meaning tests =
-    let laws = join_laws tests 0 [] [] in
-    record {
-      ports = (refl, omega arith);
-      same_result = laws.same_rows;
-      same_bound = λ tables others marks k. refl;
-      bound_is_time = λ tables marks table mark k. least_is_time marks;
-      bound_rises = λ tables marks later k. least_rises marks later k;
-      nothing = laws.nothing;
-      first_bound = refl;
-      echo = λ e. cc;
-    }
+join_meaning tests = record {
+  ports = (refl, omega arith);
+  same_result = λ tables others k. same_chosen (joined_rows (passes tests)) tables others k;
+  same_bound = λ tables others marks k. refl;
+  bound_is_time = λ tables marks table mark k. least_is_time marks;
+  bound_rises = λ tables marks later k. least_rises marks later k;
+  nothing = nothing_chosen (joined_rows (passes tests)) 1;
+  first_bound = refl;
+  echo = λ e. cc;
+}
 
 sequence_meaning : (n scope : ℕ) (tests : List Test) → 2 ≤ n → MeaningLaws (sequence_of n scope tests) n
 sequence_meaning n scope tests many = record {

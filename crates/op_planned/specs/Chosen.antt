@@ -37,15 +37,15 @@ abbrev pub ChosenStands : Planned → Tables → List ℕ → Type 0
 ChosenStands (planned.Select op) = StandsOnOne (Unit {0})
 ChosenStands (planned.Project op) = StandsOnOne (Unit {0})
 ChosenStands (planned.Union op) = StandsOnPorts op.ports
-ChosenStands (planned.Join op) = StandsOnTwo op.tests op.width op.left.entries op.right.entries
+ChosenStands (planned.Join op) = StandsOnTwo op.tests op.width op.left op.right
 ChosenStands (planned.Window op) = StandsOnOne (IsWhile op.width)
 ChosenStands (planned.Shift op) = StandsOnOne (IsWhile op.by)
 ChosenStands (planned.Hop op) = StandsOnOne (IsWhile op.every × IsWhile op.width)
 ChosenStands (planned.Starts op) = StandsOnOne (Unit {0})
 ChosenStands (planned.Ends op) = StandsOnOne (Unit {0})
-ChosenStands (planned.Group op) = StandsForGroups (grouping_by op.keys op.count op.sums.items) op.groups.entries op.index.entries
-ChosenStands (planned.Sequence op) = StandsByBegin (IsSequence (length op.kept.items) op.scope) op.kept.items
-ChosenStands (planned.Unless op) = StandsByBegin (AreWhiles op.terms.scope op.terms.hold) (op.rows ∷ op.blockers ∷ [])
+ChosenStands (planned.Group op) = StandsForGroups (grouping_by op.keys op.count op.sums.items) op.groups.entries op.points
+ChosenStands (planned.Sequence op) = StandsByBegin (IsSequence (length op.kept.items) op.scope) op.scope op.kept.items
+ChosenStands (planned.Unless op) = StandsByBegin (AreWhiles op.terms.scope op.terms.hold) op.terms.scope (op.rows ∷ op.blockers ∷ [])
 ChosenStands (planned.Output op) = StandsForOne
 
 -- the rows that it holds, port by port
@@ -53,13 +53,13 @@ abbrev pub chosen_held : Planned → Tables
 chosen_held (planned.Select op) = []
 chosen_held (planned.Project op) = []
 chosen_held (planned.Union op) = []
-chosen_held (planned.Join op) = all_under op.left.entries ∷ all_under op.right.entries ∷ []
+chosen_held (planned.Join op) = all_under op.left.by_key.entries ∷ all_under op.right.by_key.entries ∷ []
 chosen_held (planned.Window op) = []
 chosen_held (planned.Shift op) = []
 chosen_held (planned.Hop op) = []
 chosen_held (planned.Starts op) = []
 chosen_held (planned.Ends op) = []
-chosen_held (planned.Group op) = group_held op.groups.entries op.index.entries
+chosen_held (planned.Group op) = group_held op.groups.entries
 chosen_held (planned.Sequence op) = op.kept.items
 chosen_held (planned.Unless op) = op.rows ∷ op.blockers ∷ []
 chosen_held (planned.Output op) = []

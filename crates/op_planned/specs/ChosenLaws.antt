@@ -20,7 +20,7 @@ pub chosen_laws : (op : Planned) → OperatorLaws (chosen_meaning op) (ChosenSta
 chosen_laws (planned.Select op) = row_wise_laws (Unit {0}) (selected op.tests) (λ mark. mark) (λ range mark higher rise. rise) (λ range mark h. h)
 chosen_laws (planned.Project op) = row_wise_laws (Unit {0}) (projected op.keep) (λ mark. mark) (λ range mark higher rise. rise) (λ range mark h. h)
 chosen_laws (planned.Union op) = union_laws op.ports
-chosen_laws (planned.Join op) = join_laws op.tests op.width op.left.entries op.right.entries
+chosen_laws (planned.Join op) = join_laws op.tests op.width op.left op.right
 chosen_laws (planned.Window op) = row_wise_laws (IsWhile op.width) (with_life (windowed op.width)) (λ mark. mark) (λ range mark higher rise. rise) (λ range mark h. h)
 chosen_laws (planned.Shift op) = row_wise_laws (IsWhile op.by) (with_life (shifted op.by)) (shifted_mark op.by) (λ range mark higher rise. shifted_rises op.by mark higher rise) (λ range mark h. shifted_is_time op.by mark)
 chosen_laws (planned.Hop op) =
@@ -28,7 +28,7 @@ chosen_laws (planned.Hop op) =
     (λ range mark higher rise. hopped_rises op.every mark higher range.0.least rise) (λ range mark h. hopped_is_time op.every mark)
 chosen_laws (planned.Starts op) = row_wise_laws (Unit {0}) (with_life started) (λ mark. mark) (λ range mark higher rise. rise) (λ range mark h. h)
 chosen_laws (planned.Ends op) = row_wise_laws (Unit {0}) (with_life ended) (λ mark. mark) (λ range mark higher rise. rise) (λ range mark h. h)
-chosen_laws (planned.Group op) = group_laws (grouping_by op.keys op.count op.sums.items) op.groups.entries op.index.entries
+chosen_laws (planned.Group op) = group_laws (grouping_by op.keys op.count op.sums.items) op.groups.entries op.points
 chosen_laws (planned.Sequence op) = sequence_laws op.scope op.tests op.kept.items
 chosen_laws (planned.Unless op) = unless_laws op.terms.scope op.terms.hold op.terms.tests op.rows op.blockers
 chosen_laws (planned.Output op) = output_laws

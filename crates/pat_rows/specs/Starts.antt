@@ -5,6 +5,7 @@ use Rattle.cedr_base.specs.declared.row.Row.{Row}
 use Rattle.cedr_base.specs.declared.change.Change.{Change}
 use Rattle.cedr_base.specs.declared.change.Change.TheVariants.{Add, Cut}
 use Rattle.cedr_base.specs.Rows.{count_of}
+use Rattle.cedr_stream.specs.Times.{later}
 use Rattle.cedr_table.specs.Operators.{Tables}
 
 -- the row as if it never ended
@@ -20,6 +21,10 @@ endless_tables tables = map all_endless tables
 -- the row begins at a time or later, and before another one
 abbrev pub begins_within : ℕ → ℕ → Row → Bool
 begins_within from before r = nat_le from r.begin && nat_lt r.begin before
+
+-- the scope of a row, which begins with it, ends after a time
+abbrev pub reaches : ℕ → ℕ → Row → Bool
+reaches scope time r = nat_lt time (later r.begin scope)
 
 -- each row never ends
 abbrev pub AreEndless : List Row → Type 0

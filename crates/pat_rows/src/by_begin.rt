@@ -1,10 +1,10 @@
-ghost use Rattle.std.specs.Prelude.{◌≡◌, ◌++◌, [], OnOk, OnErr, IfOk};
+ghost use Rattle.std.specs.Prelude.{◌≡◌, ◌++◌, [], length, not, OnOk, OnErr, IfOk};
 ghost use Rattle.std.specs.List.{filter};
 ghost use Rattle.cedr_base.specs.declared.time.TheConstants.{FOREVER};
 ghost use Rattle.cedr_base.specs.Rows.{SameRows};
 ghost use Rattle.cedr_base.specs.Changes.{puts, takes};
-ghost use Rattle.cedr_table.specs.Counted.{spread};
-ghost use Rattle.pat_rows.specs.Starts.{endless, all_endless, begins_within, AreWithin, HasRow};
+ghost use Rattle.cedr_table.specs.Counted.{spread, IsTakenOut};
+ghost use Rattle.pat_rows.specs.Starts.{endless, all_endless, begins_within, reaches, AreEndless, AreWithin, HasRow};
 
 use cedr_base::{Change, FOREVER, OutOfMemory, Payload, Row, Time};
 use cedr_table::Table;
@@ -56,6 +56,33 @@ fn first_at(alloc: Global, begin: Time) -> Row
     }
 }
 
+/// Whether the scope of a row, which begins with it, ends after a time.
+fn reaches(scope: u64, time: Time, row: &Row) -> bool
+    ensures { result ≡ reaches scope time row.now }
+{
+    time < FOREVER && time < row.begin.saturating_add(scope)
+}
+
+/// Takes the first row away where its scope ends by a time.
+fn pop_passed(rows: &mut Table, scope: u64, time: Time) -> Option<(Row, usize)>
+    requires { AreEndless rows.old }
+    ensures { IsTakenOut (λ r. not (reaches scope time r)) rows.old rows.new result }
+{
+    match rows.first() {
+        Some(row) if !reaches(scope, time, row) => rows.pop_first(),
+        _ => None,
+    }
+}
+
+/// Takes the rows away whose scope ends by a time.
+fn drop_passed(rows: &mut Table, scope: u64, time: Time)
+    requires { AreEndless rows.old }
+    ensures left { SameRows rows.new (filter (reaches scope time) rows.old) }
+    ensures endless { AreEndless rows.new }
+{
+    while let Some(_gone) = pop_passed(rows, scope, time) {}
+}
+
 impl ByBegin {
     /// A bag with no row. It takes no memory.
     pub fn new(alloc: Global) -> ByBegin
@@ -64,6 +91,13 @@ impl ByBegin {
         ByBegin {
             rows: Table::new(alloc),
         }
+    }
+
+    /// How many rows there are. It takes no memory. O(1).
+    pub fn len(&self) -> usize
+        ensures { result ≡ length self.now }
+    {
+        self.rows.len()
     }
 
     /// Applies a change, of which the row's begin and its payload count. O(log n) comparisons in the different
@@ -86,6 +120,14 @@ impl ByBegin {
             }
         }
         Ok(())
+    }
+
+    /// Forgets the rows whose scope, which begins with them, ends by a time. It takes no memory. O(log n) for each
+    /// different one of them, and for one that stays.
+    pub fn forget(&mut self, scope: u64, time: Time)
+        ensures { SameRows self.new (filter (reaches scope time) self.old) }
+    {
+        drop_passed(&mut self.rows, scope, time);
     }
 
     /// The rows that begin at a time or later, and before another one, with the number of their copies: in order

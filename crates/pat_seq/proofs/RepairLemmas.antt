@@ -6,14 +6,14 @@ use Rattle.cedr_base.specs.declared.row.Row.{Row}
 use Rattle.cedr_base.specs.declared.change.Change.{Change}
 use Rattle.cedr_base.specs.declared.change.Change.TheVariants.{Add, Cut}
 use Rattle.cedr_base.specs.Rows.{count_of, SameRows}
-use Rattle.cedr_base.specs.Changes.{sync_of, puts, takes}
+use Rattle.cedr_base.specs.Changes.{sync_of, puts, takes, MayFollow}
 use Rattle.cedr_stream.specs.Repairs.{IsMoved}
 use Rattle.cedr_stream.specs.Times.{later}
-use Rattle.cedr_stream.proofs.BagSums.{same_itself}
+use Rattle.cedr_stream.proofs.BagSums.{same_itself, same_along}
 use Rattle.cedr_stream.proofs.Moves.{remnant_some, remnant_none}
 use Rattle.cedr_stream.proofs.RepairLemmas.{Turns}
-use Rattle.cedr_table.specs.Operators.{Tables, Gains, CanTake, table_at, mark_at, with_table, least_of}
-use Rattle.cedr_table.specs.PortLaws.{least_below}
+use Rattle.cedr_table.specs.Operators.{Tables, Gains, CanTake, SameTables, table_at, mark_at, with_table, least_of}
+use Rattle.cedr_table.specs.PortLaws.{least_below, same_length}
 use Rattle.cedr_table.specs.Choices.{choices, chosen}
 use Rattle.cedr_table.proofs.ChoiceLemmas.{same_chosen, chosen_repairs}
 use Rattle.cedr_expr.specs.declared.test.Test.{Test}
@@ -28,6 +28,7 @@ use Rattle.pat_rows.proofs.AnswerLemmas.{AllLate, late_earlier, come_turns, go_t
 use Rattle.pat_rows.proofs.EndlessLemmas.{endless_with, same_with, stands_after, stands_new, length-with}
 use Rattle.pat_seq.specs.Sequences.{ascends, last_begin, joined, sequence, IsSequence}
 use Rattle.pat_seq.specs.Steps.{matches, IsAnswered}
+use Rattle.pat_seq.proofs.ReachLemmas.{among_chosen}
 use Rattle.pat_seq.proofs.MatchLemmas.{chosen-cons, matches_are, late_matches}
 
 -- choices of rows without their ends
@@ -69,15 +70,15 @@ alike_ends scope tests ts us same = sym (chosen_same scope tests ts) ∙ (ap (ch
 with_alike : (ts : Tables) (port : ℕ) (xs ys : List Row) → all_endless xs ≡ all_endless ys → endless_tables (with_table ts port xs) ≡ endless_tables (with_table ts port ys)
 with_alike ts port xs ys same = endless_with ts port xs ∙ (ap (with_table (endless_tables ts) port) same ∙ sym (endless_with ts port ys))
 
--- the rows that are kept give the same choices with a changed row as the tables do
-kept_chosen : {range : Type 0} (scope : ℕ) (tests : List Test) (kept tables : Tables) (marks : List ℕ) (port : ℕ) (x : Row) → StandsByBegin range kept tables marks
+-- the rows that are kept give the same choices with a changed row as those that they are without their ends
+kept_chosen : (scope : ℕ) (tests : List Test) (kept tables : Tables) (port : ℕ) (x : Row) → SameTables kept (endless_tables tables)
     → SameRows (chosen (sequence scope tests) (with_table kept port (x ∷ []))) (chosen (sequence scope tests) (with_table tables port (x ∷ [])))
-kept_chosen scope tests kept tables marks port x stands =
+kept_chosen scope tests kept tables port x rows =
     let ended : chosen (sequence scope tests) (with_table kept port (x ∷ [])) ≡ chosen (sequence scope tests) (with_table kept port (endless x ∷ [])) = alike_ends scope tests (with_table kept port (x ∷ [])) (with_table kept port (endless x ∷ [])) (with_alike kept port (x ∷ []) (endless x ∷ []) refl) in
     let full : chosen (sequence scope tests) (with_table (endless_tables tables) port (endless x ∷ [])) ≡ chosen (sequence scope tests) (with_table tables port (x ∷ [])) = ap (chosen (sequence scope tests)) (sym (endless_with tables port (x ∷ []))) ∙ chosen_same scope tests (with_table tables port (x ∷ [])) in
     subst (λ rows. SameRows rows (chosen (sequence scope tests) (with_table tables port (x ∷ [])))) (sym ended)
     (subst (SameRows (chosen (sequence scope tests) (with_table kept port (endless x ∷ [])))) full
-    (same_chosen (sequence scope tests) (with_table kept port (endless x ∷ [])) (with_table (endless_tables tables) port (endless x ∷ [])) (same_with kept (endless_tables tables) port (endless x ∷ []) (endless x ∷ []) stands.rows (same_itself (endless x ∷ [])))))
+    (same_chosen (sequence scope tests) (with_table kept port (endless x ∷ [])) (with_table (endless_tables tables) port (endless x ∷ [])) (same_with kept (endless_tables tables) port (endless x ∷ []) (endless x ∷ []) rows (same_itself (endless x ∷ [])))))
 
 -- without a row on a port there is no choice
 chosen_none : (f : List Row → List Row) (ts : Tables) (port : ℕ) → port < length ts → chosen f (with_table ts port []) ≡ []
@@ -85,26 +86,35 @@ chosen_none f [] port within = absurd (omega arith)
 chosen_none f (t ∷ ts) zero within = refl
 chosen_none f (t ∷ ts) (suc port) within = chosen-cons f t (with_table ts port []) ∙ flat_map-none (λ r. chosen (λ rs. f (r ∷ rs)) (with_table ts port [])) t (λ r. chosen_none (λ rs. f (r ∷ rs)) ts port (omega arith))
 
+length-endless : (ts : Tables) → length (endless_tables ts) ≡ length ts
+length-endless [] = refl
+length-endless (t ∷ ts) = ap (λ n. suc n) (length-endless ts)
+
 -- what is found with a changed row is what the tables' choices with it give, and no row of it is before the least mark
 record IsFound (scope : ℕ) (tests : List Test) (tables : Tables) (marks : List ℕ) (port : ℕ) (x : Row) (rows : List Row) : Type 0 where
   same : SameRows rows (chosen (sequence scope tests) (with_table tables port (x ∷ [])))
   late : AllLate (least_of marks) rows
 
-found : {range : Type 0} (scope : ℕ) (tests : List Test) (kept tables : Tables) (marks : List ℕ) (port : ℕ) (x : Row) → StandsByBegin range kept tables marks → port < length tables → mark_at marks port ≤ x.begin
+found : {range : Type 0} (scope : ℕ) (tests : List Test) (kept tables : Tables) (marks : List ℕ) (port : ℕ) (x : Row) → StandsByBegin range scope kept tables marks → port < length tables → mark_at marks port ≤ x.begin
     → IsFound scope tests tables marks port x (matches scope tests x port kept)
 found scope tests kept tables marks port x stands within from =
     let sizes = stands.table in
     let lengths = stands.mark in
     let least = least_below port marks (omega arith) in
     let are = matches_are scope tests x port kept (omega arith) in
+    let left = same_length kept (endless_tables stands.left) stands.rows in
+    let in_left : port < length stands.left = omega (arith, left, length-endless stands.left) in
     record {
-      same = subst (λ rows. SameRows rows (chosen (sequence scope tests) (with_table tables port (x ∷ [])))) (sym are) (kept_chosen scope tests kept tables marks port x stands);
+      same =
+          subst (λ rows. SameRows rows (chosen (sequence scope tests) (with_table tables port (x ∷ [])))) (sym are)
+          (same_along (chosen (sequence scope tests) (with_table kept port (x ∷ []))) (chosen (sequence scope tests) (with_table stands.left port (x ∷ []))) (chosen (sequence scope tests) (with_table tables port (x ∷ [])))
+          (kept_chosen scope tests kept stands.left port x stands.rows) (among_chosen scope (least_of marks) tests stands.left tables port x stands.same in_left within (omega arith)));
       late = subst (AllLate (least_of marks)) (sym are) (late_earlier (least_of marks) x.begin (chosen (sequence scope tests) (with_table kept port (x ∷ []))) (omega arith) (late_matches scope tests x port kept (omega arith)));
     }
 
 -- a row that comes adds the rows of its choices
 pub row_comes : {range : Type 0} (scope : ℕ) (tests : List Test) (kept kept' tables : Tables) (marks : List ℕ) (port : ℕ) (c : Change) (x : Row) (after : List Row) (given gained : List Change)
-    → c ≡ Add x → StandsByBegin range kept tables marks → CanTake tables marks port c → IsMoved c (table_at tables port) after → IsAnswered scope tests kept kept' port c Comes x given gained
+    → c ≡ Add x → StandsByBegin range scope kept tables marks → CanTake tables marks port c → IsMoved c (table_at tables port) after → IsAnswered scope tests kept kept' port c Comes x given gained
     → Gains (chosen (sequence scope tests) tables) (chosen (sequence scope tests) (with_table tables port after)) (least_of marks) given gained
 row_comes scope tests kept kept' tables marks port c x after given gained is stands can moved answered_ =
     let within = can.port_is in
@@ -121,7 +131,7 @@ row_comes scope tests kept kept' tables marks port c x after given gained is sta
 
 -- a row that goes takes them
 pub row_goes : {range : Type 0} (scope : ℕ) (tests : List Test) (kept kept' tables : Tables) (marks : List ℕ) (port : ℕ) (c : Change) (x : Row) (end : ℕ) (after : List Row) (given gained : List Change)
-    → c ≡ Cut x end → end ≤ x.begin → StandsByBegin range kept tables marks → CanTake tables marks port c → IsMoved c (table_at tables port) after → IsAnswered scope tests kept kept' port c Goes x given gained
+    → c ≡ Cut x end → end ≤ x.begin → StandsByBegin range scope kept tables marks → CanTake tables marks port c → IsMoved c (table_at tables port) after → IsAnswered scope tests kept kept' port c Goes x given gained
     → Gains (chosen (sequence scope tests) tables) (chosen (sequence scope tests) (with_table tables port after)) (least_of marks) given gained
 row_goes scope tests kept kept' tables marks port c x end after given gained is gone stands can moved answered_ =
     let within = can.port_is in
@@ -152,20 +162,23 @@ row_stays scope tests tables marks port c x end after given is lives can moved =
 
 -- the kept rows stand for the tables after an answered change
 pub answered_stands : {way : Way} (scope scope' : ℕ) (tests : List Test) (kept kept' tables : Tables) (marks : List ℕ) (port : ℕ) (c : Change) (x : Row) (after : List Row) (given gained : List Change)
-    → scope' ≡ scope → StandsByBegin (IsSequence (length kept) scope) kept tables marks → IsMoved c (table_at tables port) after → IsAnswered scope tests kept kept' port c way x given gained
-    → StandsByBegin (IsSequence (length kept') scope') kept' (with_table tables port after) marks
-answered_stands scope scope' tests kept kept' tables marks port c x after given gained same stands moved answer =
-    let next = stands_after kept tables marks port c answer.rows after stands answer.step moved in
-    subst (λ (us : Tables). StandsByBegin (IsSequence (length us) scope') us (with_table tables port after) marks) (sym answer.kept_is)
+    → scope' ≡ scope → (stands : StandsByBegin (IsSequence (length kept) scope) scope kept tables marks) → MayFollow (table_at stands.left port) [] c → IsMoved c (table_at tables port) after → IsAnswered scope tests kept kept' port c way x given gained
+    → StandsByBegin (IsSequence (length kept') scope') scope' kept' (with_table tables port after) marks
+answered_stands scope scope' tests kept kept' tables marks port c x after given gained same stands may moved answer =
+    let next = stands_after scope kept tables marks port stands c answer.rows after may answer.step moved in
+    subst (λ (s : ℕ). StandsByBegin (IsSequence (length kept') s) s kept' (with_table tables port after) marks) (sym same)
+    (subst (λ (us : Tables). StandsByBegin (IsSequence (length us) scope) scope us (with_table tables port after) marks) (sym answer.kept_is)
     (record {
-      range = subst (λ (n : ℕ). IsSequence n scope') (sym (length-with kept port answer.rows)) (subst (IsSequence (length kept)) (sym same) stands.range);
+      range = subst (λ (n : ℕ). IsSequence n scope) (sym (length-with kept port answer.rows)) stands.range;
       table = next.table;
       mark = next.mark;
+      left = next.left;
+      same = next.same;
       rows = next.rows;
-    })
+    }))
 
 -- a new sequence stands for empty tables
-pub new_stands : (ports scope : ℕ) (kept : Tables) → 2 ≤ ports → ports ≤ 4 → IsWhile scope → kept ≡ replicate ports [] → StandsByBegin (IsSequence (length kept) scope) kept (replicate ports []) (replicate ports 0)
+pub new_stands : (ports scope : ℕ) (kept : Tables) → 2 ≤ ports → ports ≤ 4 → IsWhile scope → kept ≡ replicate ports [] → StandsByBegin (IsSequence (length kept) scope) scope kept (replicate ports []) (replicate ports 0)
 new_stands ports scope kept least most is_while is =
-    subst (λ (us : Tables). StandsByBegin (IsSequence (length us) scope) us (replicate ports []) (replicate ports 0)) (sym is)
-    (let same = length-replicate {A = List Row} ports [] in stands_new ports (record { least = omega arith; most = omega arith; scope_is = is_while }))
+    subst (λ (us : Tables). StandsByBegin (IsSequence (length us) scope) scope us (replicate ports []) (replicate ports 0)) (sym is)
+    (let same = length-replicate {A = List Row} ports [] in stands_new scope ports (record { least = omega arith; most = omega arith; scope_is = is_while }))

@@ -15,11 +15,11 @@ pub no_sequence : (scope : ℕ) (tests : List Test) (ports : ℕ) → SameRows (
 no_sequence scope tests zero = record { each = λ r. refl }
 no_sequence scope tests (suc ports) = nothing_chosen (sequence scope tests) ports
 
-pub sequence_laws : (scope : ℕ) (tests : List Test) (kept : Tables) → OperatorLaws (sequence_of (length kept) scope tests) (StandsByBegin (IsSequence (length kept) scope) kept)
+pub sequence_laws : (scope : ℕ) (tests : List Test) (kept : Tables) → OperatorLaws (sequence_of (length kept) scope tests) (StandsByBegin (IsSequence (length kept) scope) scope kept)
 sequence_laws scope tests kept = record {
   sized = λ tables marks h. (h.table, h.mark);
-  rising = λ tables marks later h k. stands_later kept tables marks later h k;
-  alike = λ tables others marks k h. stands_alike kept tables others marks k h;
+  rising = λ tables marks later h k. stands_later scope kept tables marks later h k;
+  alike = λ tables others marks k h. stands_alike scope kept tables others marks k h;
   same_rows = λ tables others k. same_chosen (sequence scope tests) tables others k;
   nothing = no_sequence scope tests (length kept);
   bound_rises = λ tables marks later h k. least_rises marks later k;

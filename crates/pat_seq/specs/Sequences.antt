@@ -1,11 +1,12 @@
 -- Sequences.
-use Rattle.std.specs.Prelude.{ℕ, ◌≤◌, List, [], ◌∷◌, Bool, true, false, ◌&&◌, nat_lt, if◌then◌else◌}
+use Rattle.std.specs.Prelude.{ℕ, ◌≤◌, List, [], ◌∷◌, Bool, false, ◌&&◌, nat_lt, if◌then◌else◌}
 use Rattle.std.specs.List.{flat_map}
 use Rattle.cedr_base.specs.declared.field.Field.{Field}
 use Rattle.cedr_base.specs.declared.row.Row.{Row}
 use Rattle.cedr_stream.specs.Times.{later}
 use Rattle.cedr_table.specs.Operators.{Meaning, least_of}
 use Rattle.cedr_table.specs.Choices.{chosen}
+use Rattle.pat_rows.specs.Starts.{reaches}
 use Rattle.cedr_expr.specs.declared.test.Test.{Test}
 use Rattle.cedr_expr.specs.Tests.{passes}
 use Rattle.cedr_stream.specs.Times.{IsWhile}
@@ -34,13 +35,13 @@ abbrev pub sequence : ℕ → List Test → List Row → List Row
 sequence scope tests [] = []
 sequence scope tests (e ∷ es) = if ascends e.begin (later e.begin scope) es && passes tests (joined (e ∷ es)) [] then whole scope e es ∷ [] else []
 
--- one row for each such choice of one row of each port
+-- One row for each such choice of one row of each port. A row may be held whose scope ends after the least mark.
 abbrev pub sequence_of : ℕ → ℕ → List Test → Meaning
 sequence_of ports scope tests = record {
   ports = ports;
   result = chosen (sequence scope tests);
   bound = λ _ marks. least_of marks;
-  may_hold = λ _ _ _ _. true;
+  may_hold = λ _ marks _ r. reaches scope (least_of marks) r;
   echoes = false;
   stateless = false;
 }

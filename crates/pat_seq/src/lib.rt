@@ -7,6 +7,8 @@ mod sequence;
 pub use sequence::Sequence;
 
 #[cfg(test)]
+mod held_tests;
+#[cfg(test)]
 mod tests;
 #[cfg(test)]
 mod worked;

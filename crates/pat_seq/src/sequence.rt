@@ -4,6 +4,7 @@ ghost use Rattle.cedr_base.specs.Rows.{SameRows};
 ghost use Rattle.cedr_base.specs.Changes.{puts, takes};
 ghost use Rattle.cedr_table.specs.Operators.{table_at, with_table};
 ghost use Rattle.pat_rows.specs.Starts.{all_endless, HasRow};
+ghost use Rattle.pat_rows.specs.Answers.{AreForgotten};
 ghost use Rattle.cedr_stream.specs.Times.{IsWhile};
 ghost use Rattle.pat_seq.specs.Sequences.{sequence_of, IsSequence};
 ghost use Rattle.pat_seq.specs.Steps.{IsAnswered};
@@ -19,7 +20,8 @@ use std::alloc::Global;
 /// first one and their payloads pass the tests: `[ek.begin, later(e1.begin, scope))`, with the payloads joined in
 /// the order of the ports. The bound is the least mark.
 ///
-/// It keeps the rows of its ports without their ends. A change of a row looks at rows that begin within the scope of
+/// It keeps the rows of its ports without their ends, each until the least mark reaches the end of the scope that begins
+/// with it. A change of a row looks at rows that begin within the scope of
 /// it alone: for each ascending choice of the ports but the last in which it may stand, O(log n) and the rows that may
 /// be the next one. Each row more of such a choice costs a copy of the payload so far. On the last port the tests come
 /// first, once for all copies of a row, and a payload is joined only for what passes them. A retraction that leaves
@@ -28,7 +30,7 @@ use std::alloc::Global;
 pub struct Sequence {
     scope: u64,
     tests: Tests,
-    kept: Vec<ByBegin>,
+    pub(crate) kept: Vec<ByBegin>,
 }
 
 impl Sequence {
@@ -94,13 +96,22 @@ fn empty_bags(alloc: Global, count: usize) -> Result<Vec<ByBegin>, OutOfMemory>
     Ok(bags)
 }
 
+/// Forgets the rows of each port whose scope, which begins with them, ends by a time.
+fn forget_all(kept: &mut Vec<ByBegin>, scope: u64, time: Time)
+    ensures { AreForgotten scope time kept.old.items kept.new.items }
+{
+    for port in 0..kept.len() {
+        kept[port].forget(scope, time);
+    }
+}
+
 impl Operator for Sequence {
     ghost use Rattle.pat_rows.specs.Answers.{StandsByBegin};
     ghost use Rattle.pat_seq.specs.SequenceLaws.{sequence_laws};
 
     ghost meaning = { λ s. sequence_of (length s.kept.items) s.scope s.tests };
 
-    ghost stands = { λ s tables marks. StandsByBegin (IsSequence (length s.kept.items) s.scope) s.kept.items tables marks };
+    ghost stands = { λ s tables marks. StandsByBegin (IsSequence (length s.kept.items) s.scope) s.scope s.kept.items tables marks };
 
     ghost held = { λ s. s.kept.items };
 
@@ -130,7 +141,9 @@ impl Operator for Sequence {
         least_mark(marks)
     }
 
-    fn trim(&mut self, _marks: &[Time]) {}
+    fn trim(&mut self, marks: &[Time]) {
+        forget_all(&mut self.kept, self.scope, least_mark(marks));
+    }
 
     ghost lawful = { λ s. sequence_laws s.scope s.tests s.kept.items };
 }

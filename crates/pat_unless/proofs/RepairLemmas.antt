@@ -2,7 +2,7 @@
 use Rattle.std.proofs.Common.{◌≡◌, ℕ, ◌+◌, ◌<◌, ◌≤◌, List, [], ◌∷◌, ◌++◌, length, Bool, true, false, cond, refl, ap, sym, ◌∙◌, subst, arith}
 use Rattle.std.specs.Prelude.{map, sum_by, nat_lt, ◌&&◌, ◌||◌}
 use Rattle.std.specs.List.{flat_map}
-use Rattle.std.proofs.lemmas.Bool.{ltb-true, and_parts}
+use Rattle.std.proofs.lemmas.Bool.{ltb-true, lt-ltb, and_parts}
 use Rattle.std.proofs.lemmas.List.{append-nil}
 use Rattle.std.proofs.lemmas.List.Sums.{sum_by-cons}
 use Rattle.cedr_base.specs.declared.time.TheConstants.{FOREVER}
@@ -15,21 +15,23 @@ use Rattle.cedr_base.proofs.Bags.{count_of-append, count_of-cons}
 use Rattle.cedr_stream.specs.Repairs.{IsMoved, Repair}
 use Rattle.cedr_stream.specs.Times.{later}
 use Rattle.cedr_stream.proofs.BagSums.{sum_by-flat_map, same_flat_map, same_itself}
-use Rattle.cedr_stream.proofs.Moves.{sum_by-moved, sum_by-there, remnant_none, may_is}
+use Rattle.cedr_stream.proofs.Moves.{sum_by-moved, sum_by-there, remnant_none, may_is, applied, applied_moves}
+use Rattle.cedr_table.specs.Counted.{SameAmong}
+use Rattle.cedr_table.proofs.FilterLemmas.{sum_by-among, among_moved}
 use Rattle.cedr_stream.proofs.RepairLemmas.{Turns, repair_by_turns}
 use Rattle.cedr_table.specs.Operators.{Tables, Gains, CanTake, table_at, mark_at, with_table, least_of}
 use Rattle.cedr_table.specs.PortLaws.{least_below, table_at-with, table_at-with_other}
 use Rattle.cedr_expr.specs.declared.test.Test.{Test}
 use Rattle.cedr_expr.specs.Tests.{passes}
 use Rattle.pat_rows.specs.declared.answer.Way.TheVariants.{Comes, Goes}
-use Rattle.pat_rows.specs.Starts.{endless, all_endless, endless_tables, HasRow}
+use Rattle.pat_rows.specs.Starts.{endless, all_endless, endless_tables, reaches, HasRow}
 use Rattle.pat_rows.specs.Answers.{answered, StandsByBegin}
 use Rattle.pat_rows.proofs.FlatLemmas.{flat_map-like, flat_map-map}
 use Rattle.pat_rows.proofs.AnswerLemmas.{AllLate, late-flat_map, come_turns, go_turns, same_turns}
-use Rattle.pat_rows.proofs.EndlessLemmas.{kept_at, kept_moved, stands_after, stands_has, tables_ends, endless_at}
+use Rattle.pat_rows.proofs.EndlessLemmas.{kept_at, left_at, kept_moved, stands_after, stands_has, left_withdraws, reaches_itself, tables_ends, endless_at}
 use Rattle.pat_unless.specs.declared.terms.Terms.{Terms}
 use Rattle.pat_unless.specs.Blocking.{blocks, is_blocked, waited, unblocked, all_unblocked, AreWhiles}
-use Rattle.pat_unless.specs.BlockingLaws.{any_same, unblocked_same, same_unblocked}
+use Rattle.pat_unless.specs.BlockingLaws.{any_is, any_same, unblocked_same, same_unblocked}
 use Rattle.pat_unless.specs.Steps.{only_blocked, decided, IsStep, Appends}
 
 -- whether a row is blocked doesn't depend on ends
@@ -37,12 +39,36 @@ blocked_endless : (scope : ℕ) (tests : List Test) (blockers : List Row) (a : R
 blocked_endless scope tests [] a = refl
 blocked_endless scope tests (b ∷ blockers) a = ap (λ c. blocks scope tests a b || c) (blocked_endless scope tests blockers a)
 
--- nor on more than what is kept of the blockers
-kept_blocked : (scope : ℕ) (tests : List Test) (kept blockers : List Row) (a : Row) → SameRows kept (all_endless blockers) → is_blocked scope tests kept a ≡ is_blocked scope tests blockers a
-kept_blocked scope tests kept blockers a same = any_same (blocks scope tests a) kept (all_endless blockers) same ∙ blocked_endless scope tests blockers a
+-- what is kept of a table, without ends: the same rows among those whose scope ends after a time
+record Leaves (scope time : ℕ) (kept table : List Row) : Type 0 where
+  left : List Row
+  same : SameAmong (reaches scope time) left table
+  rows : SameRows kept (all_endless left)
 
-kept_unblocked : (scope hold : ℕ) (tests : List Test) (kept blockers : List Row) (a : Row) → SameRows kept (all_endless blockers) → unblocked scope hold tests kept a ≡ unblocked scope hold tests blockers a
-kept_unblocked scope hold tests kept blockers a same = ap (λ b. cond b [] (waited scope hold a)) (kept_blocked scope tests kept blockers a same)
+-- of each port such rows are kept
+abbrev leaves_at : {range : Type 0} (scope : ℕ) (kept tables : Tables) (marks : List ℕ) (port : ℕ) → StandsByBegin range scope kept tables marks → Leaves scope (least_of marks) (table_at kept port) (table_at tables port)
+leaves_at scope kept tables marks port h = record { left = table_at h.left port; same = left_at scope kept tables marks port h; rows = kept_at scope kept tables marks port h }
+
+-- the scope of what begins in the scope of a row ends no earlier
+no_block_at : (scope time : ℕ) (tests : List Test) (a b : Row) (blocking : Bool) → blocks scope tests a b ≡ blocking → reaches scope time a ≡ true → reaches scope time b ≡ false → cond {A = ℕ} blocking 1 0 ≡ 0
+no_block_at scope time tests a b true h reach none =
+    let begins = ltb-true a.begin b.begin (and_parts (nat_lt a.begin b.begin) (nat_lt b.begin (later a.begin scope) && passes tests a.payload b.payload) h).0 in
+    let ends = ltb-true time (later a.begin scope) reach in
+    let other : reaches scope time b ≡ true = lt-ltb time (later b.begin scope) (omega arith) in
+    absurd (let wrong = sym other ∙ none in cc)
+no_block_at scope time tests a b false h reach none = refl
+
+-- of a row whose scope ends after a time, what is kept tells whether it is blocked
+kept_blocked : (scope time : ℕ) (tests : List Test) (kept blockers : List Row) (a : Row) → Leaves scope time kept blockers → reaches scope time a ≡ true → is_blocked scope tests kept a ≡ is_blocked scope tests blockers a
+kept_blocked scope time tests kept blockers a leaves reach =
+    any_same (blocks scope tests a) kept (all_endless leaves.left) leaves.rows
+    ∙ (blocked_endless scope tests leaves.left a
+    ∙ (any_is (blocks scope tests a) leaves.left
+    ∙ (ap (λ n. nat_lt 0 n) (sum_by-among (reaches scope time) (λ b. cond (blocks scope tests a b) 1 0) leaves.left blockers leaves.same (λ b none. no_block_at scope time tests a b (blocks scope tests a b) refl reach none))
+    ∙ sym (any_is (blocks scope tests a) blockers))))
+
+kept_unblocked : (scope hold time : ℕ) (tests : List Test) (kept blockers : List Row) (a : Row) → Leaves scope time kept blockers → reaches scope time a ≡ true → unblocked scope hold tests kept a ≡ unblocked scope hold tests blockers a
+kept_unblocked scope hold time tests kept blockers a leaves reach = ap (λ b. cond b [] (waited scope hold a)) (kept_blocked scope time tests kept blockers a leaves reach)
 
 -- the result at tables with another one on a port
 with_rows : (scope hold : ℕ) (tests : List Test) (tables : Tables) (after : List Row) → length tables ≡ 2 → all_unblocked scope hold tests (with_table tables 0 after) ≡ flat_map (unblocked scope hold tests (table_at tables 1)) after
@@ -76,14 +102,33 @@ late_only t scope hold tests others b a false h from = tt
 late_decided : (t scope hold : ℕ) (tests : List Test) (others : List Row) (b : Row) (rows : List Row) → t ≤ b.begin → AllLate t (decided scope hold tests others b rows)
 late_decided t scope hold tests others b rows from = late-flat_map t (only_blocked scope hold tests others b) rows (λ a. late_only t scope hold tests others b a (blocks scope tests a b) refl from)
 
--- the rows of which a blocker decides, of what is kept and of the tables
-kept_decided : (scope hold : ℕ) (tests : List Test) (kept_others others : List Row) (b : Row) (kept rows : List Row) → SameRows kept_others (all_endless others) → SameRows kept (all_endless rows)
+-- a row that is blocked by a late one has a scope that ends after it
+blocked_reaches : (scope time : ℕ) (tests : List Test) (a b : Row) → time ≤ b.begin → blocks scope tests a b ≡ true → reaches scope time a ≡ true
+blocked_reaches scope time tests a b late h =
+    let both = and_parts (nat_lt a.begin b.begin) (nat_lt b.begin (later a.begin scope) && passes tests a.payload b.payload) h in
+    let within = ltb-true b.begin (later a.begin scope) (and_parts (nat_lt b.begin (later a.begin scope)) (passes tests a.payload b.payload) both.1).0 in
+    lt-ltb time (later a.begin scope) (omega arith)
+
+one_decided : (scope hold time : ℕ) (tests : List Test) (kept_others others : List Row) (b a : Row) (blocking : Bool) → blocks scope tests a b ≡ blocking → Leaves scope time kept_others others → time ≤ b.begin
+    → cond blocking (unblocked scope hold tests kept_others a) [] ≡ cond blocking (unblocked scope hold tests others a) []
+one_decided scope hold time tests kept_others others b a true h leaves late = kept_unblocked scope hold time tests kept_others others a leaves (blocked_reaches scope time tests a b late h)
+one_decided scope hold time tests kept_others others b a false h leaves late = refl
+
+none_decided : (scope hold time : ℕ) (tests : List Test) (others : List Row) (b a r : Row) (blocking : Bool) → blocks scope tests a b ≡ blocking → time ≤ b.begin → reaches scope time a ≡ false → count_of r (cond blocking (unblocked scope hold tests others a) []) ≡ 0
+none_decided scope hold time tests others b a r true h late none = absurd (let reach = blocked_reaches scope time tests a b late h in let wrong = sym reach ∙ none in cc)
+none_decided scope hold time tests others b a r false h late none = refl
+
+-- the rows of which a late blocker decides, of what is kept and of the tables
+kept_decided : (scope hold time : ℕ) (tests : List Test) (kept_others others : List Row) (b : Row) (kept rows : List Row) → Leaves scope time kept_others others → Leaves scope time kept rows → time ≤ b.begin
     → SameRows (decided scope hold tests kept_others b kept) (decided scope hold tests others b rows)
-kept_decided scope hold tests kept_others others b kept rows same_others same_rows = record {
+kept_decided scope hold time tests kept_others others b kept rows same_others same_rows late = record {
   each = λ r.
-      ap (count_of r) (flat_map-like (only_blocked scope hold tests kept_others b) (only_blocked scope hold tests others b) kept (λ a. ap (λ found. cond (blocks scope tests a b) found []) (kept_unblocked scope hold tests kept_others others a same_others)))
-      ∙ ((same_flat_map (only_blocked scope hold tests others b) kept (all_endless rows) same_rows).each r
-      ∙ ap (count_of r) (flat_map-map (only_blocked scope hold tests others b) endless rows));
+      ap (count_of r) (flat_map-like (only_blocked scope hold tests kept_others b) (only_blocked scope hold tests others b) kept (λ a. one_decided scope hold time tests kept_others others b a (blocks scope tests a b) refl same_others late))
+      ∙ ((same_flat_map (only_blocked scope hold tests others b) kept (all_endless same_rows.left) same_rows.rows).each r
+      ∙ (ap (count_of r) (flat_map-map (only_blocked scope hold tests others b) endless same_rows.left)
+      ∙ (sum_by-flat_map (one_if_same r) (only_blocked scope hold tests others b) same_rows.left
+      ∙ (sum_by-among (reaches scope time) (λ a. count_of r (only_blocked scope hold tests others b a)) same_rows.left rows same_rows.same (λ a none. none_decided scope hold time tests others b a r (blocks scope tests a b) refl late none)
+      ∙ sym (sum_by-flat_map (one_if_same r) (only_blocked scope hold tests others b) rows)))));
 }
 
 -- with one blocker more a row is blocked by that one or by another
@@ -125,7 +170,7 @@ rows_repair f c old after t cs may moved turns = repair_by_turns (flat_map f old
 
 -- a row that comes on port 0 adds the row that it gives
 comes_at : (scope hold : ℕ) (tests : List Test) (kept_rows kept_blockers : List Row) (tables : Tables) (marks : List ℕ) (c : Change) (x : Row) (after : List Row) (given gained : List Change)
-    → c ≡ Add x → StandsByBegin (AreWhiles scope hold) (kept_rows ∷ kept_blockers ∷ []) tables marks → Appends Comes (unblocked scope hold tests kept_blockers x) given gained → CanTake tables marks 0 c → IsMoved c (table_at tables 0) after
+    → c ≡ Add x → StandsByBegin (AreWhiles scope hold) scope (kept_rows ∷ kept_blockers ∷ []) tables marks → Appends Comes (unblocked scope hold tests kept_blockers x) given gained → CanTake tables marks 0 c → IsMoved c (table_at tables 0) after
     → Gains (all_unblocked scope hold tests tables) (all_unblocked scope hold tests (with_table tables 0 after)) (least_of marks) given gained
 comes_at scope hold tests kept_rows kept_blockers tables marks c x after given gained is stands appends can moved =
     let two = stands.table in
@@ -137,7 +182,8 @@ comes_at scope hold tests kept_rows kept_blockers tables marks c x after given g
     let least = least_below 0 marks (omega arith) in
     let finite = row.begins in
     let late : AllLate (least_of marks) given_by_it = late_unblocked (least_of marks) scope hold tests kept_blockers x (omega arith) in
-    let same : given_by_it ≡ f x = kept_unblocked scope hold tests kept_blockers (table_at tables 1) x (kept_at (kept_rows ∷ kept_blockers ∷ []) tables marks 1 stands) in
+    let same : given_by_it ≡ f x =
+    kept_unblocked scope hold (least_of marks) tests kept_blockers (table_at tables 1) x (leaves_at scope (kept_rows ∷ kept_blockers ∷ []) tables marks 1 stands) (reaches_itself scope (least_of marks) x stands.range.scope_is.least finite (omega arith)) in
     record {
       changes = map (answered Comes) given_by_it;
       appended = appends.answers;
@@ -149,7 +195,7 @@ comes_at scope hold tests kept_rows kept_blockers tables marks c x after given g
     }
 
 pub row_comes : (scope hold : ℕ) (tests : List Test) (kept_rows kept_blockers : List Row) (tables : Tables) (marks : List ℕ) (port : ℕ) (c : Change) (x : Row) (after : List Row) (given gained : List Change)
-    → port ≡ 0 → c ≡ Add x → StandsByBegin (AreWhiles scope hold) (kept_rows ∷ kept_blockers ∷ []) tables marks → Appends Comes (unblocked scope hold tests kept_blockers x) given gained → CanTake tables marks port c → IsMoved c (table_at tables port) after
+    → port ≡ 0 → c ≡ Add x → StandsByBegin (AreWhiles scope hold) scope (kept_rows ∷ kept_blockers ∷ []) tables marks → Appends Comes (unblocked scope hold tests kept_blockers x) given gained → CanTake tables marks port c → IsMoved c (table_at tables port) after
     → Gains (all_unblocked scope hold tests tables) (all_unblocked scope hold tests (with_table tables port after)) (least_of marks) given gained
 row_comes scope hold tests kept_rows kept_blockers tables marks port c x after given gained at is stands appends =
     subst (λ (port : ℕ). CanTake tables marks port c → IsMoved c (table_at tables port) after → Gains (all_unblocked scope hold tests tables) (all_unblocked scope hold tests (with_table tables port after)) (least_of marks) given gained) (sym at)
@@ -157,7 +203,7 @@ row_comes scope hold tests kept_rows kept_blockers tables marks port c x after g
 
 -- a row that goes on port 0 takes it
 goes_at : (scope hold : ℕ) (tests : List Test) (kept_rows kept_blockers : List Row) (tables : Tables) (marks : List ℕ) (c : Change) (x : Row) (end : ℕ) (after : List Row) (given gained : List Change)
-    → c ≡ Cut x end → end ≤ x.begin → StandsByBegin (AreWhiles scope hold) (kept_rows ∷ kept_blockers ∷ []) tables marks → Appends Goes (unblocked scope hold tests kept_blockers x) given gained → CanTake tables marks 0 c → IsMoved c (table_at tables 0) after
+    → c ≡ Cut x end → end ≤ x.begin → StandsByBegin (AreWhiles scope hold) scope (kept_rows ∷ kept_blockers ∷ []) tables marks → Appends Goes (unblocked scope hold tests kept_blockers x) given gained → CanTake tables marks 0 c → IsMoved c (table_at tables 0) after
     → Gains (all_unblocked scope hold tests tables) (all_unblocked scope hold tests (with_table tables 0 after)) (least_of marks) given gained
 goes_at scope hold tests kept_rows kept_blockers tables marks c x end after given gained is gone stands appends can moved =
     let two = stands.table in
@@ -169,7 +215,8 @@ goes_at scope hold tests kept_rows kept_blockers tables marks c x end after give
     let least = least_below 0 marks (omega arith) in
     let finite = row.begins in
     let late : AllLate (least_of marks) given_by_it = late_unblocked (least_of marks) scope hold tests kept_blockers x (omega arith) in
-    let same : given_by_it ≡ f x = kept_unblocked scope hold tests kept_blockers (table_at tables 1) x (kept_at (kept_rows ∷ kept_blockers ∷ []) tables marks 1 stands) in
+    let same : given_by_it ≡ f x =
+    kept_unblocked scope hold (least_of marks) tests kept_blockers (table_at tables 1) x (leaves_at scope (kept_rows ∷ kept_blockers ∷ []) tables marks 1 stands) (reaches_itself scope (least_of marks) x stands.range.scope_is.least finite (omega arith)) in
     record {
       changes = map (answered Goes) given_by_it;
       appended = appends.answers;
@@ -182,7 +229,7 @@ goes_at scope hold tests kept_rows kept_blockers tables marks c x end after give
     }
 
 pub row_goes : (scope hold : ℕ) (tests : List Test) (kept_rows kept_blockers : List Row) (tables : Tables) (marks : List ℕ) (port : ℕ) (c : Change) (x : Row) (end : ℕ) (after : List Row) (given gained : List Change)
-    → port ≡ 0 → c ≡ Cut x end → end ≤ x.begin → StandsByBegin (AreWhiles scope hold) (kept_rows ∷ kept_blockers ∷ []) tables marks → Appends Goes (unblocked scope hold tests kept_blockers x) given gained → CanTake tables marks port c → IsMoved c (table_at tables port) after
+    → port ≡ 0 → c ≡ Cut x end → end ≤ x.begin → StandsByBegin (AreWhiles scope hold) scope (kept_rows ∷ kept_blockers ∷ []) tables marks → Appends Goes (unblocked scope hold tests kept_blockers x) given gained → CanTake tables marks port c → IsMoved c (table_at tables port) after
     → Gains (all_unblocked scope hold tests tables) (all_unblocked scope hold tests (with_table tables port after)) (least_of marks) given gained
 row_goes scope hold tests kept_rows kept_blockers tables marks port c x end after given gained at is gone stands appends =
     subst (λ (port : ℕ). CanTake tables marks port c → IsMoved c (table_at tables port) after → Gains (all_unblocked scope hold tests tables) (all_unblocked scope hold tests (with_table tables port after)) (least_of marks) given gained) (sym at)
@@ -190,7 +237,7 @@ row_goes scope hold tests kept_rows kept_blockers tables marks port c x end afte
 
 -- a blocker that comes takes the rows that it alone blocks
 blocks_at : (scope hold : ℕ) (tests : List Test) (kept_rows kept_blockers : List Row) (tables : Tables) (marks : List ℕ) (c : Change) (b : Row) (after : List Row) (given gained : List Change)
-    → c ≡ Add b → StandsByBegin (AreWhiles scope hold) (kept_rows ∷ kept_blockers ∷ []) tables marks → Appends Goes (decided scope hold tests kept_blockers b kept_rows) given gained → CanTake tables marks 1 c → IsMoved c (table_at tables 1) after
+    → c ≡ Add b → StandsByBegin (AreWhiles scope hold) scope (kept_rows ∷ kept_blockers ∷ []) tables marks → Appends Goes (decided scope hold tests kept_blockers b kept_rows) given gained → CanTake tables marks 1 c → IsMoved c (table_at tables 1) after
     → Gains (all_unblocked scope hold tests tables) (all_unblocked scope hold tests (with_table tables 1 after)) (least_of marks) given gained
 blocks_at scope hold tests kept_rows kept_blockers tables marks c b after given gained is stands appends can moved =
     let two = stands.table in
@@ -202,7 +249,8 @@ blocks_at scope hold tests kept_rows kept_blockers tables marks c b after given 
     let least = least_below 1 marks (omega arith) in
     let added : IsMoved (Add b) others after = subst (λ (d : Change). IsMoved d others after) is moved in
     let all : SameRows after (b ∷ others) = record { each = λ r. omega (arith, added.sums.each r, count_of-append r after [], count_of-append r others (b ∷ []), count_of-cons r b others, count_of-cons r b []) } in
-    let same = kept_decided scope hold tests kept_blockers others b kept_rows rows (kept_at (kept_rows ∷ kept_blockers ∷ []) tables marks 1 stands) (kept_at (kept_rows ∷ kept_blockers ∷ []) tables marks 0 stands) in
+    let same =
+    kept_decided scope hold (least_of marks) tests kept_blockers others b kept_rows rows (leaves_at scope (kept_rows ∷ kept_blockers ∷ []) tables marks 1 stands) (leaves_at scope (kept_rows ∷ kept_blockers ∷ []) tables marks 0 stands) (omega arith) in
     record {
       changes = map (answered Goes) found;
       appended = appends.answers;
@@ -218,15 +266,23 @@ one_port : (tables : Tables) (marks : List ℕ) (port : ℕ) (c : Change) → le
 one_port tables marks port c two other can = let within = can.port_is in omega arith
 
 pub row_blocks : (scope hold : ℕ) (tests : List Test) (kept_rows kept_blockers : List Row) (tables : Tables) (marks : List ℕ) (port : ℕ) (c : Change) (b : Row) (after : List Row) (given gained : List Change)
-    → (port ≡ 0 → ⊥) → c ≡ Add b → StandsByBegin (AreWhiles scope hold) (kept_rows ∷ kept_blockers ∷ []) tables marks → Appends Goes (decided scope hold tests kept_blockers b kept_rows) given gained → CanTake tables marks port c → IsMoved c (table_at tables port) after
+    → (port ≡ 0 → ⊥) → c ≡ Add b → StandsByBegin (AreWhiles scope hold) scope (kept_rows ∷ kept_blockers ∷ []) tables marks → Appends Goes (decided scope hold tests kept_blockers b kept_rows) given gained → CanTake tables marks port c → IsMoved c (table_at tables port) after
     → Gains (all_unblocked scope hold tests tables) (all_unblocked scope hold tests (with_table tables port after)) (least_of marks) given gained
 row_blocks scope hold tests kept_rows kept_blockers tables marks port c b after given gained other is stands appends can moved =
     subst (λ (port : ℕ). CanTake tables marks port c → IsMoved c (table_at tables port) after → Gains (all_unblocked scope hold tests tables) (all_unblocked scope hold tests (with_table tables port after)) (least_of marks) given gained) (sym (one_port tables marks port c stands.table other can))
     (blocks_at scope hold tests kept_rows kept_blockers tables marks c b after given gained is stands appends) can moved
 
+-- what is kept goes through a change as the table does
+leaves_moved : (scope time : ℕ) (c : Change) (kept kept' table after : List Row) (leaves : Leaves scope time kept table) → MayFollow leaves.left [] c → IsStep c kept kept' → IsMoved c table after → Leaves scope time kept' after
+leaves_moved scope time c kept kept' table after leaves may step moved = record {
+  left = applied c leaves.left;
+  same = among_moved (reaches scope time) c leaves.left table after leaves.same may moved;
+  rows = kept_moved c kept kept' leaves.left (applied c leaves.left) leaves.rows step.sums (applied_moves c leaves.left may);
+}
+
 -- a blocker that goes adds the rows that no other one blocks
 frees_at : (scope hold : ℕ) (tests : List Test) (kept_rows kept_blockers kept_others : List Row) (tables : Tables) (marks : List ℕ) (c : Change) (b : Row) (end : ℕ) (after : List Row) (given gained : List Change)
-    → c ≡ Cut b end → end ≤ b.begin → StandsByBegin (AreWhiles scope hold) (kept_rows ∷ kept_blockers ∷ []) tables marks → IsStep c kept_blockers kept_others → Appends Comes (decided scope hold tests kept_others b kept_rows) given gained → CanTake tables marks 1 c → IsMoved c (table_at tables 1) after
+    → c ≡ Cut b end → end ≤ b.begin → StandsByBegin (AreWhiles scope hold) scope (kept_rows ∷ kept_blockers ∷ []) tables marks → IsStep c kept_blockers kept_others → Appends Comes (decided scope hold tests kept_others b kept_rows) given gained → CanTake tables marks 1 c → IsMoved c (table_at tables 1) after
     → Gains (all_unblocked scope hold tests tables) (all_unblocked scope hold tests (with_table tables 1 after)) (least_of marks) given gained
 frees_at scope hold tests kept_rows kept_blockers kept_others tables marks c b end after given gained is gone stands step appends can moved =
     let two = stands.table in
@@ -239,8 +295,9 @@ frees_at scope hold tests kept_rows kept_blockers kept_others tables marks c b e
     let taken : IsMoved (Cut b end) blockers after = subst (λ (d : Change). IsMoved d blockers after) is moved in
     let none = remnant_none b end gone in
     let all : SameRows blockers (b ∷ after) = record { each = λ r. omega (arith, taken.sums.each r, ap (count_of r) none, count_of-append r after (b ∷ []), count_of-append r blockers (puts (Cut b end)), count_of-cons r b after, count_of-cons r b []) } in
-    let others : SameRows kept_others (all_endless after) = kept_moved c kept_blockers kept_others blockers after (kept_at (kept_rows ∷ kept_blockers ∷ []) tables marks 1 stands) step.sums moved in
-    let same = kept_decided scope hold tests kept_others after b kept_rows rows others (kept_at (kept_rows ∷ kept_blockers ∷ []) tables marks 0 stands) in
+    let may = left_withdraws scope (kept_rows ∷ kept_blockers ∷ []) tables marks 1 stands c can b end stands.range.scope_is.least is gone in
+    let others = leaves_moved scope (least_of marks) c kept_blockers kept_others blockers after (leaves_at scope (kept_rows ∷ kept_blockers ∷ []) tables marks 1 stands) may step moved in
+    let same = kept_decided scope hold (least_of marks) tests kept_others after b kept_rows rows others (leaves_at scope (kept_rows ∷ kept_blockers ∷ []) tables marks 0 stands) (omega arith) in
     record {
       changes = map (answered Comes) found;
       appended = appends.answers;
@@ -253,7 +310,7 @@ frees_at scope hold tests kept_rows kept_blockers kept_others tables marks c b e
     }
 
 pub row_frees : (scope hold : ℕ) (tests : List Test) (kept_rows kept_blockers kept_others : List Row) (tables : Tables) (marks : List ℕ) (port : ℕ) (c : Change) (b : Row) (end : ℕ) (after : List Row) (given gained : List Change)
-    → (port ≡ 0 → ⊥) → c ≡ Cut b end → end ≤ b.begin → StandsByBegin (AreWhiles scope hold) (kept_rows ∷ kept_blockers ∷ []) tables marks → IsStep c kept_blockers kept_others → Appends Comes (decided scope hold tests kept_others b kept_rows) given gained → CanTake tables marks port c → IsMoved c (table_at tables port) after
+    → (port ≡ 0 → ⊥) → c ≡ Cut b end → end ≤ b.begin → StandsByBegin (AreWhiles scope hold) scope (kept_rows ∷ kept_blockers ∷ []) tables marks → IsStep c kept_blockers kept_others → Appends Comes (decided scope hold tests kept_others b kept_rows) given gained → CanTake tables marks port c → IsMoved c (table_at tables port) after
     → Gains (all_unblocked scope hold tests tables) (all_unblocked scope hold tests (with_table tables port after)) (least_of marks) given gained
 row_frees scope hold tests kept_rows kept_blockers kept_others tables marks port c b end after given gained other is gone stands step appends can moved =
     subst (λ (port : ℕ). CanTake tables marks port c → IsMoved c (table_at tables port) after → Gains (all_unblocked scope hold tests tables) (all_unblocked scope hold tests (with_table tables port after)) (least_of marks) given gained) (sym (one_port tables marks port c stands.table other can))
@@ -282,30 +339,40 @@ row_stays scope hold tests tables marks port c x end after given is lives can mo
           (λ r. omega arith);
     }
 
+-- rows of a port stand for the tables after a change
+port_stands : (scope hold : ℕ) (at : ℕ) (kept kept' : Tables) (rows : List Row) (tables : Tables) (marks : List ℕ) (port : ℕ) (c : Change) (after : List Row) → port ≡ at → with_table kept at rows ≡ kept' → IsStep c (table_at kept at) rows
+    → (stands : StandsByBegin (AreWhiles scope hold) scope kept tables marks) → MayFollow (table_at stands.left port) [] c → IsMoved c (table_at tables port) after → StandsByBegin (AreWhiles scope hold) scope kept' (with_table tables port after) marks
+port_stands scope hold at kept kept' rows tables marks port c after is next step stands may moved =
+    let here = subst (λ (p : ℕ). SameRows (rows ++ all_endless (takes c)) (table_at kept p ++ all_endless (puts c))) (sym is) step.sums in
+    subst (λ (us : Tables). StandsByBegin (AreWhiles scope hold) scope us (with_table tables port after) marks) (ap (λ (p : ℕ). with_table kept p rows) is ∙ next)
+    (stands_after scope kept tables marks port stands c rows after may here moved)
+
 -- the kept rows stand for the tables after an answered change
 pub rows_stand : (terms terms' : Terms) (kept_rows kept_rows' kept_blockers kept_blockers' : List Row) (tables : Tables) (marks : List ℕ) (port : ℕ) (c : Change) (after : List Row)
-    → port ≡ 0 → terms' ≡ terms → kept_blockers' ≡ kept_blockers → IsStep c kept_rows kept_rows' → StandsByBegin (AreWhiles terms.scope terms.hold) (kept_rows ∷ kept_blockers ∷ []) tables marks → IsMoved c (table_at tables port) after
-    → StandsByBegin (AreWhiles terms'.scope terms'.hold) (kept_rows' ∷ kept_blockers' ∷ []) (with_table tables port after) marks
-rows_stand terms terms' kept_rows kept_rows' kept_blockers kept_blockers' tables marks port c after at same_terms same_blockers step stands =
-    subst (λ (t : Terms). IsMoved c (table_at tables port) after → StandsByBegin (AreWhiles t.scope t.hold) (kept_rows' ∷ kept_blockers' ∷ []) (with_table tables port after) marks) (sym same_terms)
-    (subst (λ (bs : List Row). IsMoved c (table_at tables port) after → StandsByBegin (AreWhiles terms.scope terms.hold) (kept_rows' ∷ bs ∷ []) (with_table tables port after) marks) (sym same_blockers)
-    (subst (λ (p : ℕ). IsMoved c (table_at tables p) after → StandsByBegin (AreWhiles terms.scope terms.hold) (kept_rows' ∷ kept_blockers ∷ []) (with_table tables p after) marks) (sym at)
-    (stands_after (kept_rows ∷ kept_blockers ∷ []) tables marks 0 c kept_rows' after stands step.sums)))
+    → port ≡ 0 → terms' ≡ terms → kept_blockers' ≡ kept_blockers → IsStep c kept_rows kept_rows' → (stands : StandsByBegin (AreWhiles terms.scope terms.hold) terms.scope (kept_rows ∷ kept_blockers ∷ []) tables marks)
+    → MayFollow (table_at stands.left port) [] c → IsMoved c (table_at tables port) after → StandsByBegin (AreWhiles terms'.scope terms'.hold) terms'.scope (kept_rows' ∷ kept_blockers' ∷ []) (with_table tables port after) marks
+rows_stand terms terms' kept_rows kept_rows' kept_blockers kept_blockers' tables marks port c after at same_terms same_blockers step stands may moved =
+    subst (λ (t : Terms). StandsByBegin (AreWhiles t.scope t.hold) t.scope (kept_rows' ∷ kept_blockers' ∷ []) (with_table tables port after) marks) (sym same_terms)
+    (subst (λ (bs : List Row). StandsByBegin (AreWhiles terms.scope terms.hold) terms.scope (kept_rows' ∷ bs ∷ []) (with_table tables port after) marks) (sym same_blockers)
+    (port_stands terms.scope terms.hold 0 (kept_rows ∷ kept_blockers ∷ []) (kept_rows' ∷ kept_blockers ∷ []) kept_rows' tables marks port c after at refl step stands may moved))
 
 pub blockers_stand : (terms terms' : Terms) (kept_rows kept_rows' kept_blockers kept_blockers' : List Row) (tables : Tables) (marks : List ℕ) (port : ℕ) (c : Change) (after : List Row)
-    → (port ≡ 0 → ⊥) → terms' ≡ terms → kept_rows' ≡ kept_rows → IsStep c kept_blockers kept_blockers' → StandsByBegin (AreWhiles terms.scope terms.hold) (kept_rows ∷ kept_blockers ∷ []) tables marks → CanTake tables marks port c → IsMoved c (table_at tables port) after
-    → StandsByBegin (AreWhiles terms'.scope terms'.hold) (kept_rows' ∷ kept_blockers' ∷ []) (with_table tables port after) marks
-blockers_stand terms terms' kept_rows kept_rows' kept_blockers kept_blockers' tables marks port c after other same_terms same_rows step stands can =
-    subst (λ (t : Terms). IsMoved c (table_at tables port) after → StandsByBegin (AreWhiles t.scope t.hold) (kept_rows' ∷ kept_blockers' ∷ []) (with_table tables port after) marks) (sym same_terms)
-    (subst (λ (rs : List Row). IsMoved c (table_at tables port) after → StandsByBegin (AreWhiles terms.scope terms.hold) (rs ∷ kept_blockers' ∷ []) (with_table tables port after) marks) (sym same_rows)
-    (subst (λ (p : ℕ). IsMoved c (table_at tables p) after → StandsByBegin (AreWhiles terms.scope terms.hold) (kept_rows ∷ kept_blockers' ∷ []) (with_table tables p after) marks) (sym (one_port tables marks port c stands.table other can))
-    (stands_after (kept_rows ∷ kept_blockers ∷ []) tables marks 1 c kept_blockers' after stands step.sums)))
+    → (port ≡ 0 → ⊥) → terms' ≡ terms → kept_rows' ≡ kept_rows → IsStep c kept_blockers kept_blockers' → (stands : StandsByBegin (AreWhiles terms.scope terms.hold) terms.scope (kept_rows ∷ kept_blockers ∷ []) tables marks)
+    → MayFollow (table_at stands.left port) [] c → CanTake tables marks port c → IsMoved c (table_at tables port) after → StandsByBegin (AreWhiles terms'.scope terms'.hold) terms'.scope (kept_rows' ∷ kept_blockers' ∷ []) (with_table tables port after) marks
+blockers_stand terms terms' kept_rows kept_rows' kept_blockers kept_blockers' tables marks port c after other same_terms same_rows step stands may can moved =
+    subst (λ (t : Terms). StandsByBegin (AreWhiles t.scope t.hold) t.scope (kept_rows' ∷ kept_blockers' ∷ []) (with_table tables port after) marks) (sym same_terms)
+    (subst (λ (rs : List Row). StandsByBegin (AreWhiles terms.scope terms.hold) terms.scope (rs ∷ kept_blockers' ∷ []) (with_table tables port after) marks) (sym same_rows)
+    (port_stands terms.scope terms.hold 1 (kept_rows ∷ kept_blockers ∷ []) (kept_rows ∷ kept_blockers' ∷ []) kept_blockers' tables marks port c after (one_port tables marks port c stands.table other can) refl step stands may moved))
 
--- the row that a change of a port cuts is kept there
-pub has_rows : {range : Type 0} (kept_rows kept_blockers : List Row) (tables : Tables) (marks : List ℕ) (port : ℕ) (c : Change) → port ≡ 0 → StandsByBegin range (kept_rows ∷ kept_blockers ∷ []) tables marks → CanTake tables marks port c → HasRow kept_rows c
-has_rows kept_rows kept_blockers tables marks port c at stands can =
-    subst (λ (p : ℕ). MayFollow (table_at tables p) [] c → HasRow kept_rows c) (sym at) (stands_has (kept_rows ∷ kept_blockers ∷ []) tables marks 0 c stands) can.legal
+-- the row that a withdrawal on a port cuts is kept there
+pub has_rows : {range : Type 0} (scope : ℕ) (kept_rows kept_blockers : List Row) (tables : Tables) (marks : List ℕ) (port : ℕ) (c : Change) (x : Row) (end : ℕ)
+    → port ≡ 0 → 1 ≤ scope → c ≡ Cut x end → end ≤ x.begin → StandsByBegin range scope (kept_rows ∷ kept_blockers ∷ []) tables marks → CanTake tables marks port c → HasRow kept_rows c
+has_rows scope kept_rows kept_blockers tables marks port c x end at long is gone stands can =
+    subst (λ (p : ℕ). HasRow (table_at (kept_rows ∷ kept_blockers ∷ []) p) c) at
+    (stands_has scope (kept_rows ∷ kept_blockers ∷ []) tables marks port stands c (left_withdraws scope (kept_rows ∷ kept_blockers ∷ []) tables marks port stands c can x end long is gone))
 
-pub has_blockers : {range : Type 0} (kept_rows kept_blockers : List Row) (tables : Tables) (marks : List ℕ) (port : ℕ) (c : Change) → (port ≡ 0 → ⊥) → StandsByBegin range (kept_rows ∷ kept_blockers ∷ []) tables marks → CanTake tables marks port c → HasRow kept_blockers c
-has_blockers kept_rows kept_blockers tables marks port c other stands can =
-    subst (λ (p : ℕ). MayFollow (table_at tables p) [] c → HasRow kept_blockers c) (sym (one_port tables marks port c stands.table other can)) (stands_has (kept_rows ∷ kept_blockers ∷ []) tables marks 1 c stands) can.legal
+pub has_blockers : {range : Type 0} (scope : ℕ) (kept_rows kept_blockers : List Row) (tables : Tables) (marks : List ℕ) (port : ℕ) (c : Change) (x : Row) (end : ℕ)
+    → (port ≡ 0 → ⊥) → 1 ≤ scope → c ≡ Cut x end → end ≤ x.begin → StandsByBegin range scope (kept_rows ∷ kept_blockers ∷ []) tables marks → CanTake tables marks port c → HasRow kept_blockers c
+has_blockers scope kept_rows kept_blockers tables marks port c x end other long is gone stands can =
+    subst (λ (p : ℕ). HasRow (table_at (kept_rows ∷ kept_blockers ∷ []) p) c) (one_port tables marks port c stands.table other can)
+    (stands_has scope (kept_rows ∷ kept_blockers ∷ []) tables marks port stands c (left_withdraws scope (kept_rows ∷ kept_blockers ∷ []) tables marks port stands c can x end long is gone))

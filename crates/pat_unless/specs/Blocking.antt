@@ -1,10 +1,11 @@
 -- Unless: rows that no other row blocks.
-use Rattle.std.specs.Prelude.{ℕ, List, [], Some, Bool, true, false, ◌&&◌, nat_lt, if◌then◌else◌}
+use Rattle.std.specs.Prelude.{ℕ, List, [], Some, Bool, false, ◌&&◌, nat_lt, if◌then◌else◌}
 use Rattle.std.specs.List.{flat_map, list_any}
 use Rattle.cedr_base.specs.declared.row.Row.{Row}
 use Rattle.cedr_stream.specs.Times.{later}
 use Rattle.cedr_table.specs.Operators.{Tables, Meaning, table_at, least_of}
 use Rattle.cedr_table.specs.RowWise.{made}
+use Rattle.pat_rows.specs.Starts.{reaches}
 use Rattle.cedr_expr.specs.declared.test.Test.{Test}
 use Rattle.cedr_expr.specs.Tests.{passes}
 use Rattle.cedr_stream.specs.Times.{IsWhile}
@@ -28,12 +29,13 @@ unblocked scope hold tests blockers a = if is_blocked scope tests blockers a the
 abbrev pub all_unblocked : ℕ → ℕ → List Test → Tables → List Row
 all_unblocked scope hold tests tables = flat_map (unblocked scope hold tests (table_at tables 1)) (table_at tables 0)
 
+-- A row may be held whose scope ends after the least mark.
 abbrev pub unless_of : ℕ → ℕ → List Test → Meaning
 unless_of scope hold tests = record {
   ports = 2;
   result = all_unblocked scope hold tests;
   bound = λ _ marks. least_of marks;
-  may_hold = λ _ _ _ _. true;
+  may_hold = λ _ marks _ r. reaches scope (least_of marks) r;
   echoes = false;
   stateless = false;
 }

@@ -21,7 +21,7 @@ any_at p x xs true is rest = sym (lt-ltb 0 (1 + sum_by (λ y. cond (p y) 1 0) xs
 any_at p x xs false is rest = rest ∙ ap (λ n. nat_lt 0 n) (omega arith)
 
 -- whether one passes is whether some are counted
-any_is : (p : Row → Bool) (xs : List Row) → list_any p xs ≡ nat_lt 0 (sum_by (λ y. cond (p y) 1 0) xs)
+pub any_is : (p : Row → Bool) (xs : List Row) → list_any p xs ≡ nat_lt 0 (sum_by (λ y. cond (p y) 1 0) xs)
 any_is p [] = refl
 any_is p (x ∷ xs) = any_at p x xs (p x) refl (any_is p xs) ∙ ap (λ n. nat_lt 0 n) (sym (sum_by-cons (λ y. cond (p y) 1 0) x xs))
 
@@ -38,11 +38,11 @@ same_unblocked scope hold tests tables others same = record {
       ∙ (same_flat_map (unblocked scope hold tests (table_at others 1)) (table_at tables 0) (table_at others 0) (same_at 0 tables others same)).each r;
 }
 
-pub unless_laws : (scope hold : ℕ) (tests : List Test) (rows blockers : List Row) → OperatorLaws (unless_of scope hold tests) (StandsByBegin (AreWhiles scope hold) (rows ∷ blockers ∷ []))
+pub unless_laws : (scope hold : ℕ) (tests : List Test) (rows blockers : List Row) → OperatorLaws (unless_of scope hold tests) (StandsByBegin (AreWhiles scope hold) scope (rows ∷ blockers ∷ []))
 unless_laws scope hold tests rows blockers = record {
   sized = λ tables marks h. (h.table, h.mark);
-  rising = λ tables marks later h k. stands_later (rows ∷ blockers ∷ []) tables marks later h k;
-  alike = λ tables others marks k h. stands_alike (rows ∷ blockers ∷ []) tables others marks k h;
+  rising = λ tables marks later h k. stands_later scope (rows ∷ blockers ∷ []) tables marks later h k;
+  alike = λ tables others marks k h. stands_alike scope (rows ∷ blockers ∷ []) tables others marks k h;
   same_rows = λ tables others k. same_unblocked scope hold tests tables others k;
   nothing = record { each = λ r. refl };
   bound_rises = λ tables marks later h k. least_rises marks later k;

@@ -7,6 +7,8 @@ mod unless;
 pub use unless::Unless;
 
 #[cfg(test)]
+mod held_tests;
+#[cfg(test)]
 mod tests;
 #[cfg(test)]
 mod worked;

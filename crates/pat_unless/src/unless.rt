@@ -17,15 +17,16 @@ use std::alloc::Global;
 /// the tests with it: `[later(a.begin, scope), later(later(a.begin, scope), hold))` with a's payload, and none where
 /// that is empty. The bound is the least mark.
 ///
-/// It keeps the rows of its ports without their ends. A change on port 0 takes O(log n) and the rows of port 1 within
+/// It keeps the rows of its ports without their ends, each until the least mark reaches the end of the scope that begins
+/// with it: by then no row of its scope may come or go, nor one that it could block. A change on port 0 takes O(log n) and the rows of port 1 within
 /// the scope of its row, up to the first one that blocks. A change on port 1 takes O(log n) and the rows of port 0
 /// with its row in their scope, and for each of them that passes the tests with it, the search for another blocker. A
 /// retraction that leaves something of its row takes O(1).
 #[derive(Drop)]
 pub struct Unless {
     terms: Terms,
-    rows: ByBegin,
-    blockers: ByBegin,
+    pub(crate) rows: ByBegin,
+    pub(crate) blockers: ByBegin,
 }
 
 impl Unless {
@@ -116,7 +117,7 @@ impl Operator for Unless {
 
     ghost meaning = { λ s. unless_of s.terms.scope s.terms.hold s.terms.tests };
 
-    ghost stands = { λ s tables marks. StandsByBegin (AreWhiles s.terms.scope s.terms.hold) (s.rows ∷ s.blockers ∷ []) tables marks };
+    ghost stands = { λ s tables marks. StandsByBegin (AreWhiles s.terms.scope s.terms.hold) s.terms.scope (s.rows ∷ s.blockers ∷ []) tables marks };
 
     ghost held = { λ s. s.rows ∷ s.blockers ∷ [] };
 
@@ -156,7 +157,11 @@ impl Operator for Unless {
         least_mark(marks)
     }
 
-    fn trim(&mut self, _marks: &[Time]) {}
+    fn trim(&mut self, marks: &[Time]) {
+        let least = least_mark(marks);
+        self.rows.forget(self.terms.scope, least);
+        self.blockers.forget(self.terms.scope, least);
+    }
 
     ghost lawful = { λ s. unless_laws s.terms.scope s.terms.hold s.terms.tests s.rows s.blockers };
 }

@@ -1,5 +1,4 @@
-use Rattle.std.proofs.Common.{replicate, length}
 use Rattle.op_feed.proofs.feeding.gives.Given as goal
 
 abbrev pub invariant-loop-port : goal.invariant-loop-port
-invariant-loop-port g l = g.O.Operator.stands l.op l.tables.items (replicate (length l.tables.items) 0)
+invariant-loop-port g l = g.O.Operator.stands l.op l.tables.items l.marks.items

@@ -12,4 +12,4 @@ returns c = λ edges living sums shows stays begins ends lives.
     (λ t. cond (nat_le c.args.earlier t && nat_lt t c.args.end) (living t - 1) (living t)) (λ t. cond (nat_le c.args.earlier t && nat_lt t c.args.end) (summed (sums t) c.args.numbers.now) (sums t)) two (omega arith) in
     c.take_begin.ensures (λ t. (edges t + cond (nat_lt c.args.begin c.args.earlier) (one_at c.args.earlier t) 0) - one_at c.args.end t)
     (λ t. cond (nat_le c.args.earlier t && nat_lt t c.args.end) (living t - 1) (living t)) (λ t. cond (nat_le c.args.earlier t && nat_lt t c.args.end) (summed (sums t) c.args.numbers.now) (sums t)) three
-    (λ gone. cut_begin edges c.args.begin c.args.end _ begins lives)
+    (λ gone. cut_begin edges c.args.begin c.args.end _ (begins gone) lives)

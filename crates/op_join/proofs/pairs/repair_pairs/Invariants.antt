@@ -2,8 +2,8 @@ use Rattle.std.proofs.Common.{◌≡◌, ◌++◌, take, length}
 use Rattle.std.specs.List.{filter}
 use Rattle.cedr_base.specs.Changes.{sync_of}
 use Rattle.cedr_expr.specs.Tests.{passes}
-use Rattle.cedr_table.specs.Counted.{spread}
-use Rattle.op_join.specs.Pairs.{all_changes, ends_after}
+use Rattle.cedr_table.specs.Counted.{spread, ends_after}
+use Rattle.op_join.specs.Pairs.{all_changes}
 use Rattle.op_join.proofs.pairs.repair_pairs.Given as goal
 
 abbrev pub invariant-loop-other : goal.invariant-loop-other

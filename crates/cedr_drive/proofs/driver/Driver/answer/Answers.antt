@@ -2,7 +2,8 @@ use Rattle.std.proofs.Common.{◌≡◌, ◌≤◌, ◌∷◌, [], ◌∙◌, ap
 use Rattle.cedr_base.specs.declared.time.TheConstants.{FOREVER}
 use Rattle.cedr_base.specs.Rows.{SameRows}
 use Rattle.cedr_table.specs.Operators.{Tables, Meaning, AreTimes, SameTables, OnlyHolds}
-use Rattle.cedr_drive.proofs.DriveLemmas.{rise_itself, answer_fed, same_tables_itself, same_tables_back}
+use Rattle.cedr_table.specs.PortLaws.{rise_itself}
+use Rattle.cedr_drive.proofs.DriveLemmas.{answer_fed, same_tables_itself, same_tables_back}
 use Rattle.cedr_drive.proofs.driver.Driver.answer.Goals as goal
 
 pub bound-bound-requires : goal.bound-bound-requires
@@ -47,9 +48,13 @@ returns-clause-answers g c = λ lists given d port_is legal.
     λ h. subst (λ (k : Meaning). marks ≡ k.bound tables marks ∷ []) e.meaning ((laws.lawful mid).echo_bound tables marks (ap (λ (k : Meaning). k.echoes) e.meaning ∙ h) f.works.op) in
     let was = subst (λ (ms : List ℕ). op.stands mid tables ms) (sym c.as_slice-2.ensures.value) f.works.op in
     let trimmed = c.trim.ensures.stands tables c.as_slice-2.result.now was (rise_itself c.as_slice-2.result.now) in
-    let held = c.trim.ensures.held tables c.as_slice-2.result.now was (rise_itself c.as_slice-2.result.now) in
+    let held : (others : Tables) → SameTables f.works.tables others → OnlyHolds (op.meaning old) others marks (op.held c.trim.new.self) =
+    λ others same.
+    let st = subst (λ (ms : List ℕ). op.stands mid others ms) (sym c.as_slice-2.ensures.value) ((laws.lawful mid).alike tables others marks same f.works.op) in
+    let only = c.trim.ensures.held others c.as_slice-2.result.now st (rise_itself c.as_slice-2.result.now) in
+    subst (λ (h : Meaning). OnlyHolds h others marks (op.held c.trim.new.self)) e.meaning (subst (λ (ms : List ℕ). OnlyHolds (op.meaning mid) others ms (op.held c.trim.new.self)) c.as_slice-2.ensures.value only) in
     answer_fed (op.meaning old) (op.stands mid) (op.stands c.trim.new.self) (op.held c.trim.new.self) marks lists c.args.port c.args.taken.now given c.args.out.now.items c.feed.new.out.items f
     c.args.self.now.sent c.push_mark.new.sent c.bound-bound.result c.push_mark.new.out.items d.sent_is c.in_ok-push_mark.ensures.sent.1 told alike echo_mark time
     (subst (λ (ms : List ℕ). op.stands c.trim.new.self tables ms) c.as_slice-2.ensures.value trimmed)
-    (subst (λ (h : Meaning). OnlyHolds h tables marks (op.held c.trim.new.self)) e.meaning (subst (λ (ms : List ℕ). OnlyHolds (op.meaning mid) tables ms (op.held c.trim.new.self)) c.as_slice-2.ensures.value held))
+    held
     c.in_ok-push_mark.ensures.sent.0

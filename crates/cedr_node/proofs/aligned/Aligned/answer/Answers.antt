@@ -6,9 +6,9 @@ use Rattle.cedr_table.specs.Operators.{Meaning}
 use Rattle.cedr_laws.specs.Lists.{list_at, with_more}
 use Rattle.cedr_laws.specs.Lawful.{passes_of}
 use Rattle.cedr_drive.specs.Driving.{Answers}
-use Rattle.cedr_node.specs.Standing.{levels_of, ending, breaking, StandsBetween}
+use Rattle.cedr_node.specs.Standing.{levels_of, ending, breaking, StandsBetween, HoldsAtFronts}
 use Rattle.cedr_node.proofs.PortLists.{all_length}
-use Rattle.cedr_node.proofs.Takes.{count_fits, takes_broken, driven, port_within, may_pass, takes_whole}
+use Rattle.cedr_node.proofs.Takes.{count_fits, broken_now, takes_broken, driven, port_within, may_pass, takes_whole, takes_holds}
 use Rattle.cedr_node.proofs.aligned.Aligned.answer.Goals as goal
 
 pub take_on-requires : goal.take_on-requires
@@ -72,3 +72,34 @@ returns-clause-taken g c = on_ok_weaker c.push_end.result (λ pushed lists given
           c.args.port c.args.message c.in_ok-passed.passed.items h may t c.closes-closed.ensures c.breaks-broke.ensures c.count_down-self.ensures refl c.if-self.false
           (op.stands new.op) (op.held new.op) new.marks.items new.sent c.args.out.now.items c.take.new.out.items a),
     )) c.push_end.ensures.ok
+
+pub returns-then-self-clause-holds : goal.returns-then-self-clause-holds
+returns-then-self-clause-holds g c = on_ok_weaker c.push_broken.result (λ pushed lists given h may none.
+    let op = g.O.Operator in
+    let me = c.args.self.now in
+    let t = c.in_ok-passed.ensures.taken lists h.ports_stand may in
+    let some = broken_now (op.meaning me.driver.op) (op.stands me.driver.op) me.ports.items c.take_on.new.ports.items me.driver.marks.items me.driver.sent me.waiting c.count_down-self.result me.broken (me.broken || c.breaks-broke.result) c.closes-closed.result c.breaks-broke.result lists given
+    c.args.port c.args.message c.in_ok-passed.passed.items h may t c.closes-closed.ensures c.breaks-broke.ensures c.count_down-self.ensures refl in
+    absurd (let wrong = sym c.if-self.true ∙ (some ∙ none) in cc)) c.push_broken.ensures.ok
+
+pub returns-clause-holds : goal.returns-clause-holds
+returns-clause-holds g c = on_ok_weaker c.push_end.result (λ pushed lists given h may none.
+    let op = g.O.Operator in
+    let me = c.args.self.now in
+    let new = c.take.new.self in
+    let t = c.in_ok-passed.ensures.taken lists h.ports_stand may in
+    let passes = passes_of (levels_of me.ports.items) lists in
+    let w = driven (op.meaning me.driver.op) (op.stands me.driver.op) me.ports.items c.take_on.new.ports.items me.driver.marks.items me.driver.sent me.waiting c.count_down-self.result me.broken (me.broken || c.breaks-broke.result) c.closes-closed.result c.breaks-broke.result lists given
+    c.args.port c.args.message c.in_ok-passed.passed.items h may t c.closes-closed.ensures c.breaks-broke.ensures c.count_down-self.ensures refl c.if-self.false in
+    let within = port_within (op.meaning me.driver.op) (op.stands me.driver.op) me.ports.items c.take_on.new.ports.items me.driver.marks.items me.driver.sent me.waiting c.count_down-self.result me.broken (me.broken || c.breaks-broke.result) c.closes-closed.result c.breaks-broke.result lists given
+    c.args.port c.args.message c.in_ok-passed.passed.items h may t c.closes-closed.ensures c.breaks-broke.ensures c.count_down-self.ensures refl c.if-self.false in
+    let legal = may_pass (op.meaning me.driver.op) (op.stands me.driver.op) me.ports.items c.take_on.new.ports.items me.driver.marks.items me.driver.sent me.waiting c.count_down-self.result me.broken (me.broken || c.breaks-broke.result) c.closes-closed.result c.breaks-broke.result lists given
+    c.args.port c.args.message c.in_ok-passed.passed.items h may t c.closes-closed.ensures c.breaks-broke.ensures c.count_down-self.ensures refl c.if-self.false in
+    let e = c.in_ok-take.ensures in
+    let a0 = e.answers passes given w within (subst (λ (ms : List Message). IsLegalBehind (list_at (passes_of (levels_of me.ports.items) lists) c.args.port) ms) (sym c.as_slice.ensures.value) legal) in
+    let a : Answers (op.meaning me.driver.op) (op.stands new.op) (op.held new.op) new.marks.items me.driver.sent new.sent (passes_of (levels_of me.ports.items) lists) c.args.port c.in_ok-passed.passed.items given c.args.out.now.items c.take.new.out.items =
+    subst (λ (ms : List Message). Answers (op.meaning me.driver.op) (op.stands new.op) (op.held new.op) new.marks.items me.driver.sent new.sent (passes_of (levels_of me.ports.items) lists) c.args.port ms given c.args.out.now.items c.take.new.out.items) c.as_slice.ensures.value a0 in
+    subst (λ (k : Meaning). HoldsAtFronts k (levels_of c.take_on.new.ports.items) (with_more lists c.args.port (c.args.message ∷ [])) (op.held new.op)) (sym c.take.ensures.meaning)
+    (takes_holds (op.meaning me.driver.op) (op.stands me.driver.op) me.ports.items c.take_on.new.ports.items me.driver.marks.items me.driver.sent me.waiting c.count_down-self.result me.broken (me.broken || c.breaks-broke.result) c.closes-closed.result c.breaks-broke.result lists given
+    c.args.port c.args.message c.in_ok-passed.passed.items h may t c.closes-closed.ensures c.breaks-broke.ensures c.count_down-self.ensures refl c.if-self.false
+    (op.stands new.op) (op.held new.op) new.marks.items new.sent c.args.out.now.items c.take.new.out.items a)) c.push_end.ensures.ok

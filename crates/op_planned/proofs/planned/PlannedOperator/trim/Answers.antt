@@ -86,3 +86,15 @@ returns-in-Join-clause-meaning c = rw c.in-Join.is c.trim-in-Join.ensures.meanin
 
 pub returns-in-Sequence-clause-meaning : goal.returns-in-Sequence-clause-meaning
 returns-in-Sequence-clause-meaning c = rw c.in-Sequence.is c.trim-in-Sequence.ensures.meaning
+
+pub returns-in-Join-clause-held : goal.returns-in-Join-clause-held
+returns-in-Join-clause-held c = rw c.in-Join.is c.trim-in-Join.ensures.held
+
+pub returns-in-Group-clause-held : goal.returns-in-Group-clause-held
+returns-in-Group-clause-held c = rw c.in-Group.is c.trim-in-Group.ensures.held
+
+pub returns-in-Sequence-clause-held : goal.returns-in-Sequence-clause-held
+returns-in-Sequence-clause-held c = rw c.in-Sequence.is c.trim-in-Sequence.ensures.held
+
+pub returns-in-Unless-clause-held : goal.returns-in-Unless-clause-held
+returns-in-Unless-clause-held c = rw c.in-Unless.is c.trim-in-Unless.ensures.held

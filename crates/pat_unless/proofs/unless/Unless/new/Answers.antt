@@ -1,0 +1,12 @@
+use Rattle.std.proofs.Common.{List, [], ◌∷◌, sym, subst}
+use Rattle.cedr_base.specs.declared.row.Row.{Row}
+use Rattle.pat_rows.specs.Answers.{StandsByBegin}
+use Rattle.pat_rows.proofs.EndlessLemmas.{stands_new}
+use Rattle.pat_unless.specs.Blocking.{AreWhiles}
+use Rattle.pat_unless.proofs.unless.Unless.new.Goals as goal
+
+pub returns-clause-stands : goal.returns-clause-stands
+returns-clause-stands c =
+    subst (λ (rows : List Row). StandsByBegin (AreWhiles c.args.scope c.args.hold) c.args.scope (c.new.result ∷ rows ∷ []) ([] ∷ [] ∷ []) (0 ∷ 0 ∷ [])) (sym c.new-2.ensures)
+    (subst (λ (rows : List Row). StandsByBegin (AreWhiles c.args.scope c.args.hold) c.args.scope (rows ∷ [] ∷ []) ([] ∷ [] ∷ []) (0 ∷ 0 ∷ [])) (sym c.new.ensures)
+    (stands_new c.args.scope 2 (record { scope_is = c.requires.scope; hold_is = c.requires.hold })))
