@@ -1,7 +1,7 @@
 #!/usr/bin/env python3
 """Runs the built program on many event files and command lines, and compares what comes with what must come.
 
-What must come is written out by hand in cases.py, and for random files worked out by reference.py, which is
+What must come is written out by hand in cases.py and docs/, and for random files worked out by reference.py, which is
 also held to the cases. Status 0: all right. 1: something differs; the first differences are printed, and their
 files kept. 2: the program isn't there.
 
@@ -15,10 +15,12 @@ from pathlib import Path
 sys.dont_write_bytecode = True
 
 import cases
+import pages
+import pipes
 import random_files
 import reference
 import terminal
-from program import USAGE, Check, built_program, check_cases, limit_files
+from program import ROOT, USAGE, Check, built_program, check_cases, limit_files
 
 EVENT = b"+,1,1,2,a\n"
 
@@ -59,11 +61,24 @@ def check_command_lines(check: Check) -> int:
         check.write(name, data)
     for words, *expected in COMMAND_LINES:
         check.compare(f"the words {words}", b"", tuple(expected), check.run(words))
-    for word, part in ((b"--help", b"history FILE"), (b"--help", b"live PLAN SCRIPT"), (b"--version", b"cedr ")):
-        status, out, err = check.run([word])
-        told = part in out if word == b"--help" else out.startswith(part)
-        check.compare(f"the word {word}", b"", (0, True, b""), (status, told, err))
-    return len(COMMAND_LINES) + 3
+    return len(COMMAND_LINES) + check_texts(check)
+
+
+def check_texts(check: Check) -> int:
+    """The version is one line; the help has each command once, with an example, and each number of a fault."""
+    status, out, err = check.run([b"--version"])
+    is_line = out.startswith(b"cedr ") and out.count(b"\n") == 1
+    check.compare("the version", b"", (0, out if is_line else b"one line", b""), (status, out, err))
+    status, out, err = check.run([b"--help"])
+    lines, commands = out.decode().splitlines(), USAGE.decode().strip().removeprefix("usage: cedr ").split(" | ")
+    for words in commands:
+        starts = [line.split()[1 + len(words.split()):][:2] for line in lines if line.startswith(f"cedr {words} ")]
+        expected = [["cedr", words.split()[0]]]
+        check.compare(f"the help on {words}", b"", (0, str(expected).encode(), b""), (status, str(starts).encode(), err))
+    numbers = [line.split()[0] for line in lines if line.startswith("    ") and line.split()[0].isdigit()]
+    expected = [str(number) for last in (10, 14) for number in range(1, last + 1)]
+    check.compare("the faults in the help", b"", (0, str(expected).encode(), b""), (status, str(numbers).encode(), err))
+    return 2 + len(commands)
 
 
 def check_outside(check: Check) -> int:
@@ -74,7 +89,7 @@ def check_outside(check: Check) -> int:
             check.compare(f"the words {words} to a full device", EVENT, (5, b"", b"write fault\n"), came)
         came = history(check, b"", full)
         check.compare("no rows to a full device", b"", (0, b"", b""), came)
-    return 4 + check_limited_output(check) + check_refused_read(check)
+    return 4 + check_limited_output(check) + check_refused_read(check) + check_pipes(check)
 
 
 def check_limited_output(check: Check) -> int:
@@ -103,6 +118,19 @@ def check_refused_read(check: Check) -> int:
     return 1
 
 
+def check_pipes(check: Check) -> int:
+    """A file that is a pipe, of more bytes than a pipe holds, is read to its end."""
+    data = random_files.long_file(random.Random(0))
+    status, rows, err = by_reference(data)
+    told = err.replace(b"e.csv", b"/dev/stdin")
+    came = pipes.on_standard_input(check, [b"history", b"/dev/stdin"], data)
+    check.compare("standard input", data, (status, rows, told), came)
+    with pipes.named(check.folder, {"pipe": data}):
+        came = check.run([b"history", b"pipe"])
+    check.compare("a named pipe", data, (status, rows, err.replace(b"e.csv", b"pipe")), came)
+    return 2
+
+
 def check_random(check: Check, make, count: int) -> int:
     """Compares so many random files with the reference, and answers how many of them were accepted."""
     accepted = 0
@@ -127,13 +155,14 @@ def main() -> int:
     with tempfile.TemporaryDirectory(prefix="cedr-check-") as folder:
         check = Check(built_program(), Path(folder), ".csv")
         small = check_cases(check, cases.SMALL, by_reference, history)
+        on_page = check_cases(check, pages.of_history(ROOT), by_reference, history)
         words = check_command_lines(check)
         refused = check_outside(check)
         good = check_random(check, random_files.small_file, 1_500)
         good_long = check_random(check, random_files.long_file, 20)
         check_arrival(check, 40)
         large = check_cases(check, cases.large(), by_reference, history)
-    print(f"history: {small} small and {large} large files by hand, {words} command lines, {refused} "
+    print(f"history: {small} small and {large} large files by hand, {on_page} of docs/, {words} command lines, {refused} "
           f"with what the outside refuses, 1500 random files ({good} accepted), 20 long ones ({good_long} accepted), "
           f"40 in two orders: {check.differences} differences")
     return 1 if check.differences else 0

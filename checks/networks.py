@@ -1,7 +1,7 @@
 #!/usr/bin/env python3
 """Runs the commands of the built program that run a plan, and compares what comes with what must come.
 
-What must come is written out by hand in network_cases.py, docs/levels.md and README.md, and for random plans, files and scripts
+What must come is written out by hand in network_cases.py, README.md and docs/, and for random plans, files and scripts
 worked out by answer_reference.py from the definitions. What is written by hand is also compared with that, and with a
 run of the reference in network.py. Status 0: all right. 1: something differs; the first differences are printed with
 their seeds, and their files kept. 2: the program isn't there. With a seed it looks at the random plans, scripts and
@@ -19,9 +19,10 @@ sys.dont_write_bytecode = True
 
 import answer_reference
 import asked
-import levels_page
 import network_cases
 import network_texts
+import pages
+import pipes
 import random_networks
 import terminal
 from network_cases import SCRIPT_WORDS
@@ -160,6 +161,17 @@ def check_refused_reads(check: NetworkCheck) -> int:
     return len(asked.ON_SOURCES)
 
 
+def check_pipes(check: NetworkCheck) -> int:
+    """Sources that are named pipes are read like files."""
+    folder = ROOT / "examples/monday"
+    plan, sources = folder / "failed.json", {one.name: one.read_bytes() for one in folder.glob("*.csv")}
+    for command in ("run", "serial"):
+        with pipes.named(check.folder, sources):
+            came = check.run([command, plan])
+        check.compare(f"{command} over named pipes", sources, (0, b"1300,1301,oven-1\n", b""), came)
+    return 2
+
+
 def main() -> int:
     only = range(int(sys.argv[2]), int(sys.argv[2]) + 1) if len(sys.argv) > 2 else None
     with tempfile.TemporaryDirectory(prefix="cedr-check-") as folder:
@@ -170,11 +182,12 @@ def main() -> int:
 
 
 def check_all(check: NetworkCheck) -> str:
-    tables = network_cases.all_cases(), levels_page.all_cases(ROOT), network_cases.large()
+    tables = network_cases.all_cases(), pages.of_plans(ROOT), network_cases.large()
     small, on_page, large = (check_by_hand(check, cases) for cases in tables)
     outside, sizes = check_full_device(check) + check_refused_reads(check), check_made(check)
-    told = (f"{small} small and {large} large cases by hand, {on_page} of docs/levels.md and README.md, {outside} that the "
-            f"outside refuses, {sizes} sizes of make, ")
+    piped = check_pipes(check)
+    told = (f"{small} small and {large} large cases by hand, {on_page} of README.md and docs/, {outside} that the outside "
+            f"refuses, {piped} over named pipes, {sizes} sizes of make, ")
     return told + check_seeds(check, *map(range, (PLANS, SCRIPTS, FAULTY_PLANS, FAULTY_SCRIPTS, HISTORIES)))
 
 

@@ -10,44 +10,70 @@ use std::thread::Threads;
 use std::time::Clock;
 use std::{env, io};
 
-const HELP: &str = "usage: cedr history FILE
-       cedr check PLAN
-       cedr run PLAN
-       cedr serial PLAN
-       cedr stream PLAN
-       cedr audit PLAN
-       cedr live PLAN SCRIPT
-       cedr make N
+const HELP: &str = "usage: cedr COMMAND; each command, and an example of it:
 
-history writes the canonical history of an event file to standard output: for each
-event its valid interval and payload as the file's retractions leave them, one row a
-line, by end, then by begin, then by payload. Events whose valid interval is empty are
-left out.
+cedr run PLAN             cedr run plan.json
+    writes the rows of the plan's answer over the files of its sources, sorted by end,
+    then by begin, then field by field. Where some level of the plan has a finite memory,
+    a line -- and a line for each change that came too late to count follow.
+cedr stream PLAN          cedr stream plan.json
+    writes the changes of the answer as they come: an added row after +, and after - a
+    row that ends earlier, with its new end in front.
+cedr live PLAN SCRIPT     cedr live plan.json script.txt
+    reads no event file. Each line of the script is an event line after the name of its
+    source and a comma, or ? alone, at which the rows so far are written, and then up to
+    which time nothing changes any more.
+cedr serial PLAN          cedr serial plan.json
+    writes what run writes, on one thread.
+cedr audit PLAN           cedr audit plan.json
+    writes the same, with the line -- and the changes that didn't count always.
+cedr check PLAN           cedr check plan.json
+    writes a line for each node of the plan: its name, its operator and the types of the
+    fields of its result. It opens no event file.
+cedr history FILE         cedr history events.csv
+    writes the canonical history of an event file: for each event its valid interval and
+    its fields, as the file's retractions leave them.
+cedr make N               cedr make 1000
+    answers a plan over two sources of N events that it makes itself, N from 1 to 100000,
+    and writes how many rows there are and for how long they are valid together.
+cedr --help, cedr --version
+    print this text and the version.
 
-check reads a plan, and writes a line for each of its nodes: the name, the operator and
-the types of the fields of its result. It opens no event file.
-
-run reads a plan and the files of its sources, and writes the rows of the plan's answer
-over their canonical histories. Where some level of the plan has a finite memory, a line
--- and a line for each change that came too late to count follow. serial writes the
-same, on one thread.
-
-stream writes the changes of the answer as they come: an added row behind +, and behind
-- a row that ends earlier, with its new end in front.
-
-audit writes what run does, with the line -- and the changes that didn't count always.
-
-live reads no event file. Each line of its script is an event line behind the name of
-its source and a comma, or ? alone, at which the rows so far are written, and then how
-far they are decided.
-
-make answers a plan over two sources of N events that it makes itself, N from 1 to
-100000, and writes how many rows there are and for how long they are valid together.
-
-cedr --help and cedr --version print this text and the version.
+An event file has lines of three kinds:
+    +,ID,BEGIN,END,FIELD..    an event is valid from BEGIN on and before END, or inf
+    -,ID,END                  it ends earlier; where that is its begin, it is withdrawn
+    =,TIME                    no later line begins an event, or ends one, before TIME
 
 Exit status: 0 done, 1 the command line matches no command, 2 the plan has a fault,
 3 the events have a fault, 4 a read fault, 5 a write fault, 6 out of memory.
+
+The faults of a line, of which the least is reported:
+     1 the line is too long
+     2 the line isn't in form
+     3 an id or a time isn't in form
+     4 the valid interval is empty
+     5 a number field isn't in form
+     6 the id was inserted before
+     7 the id wasn't inserted
+     8 the new end isn't from the event's begin on and below its end
+     9 the sync is below the guarantee
+    10 the file is too large
+
+The faults of a plan, of which the first is reported:
+     1 the plan is too long
+     2 the plan isn't JSON
+     3 a required member is missing or isn't in form
+     4 the operator isn't known
+     5 there are too many nodes, ports, fields or tests
+     6 a number isn't whole or isn't in its range
+     7 the level isn't known, or its block is over its memory
+     8 the name is an earlier node's
+     9 an input is no earlier node, or an output
+    10 the result has too many fields
+    11 a column isn't there
+    12 types differ
+    13 there isn't exactly one output
+    14 a node is never used
 ";
 
 const VERSION: &str = "cedr 0.1.0\n";
@@ -62,7 +88,7 @@ fn main(rt: HostRuntime) -> ExitCode {
     ExitCode::from(status.code())
 }
 
-/// The words behind the program's name.
+/// The words after the program's name.
 fn words(rt: &HostRuntime) -> io::Result<Vec<String>> {
     let words = env::args(rt)?.skip(1).collect(rt.alloc())?;
     Ok(words)
@@ -92,7 +118,7 @@ fn answer<R: Threads + Wait + Clock + Copy + Drop + Send + 'static>(
     run(threads, alloc, words, &mut files, &mut out, &mut err, &gate).status
 }
 
-/// Prints the text, or tells standard error why not all of it was printed.
+/// Prints the text, or reports on standard error why not all of it was printed.
 fn print(rt: &HostRuntime, out: &mut StdSink, text: &str) -> Status {
     match write_all(out, text.as_bytes()) {
         Ok(()) => Status::Done,
@@ -104,7 +130,7 @@ fn print(rt: &HostRuntime, out: &mut StdSink, text: &str) -> Status {
     }
 }
 
-/// Tells standard error that memory ran out.
+/// Reports on standard error that memory ran out.
 fn lacking(rt: &HostRuntime) -> Status {
     let _ = write_all(&mut StdSink::err(rt), b"out of memory\n");
     Status::OutOfMemory

@@ -1,0 +1,153 @@
+"""The commands in README.md and docs/ with what these say that they write, over the files of examples/, and the lines in
+docs/faults.md with how these are refused. What the pages show of files and plans is held to examples/ besides."""
+import json
+import re
+from itertools import zip_longest
+from pathlib import Path
+
+import picture
+from network_cases import NetworkCase
+from program import Case
+
+SHOWN = re.compile(r"```sh\n(?:\(cd [^\n]*\n)?cd (\S+)\n\S*/cedr ([^\n]*)\n```\n\n```text\n(.*?)```", re.DOTALL)
+CALL = re.compile(r"^\S*/cedr ", re.MULTILINE)
+TABLE_ROW = re.compile(r"^\| (\d+|the end) \|(.*)\|$", re.MULTILINE)
+TEXT = re.compile("`([^`]*)`")
+NODE = re.compile(r"```json\n([^`]*)```\n\n```sh\n[^`]*/cedr run ([^\n]*)\n")
+FILE = re.compile(r"## A file\n.*?```text\n(.*?)```", re.DOTALL)
+SIDE_BY_SIDE = re.compile(r"```text\n((?:\S+\.csv *)+)\n(.*?)```", re.DOTALL)
+PLAN = re.compile(r"`(\S+\.json)`:\n\n```json\n(.*?)```", re.DOTALL)
+AFTER = re.compile(r"refused as it says, (after the two lines [^:]*):")
+FAULT = re.compile(r"^\| (\d), [^|]*\| `([^`]*)`(?: and ([\d,]*) letters)? \| `([^`]*)` \|$", re.MULTILINE)
+TYPED = re.compile(r"With the plan\n\n```json\n(.*?)```\n\n`run` refuses the line `(.*?)` of `e.csv` as `(.*?)`", re.DOTALL)
+LARGE = re.compile(r"A file of ([\d,]*) lines of `=,` and ([\d,]*) zeros, and a letter more, is refused as `(.*?)`")
+LINK = re.compile(r"\]\(([^)#]*)(?:#([^)]*))?\)")
+HEADING = re.compile(r"^#+ (.*)$", re.MULTILINE)
+LEVELS = ["strong.json", "middle.json", "weak.json"]
+
+
+class PageError(Exception):
+    """The page isn't as this module reads it."""
+
+
+def of_plans(root: Path):
+    """The commands that answer a plan."""
+    yield from (case for case in all_cases(root) if case.words[0] != "history")
+
+
+def of_history(root: Path):
+    """What `history` says of one file."""
+    for case in all_cases(root):
+        if case.words[0] == "history":
+            yield Case(case.name, case.files[case.words[1]], case.status, case.out, case.err)
+
+
+def all_cases(root: Path):
+    names = ["README.md", "CONTRIBUTING.md", *(f"docs/{one.name}" for one in sorted((root / "docs").glob("*.md")))]
+    for name in names:
+        check_links(root, name)
+        yield from shown_cases(root, name)
+    check_levels(root)
+    check_guide(root)
+    check_front(root)
+    if picture.PICTURE.read_text() != picture.drawn():
+        raise PageError("docs/picture.svg isn't what checks/picture.py draws")
+    yield from faults((root / "docs/faults.md").read_text())
+
+
+def shown_cases(root: Path, name: str):
+    """What stands under each command of the page; docs/plans.md is the page of checks/plans.py."""
+    page = (root / name).read_text()
+    found = SHOWN.findall(page)
+    if name != "docs/plans.md" and len(found) != len(CALL.findall(page)):
+        raise PageError(f"{name} has a command that this module doesn't find")
+    for folder, words, out in found:
+        yield shown_case(root / folder, words.split(), out, name)
+
+
+def shown_case(folder: Path, words: list, out: str, name: str) -> NetworkCase:
+    """The case of a command in a folder. A file that lies elsewhere is put beside the others."""
+    files = {one.name: one.read_bytes() for one in folder.iterdir() if one.is_file()}
+    for word in words:
+        if "/" in word:
+            files[Path(word).name] = (folder / word).read_bytes()
+    beside = [Path(word).name for word in words]
+    return NetworkCase(f"{' '.join(words)}, as {name} shows it", files, beside, 0, out.encode(), b"")
+
+
+def faults(page: str):
+    """Each line of the table, after the lines that the page names, and the two faults that the text shows."""
+    before = "".join(text + "\n" for text in TEXT.findall(AFTER.search(page)[1]))
+    found = FAULT.findall(page)
+    if [number for number, *_ in found] != list("12346789"):
+        raise PageError("the table of lines doesn't have eight faults")
+    for number, line, letters, told in found:
+        data = before + line + "x" * number_of(letters or "0") + "\n"
+        yield refused(number, {"e.csv": data.encode()}, ["history", "e.csv"], told)
+    plan, line, told = TYPED.search(page).groups()
+    yield refused("5", {"plan.json": plan.encode(), "e.csv": line.encode()}, ["run", "plan.json"], told)
+    lines, zeros, told = LARGE.search(page).groups()
+    data = ("=," + "0" * number_of(zeros) + "\n") * number_of(lines) + "x"
+    yield refused("10", {"e.csv": data.encode()}, ["history", "e.csv"], told)
+
+
+def refused(number: str, files: dict, words: list, told: str) -> NetworkCase:
+    return NetworkCase(f"fault {number} of docs/faults.md", files, words, 3, b"", told.encode() + b"\n")
+
+
+def number_of(text: str) -> int:
+    return int(text.replace(",", ""))
+
+
+def check_links(root: Path, name: str) -> None:
+    """What the page links to is there, with the heading."""
+    for file, anchor in LINK.findall((root / name).read_text()):
+        to = (root / name).parent / file if file else root / name
+        if not to.exists() or anchor and anchor not in map(anchor_of, HEADING.findall(to.read_text())):
+            raise PageError(f"{name} links to {file}#{anchor}, which isn't there")
+
+
+def anchor_of(heading: str) -> str:
+    words = re.sub(r"\[([^\]]*)\]\([^)]*\)", r"\1", heading).lower()
+    return re.sub(r"[^\w\- ]", "", words).replace(" ", "-")
+
+
+def check_front(root: Path) -> None:
+    """The files and the plan of the README's example are as it shows them, and its sorted file has the same lines."""
+    page, folder = (root / "README.md").read_text(), root / "examples/monday"
+    names, body = SIDE_BY_SIDE.search(page).groups()
+    files = [(folder / name).read_text().splitlines() for name in names.split()]
+    if [line.split() for line in body.splitlines()] != [[*filter(None, row)] for row in zip_longest(*files)]:
+        raise PageError("the files aren't as the README shows them")
+    name, plan = PLAN.search(page).groups()
+    if (folder / name).read_text() != plan:
+        raise PageError("the plan isn't as the README shows it")
+    for one in (folder / "sorted").iterdir():
+        if sorted(one.read_text().splitlines()) != sorted((folder / one.name).read_text().splitlines()):
+            raise PageError(f"the sorted {one.name} has other lines")
+
+
+def check_guide(root: Path) -> None:
+    """The file that the guide shows is as it shows it, and each node stands in the plan that is run under it."""
+    guide, folder = (root / "docs/guide.md").read_text(), root / "examples/guide"
+    for node, name in NODE.findall(guide):
+        plan = (folder / name).read_text()
+        if node != plan and json.loads(node) not in json.loads(plan)["nodes"]:
+            raise PageError(f"what stands above {name} isn't in it")
+    if FILE.search(guide)[1] != (folder / "reports.csv").read_text():
+        raise PageError("the file isn't as the guide shows it")
+
+
+def check_levels(root: Path) -> None:
+    """The first table has the lines of the file, and the second one in its columns what each stream writes."""
+    page = (root / "docs/levels.md").read_text()
+    shown = {words: out for _, words, out in SHOWN.findall(page)}
+    _, lines, written, *_ = page.split("\n## ")
+    reports = (root / "examples/levels/reports.csv").read_text().splitlines()
+    if [TEXT.search(cells)[1] for _, cells in TABLE_ROW.findall(lines)] != reports:
+        raise PageError("the first table doesn't have the lines of the file")
+    columns = zip(*[cells.split("|") for _, cells in TABLE_ROW.findall(written.split("\n### ")[0])])
+    for plan, column in zip(LEVELS, columns, strict=True):
+        changes = "".join(text + "\n" for cell in column for text in TEXT.findall(cell))
+        if shown[f"stream {plan}"].partition("--\n")[0] != changes:
+            raise PageError(f"the second table doesn't have what the stream of {plan} writes")
