@@ -9,11 +9,11 @@ import picture
 from network_cases import NetworkCase
 from program import Case
 
-SHOWN = re.compile(r"```sh\n(?:\(cd [^\n]*\n)?cd (\S+)\n\S*/cedr ([^\n]*)\n```\n\n```text\n(.*?)```", re.DOTALL)
-CALL = re.compile(r"^\S*/cedr ", re.MULTILINE)
+SHOWN = re.compile(r"```sh\n(?:\(cd crates[^\n]*\n)?\(cd (\S+) && \S*/cedr ([^\n]*)\)\n```\n\n```text\n(.*?)```", re.DOTALL)
+CALL = re.compile(r"^(?:\(cd \S+ && )?\S*/cedr ", re.MULTILINE)
 TABLE_ROW = re.compile(r"^\| (\d+|the end) \|(.*)\|$", re.MULTILINE)
 TEXT = re.compile("`([^`]*)`")
-NODE = re.compile(r"```json\n([^`]*)```\n\n```sh\n[^`]*/cedr run ([^\n]*)\n")
+NODE = re.compile(r"```json\n([^`]*)```\n\n```sh\n[^`]*/cedr run ([^\n]*)\)\n")
 FILE = re.compile(r"## A file\n.*?```text\n(.*?)```", re.DOTALL)
 SIDE_BY_SIDE = re.compile(r"```text\n((?:\S+\.csv *)+)\n(.*?)```", re.DOTALL)
 PLAN = re.compile(r"`(\S+\.json)`:\n\n```json\n(.*?)```", re.DOTALL)
