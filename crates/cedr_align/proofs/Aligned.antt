@@ -56,7 +56,7 @@ module _ (level : Level) (ms : List Message) (m : Message) (may : MayCome ms m) 
   remembers_is : (r : Row) → is_remembered level.memory ended mark high r ≡ remembers level (ms ++ m ∷ []) r
   remembers_is r = ap (λ (b : Bool). is_remembered level.memory b mark high r) ended_is ∙ (ap (λ n. is_remembered level.memory (has_end (ms ++ m ∷ [])) n high r) mark_is ∙ ap (λ n. is_remembered level.memory (has_end (ms ++ m ∷ [])) (mark_of (ms ++ m ∷ [])) n r) high_is)
 
-  -- what is still remembered are the passed rows behind the message's own change
+  -- what is still remembered are the passed rows after the message's own change
   passed1_is : (r : Row) → remembers level (ms ++ m ∷ []) r ≡ true → count_of r passed1 ≡ rest level ms m may sound r
   unfolding rest
   passed1_is r h =
@@ -192,6 +192,7 @@ broken_remembered a ms opened = let f = broken_passed a.level ms opened in recor
       ∙ (ap (λ (b : Bool). cond b (count_of r (passed_table a.level (ms ++ message.Broken ∷ []))) 0) (sym (broken_remembers a ms opened r)) ∙ sym (count-remembered a.level (ms ++ message.Broken ∷ []) r)));
 }
 
+-- a break is passed on alone, and leaves the aligner as it is
 pub broke : (a : Aligner) (ms : List Message) (out0 out3 : List Message) (fate : Fate) → Aligns a ms → MayCome ms message.Broken → out3 ≡ out0 ++ message.Broken ∷ [] → listed fate ≡ [] → IsTaken a a ms message.Broken out0 out3 fate
 broke a ms out0 out3 fate al may out_is fates = record {
   aligns = record {
@@ -207,7 +208,7 @@ broke a ms out0 out3 fate al may out_is fates = record {
   same_level = refl;
 }
 
--- the three, as the code has them
+-- what a mark does, as the code has it
 pub mark_came : (a a' : Aligner) (ms : List Message) (m : Message) (t high : ℕ) (fate : Fate) (before : ℕ) (out0 out2 : List Message)
     → Aligns a ms → MayCome ms m → m ≡ message.Mark t → before ≡ front_at a.ended a.mark a.held
     → IsSettled (is_held a.level.block a.ended t high) (is_remembered a.level.memory a.ended t high) a.ended t before a.held a.passed out0 a'.held a'.passed out2
@@ -222,6 +223,7 @@ mark_came a a' ms m t high fate before out0 out2 al may0 is before_is settled le
     (omega (arith, mark-append ms (message.Mark t ∷ []))) (omega (arith, high-append ms (message.Mark t ∷ [])))
     (al.ended_is ∙ (open_is ms may.0 ∙ sym (end-append ms (message.Mark t ∷ []) (open_is ms may.0)))) refl (sym (append-nil out2)) fates)
 
+-- what the end does, as the code has it
 pub end_came : (a a' : Aligner) (ms : List Message) (m : Message) (fate : Fate) (before : ℕ) (out0 out2 out3 : List Message)
     → Aligns a ms → MayCome ms m → m ≡ message.End → before ≡ front_at a.ended a.mark a.held
     → IsSettled (is_held a.level.block true a.mark a.high) (is_remembered a.level.memory true a.mark a.high) true a.mark before a.held a.passed out0 a'.held a'.passed out2
@@ -235,6 +237,7 @@ end_came a a' ms m fate before out0 out2 out3 al may0 is before_is settled level
     (omega (arith, mark-append ms (message.End ∷ []))) (omega (arith, high-append ms (message.End ∷ [])))
     (sym (end-pushed ms)) refl closes fates)
 
+-- what a break does, as the code has it
 pub broken_came : (a : Aligner) (ms : List Message) (m : Message) (fate : Fate) (out0 out3 : List Message) → Aligns a ms → MayCome ms m → m ≡ message.Broken → out3 ≡ out0 ++ message.Broken ∷ [] → listed fate ≡ [] → IsTaken a a ms m out0 out3 fate
 broken_came a ms m fate out0 out3 al may is out_is fates =
     subst (λ (x : Message). IsTaken a a ms x out0 out3 fate) (sym is) (broke a ms out0 out3 fate al (subst (λ (x : Message). MayCome ms x) is may) out_is fates)

@@ -81,6 +81,7 @@ own_when level ms held0 c None e h =
     (both.0 ∙ sym (append-nil (cuts_passed level ms c)), both.1 ∙ sym (append-nil (cuts_held level ms c)))
 own_when level ms held0 c (Some cause) e h = (refl, refl)
 
+-- what a change passes on itself, and what of it goes to the held rows, are as the definitions say
 pub own_is : (level : Level) (ms : List Message) (held0 : List Row) (c : Change) (cz : Option Cause) → cz ≡ cause_of level.memory (high_of ms) (kept level.memory ms) c → SameRows held0 (held level ms)
     → (when_kept cz (own_of held0 c) ≡ itself level ms (message.Change c)) × (when_kept cz (other_of held0 c) ≡ other level ms (message.Change c))
 own_is level ms held0 c cz e h =

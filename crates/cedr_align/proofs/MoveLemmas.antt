@@ -18,9 +18,11 @@ pub record IsMoving (goes : Row → Bool) (all left before released : List Row) 
   pub sums : (r : Row) → count_of r left + count_of r released ≡ count_of r all + count_of r before
   pub rest : (r : Row) → goes r ≡ false → count_of r left ≡ count_of r all
 
+-- at first no row has moved
 pub moving_first : (goes : Row → Bool) (all before : List Row) → IsMoving goes all all before before
 moving_first goes all before = record { sums = λ r. refl; rest = λ r h. refl }
 
+-- where some of the rows that pass a test moved, copies of one more that passes it may move, too
 pub moving_more : (goes : Row → Bool) (row : Row) (n : ℕ) (all left left' before released released' : List Row) → goes row ≡ true → SameRows (replicate n row ++ left') left → released' ≡ released ++ replicate n row
     → IsMoving goes all left before released → IsMoving goes all left' before released'
 moving_more goes row n all left left' before released released' passes out is moving = record {

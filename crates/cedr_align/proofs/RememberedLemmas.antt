@@ -28,7 +28,7 @@ before_then (Some m) ended mark mark' high high' r up up' h =
     let above = ltb-true (max mark' (high' - m)) r.end k.1 in
     lt-ltb (max mark (high - m)) r.end (omega arith)
 
--- what is remembered behind a message was remembered before it, if it had passed
+-- what is remembered after a message was remembered before it, if it had passed
 pub remembers_before : (level : Level) (ms : List Message) (m : Message) → IsOpen ms → (r : Row) → remembers level (ms ++ m ∷ []) r ≡ true → remembers level ms r ≡ true
 remembers_before level ms m opened r h =
     ap (λ (b : Bool). is_remembered level.memory b (mark_of ms) (high_of ms) r) (open_is ms opened)

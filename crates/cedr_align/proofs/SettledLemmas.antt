@@ -17,11 +17,13 @@ use Rattle.cedr_align.specs.Released.{IsReleased, IsSettled}
 pub none_kept : (remembers : Row → Bool) (rows : List Row) → ((r : Row) → remembers r ≡ false) → SameRows [] (filter remembers rows)
 none_kept remembers rows none = record { each = λ r. sym (count-filter r remembers rows ∙ ap (λ (b : Bool). cond b (count_of r rows) 0) (none r)) }
 
+-- after the end no row is remembered
 pub none_at_end : (memory : Option ℕ) (ended : Bool) (mark high : ℕ) → ended ≡ true → (r : Row) → is_remembered memory ended mark high r ≡ false
 none_at_end None ended mark high h r = refl
 none_at_end (Some m) true mark high h r = refl
 none_at_end (Some m) false mark high h r = cc
 
+-- without a limit of the memory no row is remembered
 pub none_without : (memory : Option ℕ) (ended : Bool) (mark high : ℕ) → ((m : ℕ) → memory ≡ Some m → ⊥) → (r : Row) → is_remembered memory ended mark high r ≡ false
 none_without None ended mark high h r = refl
 none_without (Some m) ended mark high h r = absurd (h m refl)
@@ -39,8 +41,8 @@ both_kept false false n k h = refl
 both_kept true false n k h = cc
 both_kept false true n k h = cc
 
--- What was released of the held rows and remembered of the passed ones, an aligner after the release, one that forgot
--- then, and one that passed the rows on.
+-- An aligner settles in steps: it releases held rows, forgets passed ones, passes the released ones on and
+-- remembers those of them that it must, and gives a mark where the front is above the one before.
 pub all_settled : (stays : Row → Bool) (held rows : List Row) (released forgot passed : Aligner) (before front : ℕ) (out out1 out2 : List Message)
     → IsReleased stays held rows → SameRows released.held (filter stays held)
     → SameRows forgot.passed (filter (must_remember released) released.passed) → forgot.held ≡ released.held → HasSameTimes released forgot

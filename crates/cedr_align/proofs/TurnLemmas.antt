@@ -26,6 +26,7 @@ turned_same r x = both_ways (same_row r (turned x)) (same_row (turned r) x)
     (λ h. let e : turned r ≡ x = ap turned (same_row_exact r (turned x) h) in ap (λ (z : Row). same_row (turned r) z) (sym e) ∙ same_row_itself (turned r))
     (λ h. let e : r ≡ turned x = ap turned (same_row_exact (turned r) x h) in ap (λ (z : Row). same_row r z) (sym e) ∙ same_row_itself r)
 
+-- rows with begin and end exchanged have as many copies of a row as the rows have of that row exchanged
 pub count_turned : (r : Row) (rows : List Row) → count_of r (all_turned rows) ≡ count_of (turned r) rows
 count_turned r [] = refl
 count_turned r (x ∷ rows) = omega (arith, count_of-cons r (turned x) (all_turned rows), count_of-cons (turned r) x rows, ap {B = ℕ} (λ b. cond b 1 0) (turned_same r x), count_turned r rows)
@@ -103,6 +104,7 @@ no_rows : (rows : List Row) → ((r : Row) → count_of r rows ≡ 0) → rows �
 no_rows [] none = refl
 no_rows (x ∷ rows) none = absurd (omega (arith, none x, count_of-itself x rows))
 
+-- no row waits by end where none waits by begin
 pub none_by_end : (begins ends : List Row) → SameRows begins (all_turned ends) → begins ≡ [] → ends ≡ []
 none_by_end begins ends same none = no_rows ends (λ r. none_turned r begins ends same none)
 

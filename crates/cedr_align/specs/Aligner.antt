@@ -26,7 +26,7 @@ abbrev pub listed : Fate → List Forgotten
 listed fate.Kept = []
 listed (fate.Forgotten f) = f ∷ []
 
--- the aligner took a message behind a list: it stands for the longer list, passed on what that message passes on,
+-- the aligner took a message after a list: it stands for the longer list, passed on what that message passes on,
 -- and said what it forgot
 pub record IsTaken (old new : Aligner) (ms : List Message) (m : Message) (before after : List Message) (fate : Fate) : Type 0 where
   pub aligns : Aligns new (ms ++ m ∷ [])
@@ -38,10 +38,11 @@ pub record IsTaken (old new : Aligner) (ms : List Message) (m : Message) (before
 pub record OnlyKeeps (a : Aligner) (ms : List Message) : Type 0 where
   pub each : (r : Row) → 0 < count_of r (a.held ++ a.passed) → 0 < count_of r (held a.level ms ++ remembered a.level ms)
 
--- a row must wait at an aligner's level and times; and one that passed must be remembered
+-- a row must wait, at an aligner's level and times
 abbrev pub must_wait : Aligner → Row → Bool
 must_wait a r = is_held a.level.block a.ended a.mark a.high r
 
+-- a row that passed must be remembered, at an aligner's level and times
 abbrev pub must_remember : Aligner → Row → Bool
 must_remember a r = is_remembered a.level.memory a.ended a.mark a.high r
 

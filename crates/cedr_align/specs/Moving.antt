@@ -9,6 +9,7 @@ use Rattle.cedr_base.specs.Rows.{count_of, SameRows}
 abbrev pub turned : Row → Row
 turned r = record { end = r.begin; begin = r.end; payload = r.payload }
 
+-- the rows with their begins and their ends exchanged
 abbrev pub all_turned : List Row → List Row
 all_turned rows = map turned rows
 

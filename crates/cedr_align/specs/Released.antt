@@ -29,11 +29,12 @@ abbrev pub cause_at : Option ℕ → ℕ → List Row → List Row → Change �
 cause_at None high held passed c = None
 cause_at (Some m) high held passed c = if is_late (Some m) high c then Some Late else (if is_missing held passed c then Some Orphan else None)
 
--- a change that is passed on itself, since its row isn't held; and one of the held rows
+-- a change that is passed on itself: the cut of a row that isn't held
 abbrev pub own_of : List Row → Change → List Change
 own_of held (Add r) = []
 own_of held (Cut r e) = if nat_lt 0 (count_of r held) then [] else Cut r e ∷ []
 
+-- a change of the held rows: an addition, or the cut of a row that is held
 abbrev pub other_of : List Row → Change → List Change
 other_of held (Add r) = Add r ∷ []
 other_of held (Cut r e) = if nat_lt 0 (count_of r held) then Cut r e ∷ [] else []
@@ -57,9 +58,9 @@ abbrev pub GoesThrough : (Row → Bool) → List Row → Change → Type 0
 GoesThrough stays held (Add r) = (held ≡ []) × (stays r ≡ false)
 GoesThrough stays held (Cut r e) = held ≡ []
 
--- A change was applied to the rows that wait, or to those that passed and then passed on; between this and what follows
--- stand other rows and messages. Then the rows that needn't wait any longer passed, and a mark where the front is above
--- the one before the change.
+-- A change was applied to the rows that wait, or else to those that passed, and passed on. That gives the rows and the
+-- messages in between. Then the rows that needn't wait any longer passed, and a mark where the front is above the one
+-- before the change.
 pub record IsKeptAndSettled (memory : Option ℕ) (stays remembers : Row → Bool) (ended : Bool) (mark : ℕ) (c : Change) (held passed : List Row) (out : List Message) (held' passed' : List Row) (out' : List Message) : Type 0 where
   pub held_between : List Row
   pub passed_between : List Row

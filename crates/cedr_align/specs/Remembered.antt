@@ -9,7 +9,7 @@ use Rattle.cedr_laws.specs.Kept.{high_of}
 use Rattle.cedr_laws.specs.Pass.{has_end, passed_table}
 
 -- A retraction that isn't late may still name a row. It is seen from the mark on, no more than the memory before the
--- greatest time, and before the row's end; and nothing comes behind the end of the list.
+-- greatest time, and before the row's end; and nothing comes after the end of the list.
 abbrev pub may_be_named : ℕ → Bool → ℕ → ℕ → Row → Bool
 may_be_named memory ended mark high r = not ended && ends_after (max mark (high - memory)) r
 
@@ -19,6 +19,7 @@ abbrev pub is_remembered : Option ℕ → Bool → ℕ → ℕ → Row → Bool
 is_remembered None ended mark high r = false
 is_remembered (Some memory) ended mark high r = may_be_named memory ended mark high r
 
+-- a port remembers a row that passed, at its level and after a list of messages
 abbrev pub remembers : Level → List Message → Row → Bool
 remembers level ms r = is_remembered level.memory (has_end ms) (mark_of ms) (high_of ms) r
 

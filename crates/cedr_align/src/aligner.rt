@@ -127,7 +127,7 @@ impl Aligner {
         }
     }
 
-    /// Takes a message that may come behind those before it, and appends what it passes on: a retraction of a row
+    /// Takes a message that may come after those before it, and appends what it passes on: a retraction of a row
     /// that passed, the rows that needn't wait any longer in canonical order, the front where it rose, and the end. A
     /// break passes on itself alone. Where memory runs out nothing is appended, and the aligner is only to be dropped.
     /// O(log n) in the rows that wait and those that are remembered, for the message and for each row that passes or is

@@ -88,7 +88,7 @@ impl Held {
         self.by_end.count(row)
     }
 
-    /// Adds a row. Where memory runs out no row is left.
+    /// Adds a row. Where memory runs out all rows may be lost.
     fn insert(&mut self, alloc: Global, row: Row) -> Result<(), OutOfMemory>
         ensures ok { OnOk result (SameRows self.new (row ∷ self.old)) }
     {

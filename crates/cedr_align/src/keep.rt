@@ -1,7 +1,7 @@
 ghost use Rattle.std.specs.Prelude.{◌≡◌, ◌++◌, ◌∷◌, [], OnOk, Option, length, take};
 ghost use Rattle.cedr_base.specs.Rows.{SameRows};
 ghost use Rattle.cedr_base.specs.declared.change.Message.TheVariants as message;
-ghost use Rattle.cedr_base.specs.Changes.{all_puts, all_takes};
+ghost use Rattle.cedr_base.specs.Changes.{all_puts, all_takes, puts, takes};
 ghost use Rattle.cedr_stream.specs.Repairs.{wrapped};
 ghost use Rattle.cedr_laws.specs.Kept.{is_late};
 ghost use Rattle.cedr_align.specs.Released.{own_of, other_of, cause_at, AreApplied};
@@ -46,21 +46,34 @@ pub(crate) fn find_cause(
     }
 }
 
+/// Applies a change to a table that has its row.
+fn apply(passed: &mut Table, change: Change) -> Result<(), OutOfMemory>
+    ensures { OnOk result (SameRows (passed.new ++ takes change) (passed.old ++ puts change)) }
+{
+    match passed.apply(change) {
+        Ok(()) => Ok(()),
+        Err(_) => Err(OutOfMemory),
+    }
+}
+
 /// Applies a change to the passed rows, where any are remembered.
-fn apply_where(memory: Option<u64>, passed: &mut Table, change: &Change) -> Result<(), OutOfMemory>
+fn apply_where(
+    alloc: Global,
+    memory: Option<u64>,
+    passed: &mut Table,
+    change: &Change,
+) -> Result<(), OutOfMemory>
     ensures { OnOk result (AreApplied memory (change.now ∷ []) passed.old passed.new) }
 {
     match memory {
         None => Ok(()),
-        Some(_) => match passed.apply(change) {
-            Ok(()) => Ok(()),
-            Err(_) => Err(OutOfMemory),
-        },
+        Some(_) => apply(passed, change.copy(alloc)?),
     }
 }
 
 /// Passes a change on, and applies it to the passed rows, where any are remembered.
 pub(crate) fn pass_on(
+    alloc: Global,
     memory: Option<u64>,
     passed: &mut Table,
     change: Change,
@@ -70,7 +83,7 @@ pub(crate) fn pass_on(
     ensures out { OnOk result (out.new.items ≡ out.old.items ++ message.Change change ∷ []) }
     ensures kept { take (length out.old.items) out.new.items ≡ out.old.items }
 {
-    apply_where(memory, passed, &change)?;
+    apply_where(alloc, memory, passed, &change)?;
     out.push(Message::Change(change))?;
     Ok(())
 }
@@ -95,7 +108,7 @@ pub(crate) fn keep(
             if held.count(row) > 0 {
                 return held.apply(alloc, change);
             }
-            pass_on(memory, passed, change, out)
+            pass_on(alloc, memory, passed, change, out)
         }
     }
 }

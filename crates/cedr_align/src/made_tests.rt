@@ -8,7 +8,7 @@ use msg_feed::Told;
 use std::alloc::Global;
 use std::test::Fail;
 
-/// Messages that look random, are the same in each run, and may come one behind the other.
+/// Messages that look random, are the same in each run, and may come one after the other.
 #[derive(Drop)]
 struct Maker {
     state: u64,
@@ -81,7 +81,7 @@ impl Maker {
     }
 }
 
-/// An aligner and a reference pass the same on and tell the same, and the aligner remembers as many rows as it must.
+/// An aligner and a reference pass on the same and answer the same, and the aligner remembers as many rows as it must.
 fn agree(
     alloc: Global,
     aligner: &mut Aligner,

@@ -46,7 +46,7 @@ pub(crate) fn with_cut(
     Ok(left)
 }
 
-/// A port that forgets nothing: it keeps each row that counts in one list, and asks of each of them whether it is held.
+/// A port that drops no row that it kept: each row that counts is in one list, and it asks of each whether it is held.
 #[derive(Drop)]
 pub(crate) struct Reference {
     level: Level,

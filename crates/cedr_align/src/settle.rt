@@ -12,7 +12,7 @@ use cedr_base::{Change, FOREVER, Message, OutOfMemory, Row, Time};
 use cedr_table::Table;
 use std::alloc::Global;
 
-/// The time from which on a row that ends by it can't be named any more.
+/// The time such that a row that ends by it can't be named any more.
 fn named_after(memory: u64, mark: Time, high: Time) -> Time
     ensures { result ≡ max mark (high - memory) }
 {
@@ -55,8 +55,8 @@ impl Aligner {
         }
     }
 
-    /// Forgets the passed rows that needn't be remembered any longer. It takes no memory. O(log n) for each of them, and
-    /// one look at the first one that stays.
+    /// Forgets the passed rows that needn't be remembered any longer. It takes no memory. O(log n) for each of them,
+    /// and one look at the first one that stays.
     fn forget(&mut self, alloc: Global)
         ensures passed { SameRows self.new.passed (filter (must_remember self.old) self.old.passed) }
         ensures held { self.new.held ≡ self.old.held }
@@ -104,8 +104,8 @@ impl Aligner {
         Ok(())
     }
 
-    /// Lets the rows pass that needn't wait any longer, forgets what needn't be remembered, and then passes the front on
-    /// where it rose above an earlier one.
+    /// Lets the rows pass that needn't wait any longer, forgets what needn't be remembered, and then passes the front
+    /// on where it rose above an earlier one.
     pub(crate) fn settle(
         &mut self,
         alloc: Global,
@@ -141,8 +141,8 @@ impl Aligner {
     }
 
     /// Keeps a change that isn't forgotten, and then settles. Where no row waits and the change needn't, it is all that
-    /// passes and the front stays. So it is moved on and put among no rows that wait: O(1) where the memory has no limit,
-    /// and else O(log n) in the rows that are remembered.
+    /// passes and the front stays. So it is moved on and put among no rows that wait: O(1) where the memory has no
+    /// limit, and else O(log n) in the rows that are remembered.
     pub(crate) fn keep_and_settle(
         &mut self,
         alloc: Global,
@@ -155,7 +155,7 @@ impl Aligner {
     {
         let memory = self.level.memory;
         if self.goes_through(&change) {
-            pass_on(memory, &mut self.passed, change, out)?;
+            pass_on(alloc, memory, &mut self.passed, change, out)?;
             self.forget(alloc);
             return Ok(());
         }

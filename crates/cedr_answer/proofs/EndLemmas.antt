@@ -1,4 +1,4 @@
--- What the ends of a plan's sources tell, one node after the other.
+-- What the ends of a plan's sources say, one node after the other.
 use Rattle.std.proofs.Common.{◌≡◌, ℕ, suc, ◌+◌, ◌<◌, ◌≤◌, List, [], ◌∷◌, ◌++◌, Bool, true, false, cond, ◌||◌, length, map, refl, ap, sym, ◌∙◌, subst, arith, inl, inr}
 use Rattle.std.specs.Prelude.{Option, None, Some, ◌⊎◌, if◌then◌else◌, slice_index_or}
 use Rattle.std.specs.List.{All, list_any}
@@ -29,7 +29,7 @@ use Rattle.cedr_answer.proofs.FindLemmas.{count_more, count_kept}
 
 -- ---- lists by node
 
--- the lists behind the first
+-- the lists after the first
 behind : Lists → Lists
 behind [] = []
 behind (g ∷ given) = given
@@ -40,7 +40,7 @@ unfolding behind
 behind_at [] k = refl
 behind_at (g ∷ given) k = refl
 
--- the list of a source is the first, and those of later nodes are behind it
+-- the list of a source is the first, and those of later nodes come after it
 lists_source : (n : PlanNode) (nodes : List PlanNode) (given : Lists) → is_source n.kind ≡ true → source_lists (n ∷ nodes) given ≡ list_at given 0 ∷ source_lists nodes (behind given)
 unfolding behind
 lists_source n nodes [] is = refl
@@ -52,7 +52,7 @@ unfolding behind
 lists_other n nodes [] isnt = refl
 lists_other n nodes (g ∷ given) isnt = ap {B = Lists} (λ (b : Bool). (if b then g else []) ∷ source_lists nodes given) isnt
 
--- the fault of a source is the first, and those of later nodes are behind it
+-- the fault of a source is the first, and those of later nodes come after it
 faults_source : (n : PlanNode) (nodes : List PlanNode) (f : Option Refusal) (faults : List (Option Refusal)) → is_source n.kind ≡ true → node_faults (n ∷ nodes) (f ∷ faults) ≡ f ∷ node_faults nodes faults
 faults_source n nodes f faults is = ap {B = List (Option Refusal)} (λ (b : Bool). if b then f ∷ node_faults nodes faults else None ∷ node_faults nodes (f ∷ faults)) is
 
@@ -61,7 +61,7 @@ faults_other : (n : PlanNode) (nodes : List PlanNode) (faults : List (Option Ref
 faults_other n nodes [] isnt = refl
 faults_other n nodes (f ∷ faults) isnt = ap {B = List (Option Refusal)} (λ (b : Bool). if b then f ∷ node_faults nodes faults else None ∷ node_faults nodes (f ∷ faults)) isnt
 
--- the file of a source is the first, and those of later nodes are behind it
+-- the file of a source is the first, and those of later nodes come after it
 pub files_source : (n : PlanNode) (nodes : List PlanNode) → is_source n.kind ≡ true → source_files (n ∷ nodes) ≡ file_of n.kind ∷ source_files nodes
 files_source n nodes is = ap {B = List (List ℕ)} (λ (b : Bool). (if b then file_of n.kind ∷ [] else []) ++ source_files nodes) is
 
@@ -93,7 +93,7 @@ same_sources (n ∷ nodes) (g ∷ given) = here (is_source n.kind) (same_sources
 
 -- ---- one source
 
--- what a stop tells of all bytes of a source, where none but these were left behind those read
+-- what a stop says of all bytes of a source, where none but these were left after those read
 stop_tells : (s : SourceStop) (shape : Shape) (all bytes more : List ℕ) (given : List Message) (ended : Bool) → all ≡ bytes ++ more → (ended ≡ true → more ≡ []) → StoppedAs s shape bytes given ended → IsJudged s
     → ((judged shape all).fault ≡ fault_of s) × (fault_of s ≡ None → meant given (Some s) ≡ messages_of shape all)
 stop_tells stop.Closed shape all bytes more given ended parts at_end stopped judged_so =
@@ -109,7 +109,7 @@ pub bytes_left : (left : Option (List ℕ)) (all bytes : List ℕ) (ended : Bool
 bytes_left None all bytes ended read at_end = absurd read
 bytes_left (Some more) all bytes ended read at_end = (more, (read, at_end))
 
--- a source gave what its end says, where it is told what its file holds
+-- a source gave what its end says, where it is known what its file holds
 source_tells : {S : Type 0} (rest : S → Option (List ℕ)) (faults : S → ℕ) (told : List ℕ → List ℕ) (n : PlanNode) (s : S) (e : SourceEnd S) (given : List Message) → is_source n.kind ≡ true → rest s ≡ Some (told (file_of n.kind)) → SourceWent rest faults n s e given → IsJudged e.stop → HasGiven told n given (fault_of e.stop)
 source_tells rest faults told n s e given is known went judged_so =
     let all = told (file_of n.kind) in
@@ -128,7 +128,7 @@ source_tells rest faults told n s e given is known went judged_so =
 pub WentSo : {S : Type 0} → (S → Option (List ℕ)) → (S → ℕ) → List PlanNode → List S → Lists → List (SourceEnd S) → Type 0
 WentSo {S = S} rest faults nodes sources given ends = (before after : List PlanNode) (n : PlanNode) → nodes ≡ before ++ n ∷ after → is_source n.kind ≡ true → (s : S) (e : SourceEnd S) → SourceWent rest faults n (slice_index_or sources (source_count before) s) (slice_index_or ends (source_count before) e) (list_at given (length before))
 
--- what went over the edges of the nodes behind a source
+-- what went over the edges of the nodes after a source
 went_behind : {S : Type 0} (rest : S → Option (List ℕ)) (faults : S → ℕ) (n : PlanNode) (nodes : List PlanNode) (s : S) (sources : List S) (given : Lists) (e : SourceEnd S) (ends : List (SourceEnd S)) → is_source n.kind ≡ true → WentSo rest faults (n ∷ nodes) (s ∷ sources) given (e ∷ ends) → WentSo rest faults nodes sources (behind given) ends
 unfolding WentSo
 went_behind rest faults n nodes s sources given e ends is went before after m whole source d f =
@@ -136,7 +136,7 @@ went_behind rest faults n nodes s sources given e ends is went before after m wh
     let placed = subst (λ (k : ℕ). SourceWent rest faults m (slice_index_or (s ∷ sources) k d) (slice_index_or (e ∷ ends) k f) (list_at given (suc (length before)))) (count_source n before is) there in
     subst (λ (g : List Message). SourceWent rest faults m (slice_index_or sources (source_count before) d) (slice_index_or ends (source_count before) f) g) (sym (behind_at given (length before))) placed
 
--- what went over the edges of the nodes behind any other node
+-- what went over the edges of the nodes after any other node
 went_other : {S : Type 0} (rest : S → Option (List ℕ)) (faults : S → ℕ) (n : PlanNode) (nodes : List PlanNode) (sources : List S) (given : Lists) (ends : List (SourceEnd S)) → is_source n.kind ≡ false → WentSo rest faults (n ∷ nodes) sources given ends → WentSo rest faults nodes sources (behind given) ends
 unfolding WentSo
 went_other rest faults n nodes sources given ends isnt went before after m whole source d f =
@@ -168,11 +168,11 @@ module _ {S : Type 0} (rest : S → Option (List ℕ)) (faults : S → ℕ) wher
 
   -- ---- what they gave
 
-  -- it is told what the files of some nodes hold, so each gave its messages, or has its fault
+  -- it is known what the files of some nodes hold, so each gave its messages, or has its fault
   abbrev Tells : (List ℕ → Option (List ℕ)) → (List ℕ → List ℕ) → List PlanNode → Type 0
   Tells content told nodes = (sources : List S) (given : Lists) (ends : List (SourceEnd S)) → Counted nodes sources ends → WentSo rest faults nodes sources given ends → AreFound rest content nodes sources → AreTold content told (source_files nodes) → All (λ (e : SourceEnd S). IsJudged (stop_in e)) ends → AllHaveGiven told nodes (source_lists nodes given) (node_faults nodes (map fault_in ends))
 
-  -- a source and the nodes behind it
+  -- a source and the nodes after it
   source_given : (content : List ℕ → Option (List ℕ)) (told : List ℕ → List ℕ) (n : PlanNode) (nodes : List PlanNode) → Tells content told nodes → is_source n.kind ≡ true → Tells content told (n ∷ nodes)
   source_given content told n nodes later is [] given ends count went found known judged_so = absurd (omega (arith, count.0, count_source n nodes is))
   source_given content told n nodes later is (s ∷ sources) given [] count went found known judged_so = absurd (omega (arith, count.1, count_source n nodes is))
@@ -187,7 +187,7 @@ module _ {S : Type 0} (rest : S → Option (List ℕ)) (faults : S → ℕ) wher
       subst (λ (ls : Lists). AllHaveGiven told (n ∷ nodes) ls (node_faults (n ∷ nodes) (map fault_in (e ∷ ends)))) (sym (lists_source n nodes given is))
       (subst (λ (fs : List (Option Refusal)). AllHaveGiven told (n ∷ nodes) (list_at given 0 ∷ source_lists nodes (behind given)) fs) (sym (faults_source n nodes (fault_in e) (map fault_in ends) is)) (first, others))
 
-  -- any other node and the nodes behind it
+  -- any other node and the nodes after it
   other_given : (content : List ℕ → Option (List ℕ)) (told : List ℕ → List ℕ) (n : PlanNode) (nodes : List PlanNode) → Tells content told nodes → is_source n.kind ≡ false → Tells content told (n ∷ nodes)
   other_given content told n nodes later isnt sources given ends count went found known judged_so =
       let files = files_other n nodes isnt in
@@ -203,7 +203,7 @@ module _ {S : Type 0} (rest : S → Option (List ℕ)) (faults : S → ℕ) wher
 
   -- ---- their faults
 
-  -- a source has a fault, or one behind it has
+  -- a source has a fault, or one after it has
   some_here : (place : ℕ) (s : SourceStop) (later : Bool) (more : List FaultySource) → (is_faulty s || later) ≡ true → (later ≡ true → 0 < length more) → 0 < length (fault_here place (fault_of s) ++ more)
   some_here place stop.Closed later more is rest_is = rest_is is
   some_here place (stop.Refused line fault) later more is rest_is = omega arith
@@ -214,14 +214,14 @@ module _ {S : Type 0} (rest : S → Option (List ℕ)) (faults : S → ℕ) wher
   abbrev SomeFaulty : List PlanNode → Type 0
   SomeFaulty nodes = (place : ℕ) (ends : List (SourceEnd S)) → length ends ≡ source_count nodes → list_any is_faulty (map stop_in ends) ≡ true → 0 < length (faulty_from place (node_faults nodes (map fault_in ends)))
 
-  -- the fault is that of a source, or of one behind it
+  -- the fault is that of a source, or of one after it
   faulty_source : (n : PlanNode) (nodes : List PlanNode) → SomeFaulty nodes → is_source n.kind ≡ true → SomeFaulty (n ∷ nodes)
   faulty_source n nodes later is place [] count some = absurd (cc some)
   faulty_source n nodes later is place (e ∷ ends) count some =
       subst (λ (fs : List (Option Refusal)). 0 < length (faulty_from place fs)) (sym (faults_source n nodes (fault_in e) (map fault_in ends) is))
       (some_here place e.stop (list_any is_faulty (map stop_in ends)) (faulty_from (place + 1) (node_faults nodes (map fault_in ends))) some (later (place + 1) ends (omega (arith, count, count_source n nodes is))))
 
-  -- the fault is that of a source behind any other node
+  -- the fault is that of a source after any other node
   faulty_other : (n : PlanNode) (nodes : List PlanNode) → SomeFaulty nodes → is_source n.kind ≡ false → SomeFaulty (n ∷ nodes)
   faulty_other n nodes later isnt place ends count some =
       subst (λ (fs : List (Option Refusal)). 0 < length (faulty_from place fs)) (sym (faults_other n nodes (map fault_in ends) isnt)) (later (place + 1) ends (count ∙ count_other n nodes isnt) some)
@@ -247,7 +247,7 @@ module _ {S : Type 0} (rest : S → Option (List ℕ)) (faults : S → ℕ) wher
       ∙ none_faulty nodes (place + 1) ends (All-tail (λ (x : SourceEnd S). x.stop ≡ stop.Closed) e ends closed)))
       (λ isnt. ap (faulty_from place) (faults_other n nodes (map fault_in (e ∷ ends)) isnt) ∙ none_faulty nodes (place + 1) (e ∷ ends) closed)
 
-  -- a source that closed was read as far as its lines tell
+  -- a source that closed was read far enough to judge its lines
   closed_judged : (ends : List (SourceEnd S)) → HaveClosed ends → All (λ (e : SourceEnd S). IsJudged (stop_in e)) ends
   closed_judged ends closed k d lt = subst IsJudged (sym (closed k d lt)) tt
 
@@ -269,7 +269,7 @@ module _ {S : Type 0} (rest : S → Option (List ℕ)) (faults : S → ℕ) wher
   abbrev CountsAll : List PlanNode → Type 0
   CountsAll nodes = (sources : List S) (given : Lists) (ends : List (SourceEnd S)) → Counted nodes sources ends → WentSo rest faults nodes sources given ends → All (λ (s : S). faults s ≡ 0) sources → All CountsSo ends
 
-  -- of a source and those behind it
+  -- of a source and those after it
   counts_source : (n : PlanNode) (nodes : List PlanNode) → CountsAll nodes → is_source n.kind ≡ true → CountsAll (n ∷ nodes)
   counts_source n nodes later is [] given ends count went fresh = absurd (omega (arith, count.0, count_source n nodes is))
   counts_source n nodes later is (s ∷ sources) given [] count went fresh = absurd (omega (arith, count.1, count_source n nodes is))
@@ -290,7 +290,7 @@ module _ {S : Type 0} (rest : S → Option (List ℕ)) (faults : S → ℕ) wher
       by_kind (is_source n.kind) (counts_source n nodes (all_counts nodes))
       (λ isnt sources given ends count went fresh. all_counts nodes sources (behind given) ends (count.0 ∙ count_other n nodes isnt, count.1 ∙ count_other n nodes isnt) (went_other rest faults n nodes sources given ends isnt went) fresh)
 
-  -- where no read was refused a source has no fault, and those behind it were read too
+  -- where no read was refused a source has no fault, and those after it were read too
   calm_here : (s : SourceStop) (later : Bool) (now : ℕ) → (is_unread s || later) ≡ false → CountedSo (Some s) 0 now → (now ≡ 0) × (later ≡ false)
   calm_here stop.Closed later now calm counted = (counted, calm)
   calm_here (stop.Refused line fault) later now calm counted = (counted, calm)
@@ -311,7 +311,7 @@ module _ {S : Type 0} (rest : S → Option (List ℕ)) (faults : S → ℕ) wher
       let later = count_grows (count_sum count (faults s)) sources (omega arith) in
       omega (arith, later, few)
 
-  -- a read of a source was refused, or of one behind it
+  -- a read of a source was refused, or of one after it
   rose_here : (s : SourceStop) (later : Bool) (now : ℕ) → (is_unread s || later) ≡ true → CountedSo (Some s) 0 now → (0 < now) ⊎ ((now ≡ 0) × (later ≡ true))
   rose_here stop.Closed later now some counted = inr (counted, some)
   rose_here (stop.Refused line fault) later now some counted = inr (counted, some)
@@ -339,14 +339,14 @@ module _ {S : Type 0} (rest : S → Option (List ℕ)) (faults : S → ℕ) wher
 
   -- ---- how each was read
 
-  -- a source was read as far as its lines tell, and those behind it were
+  -- a source was read far enough to judge its lines, and those after it were
   judged_here : (s : SourceStop) (short unread : Bool) → (is_short s || short) ≡ false → (is_unread s || unread) ≡ false → (short ≡ false) × (unread ≡ false) × IsJudged s
   judged_here stop.Closed short unread found calm = (found, calm, tt)
   judged_here (stop.Refused line fault) short unread found calm = (found, calm, tt)
   judged_here stop.ReadFault short unread found calm = absurd (cc calm)
   judged_here stop.OutOfMemory short unread found calm = absurd (cc found)
 
-  -- where memory was found and no read was refused each was read as far as its lines tell
+  -- where memory was found and no read was refused each was read far enough to judge its lines
   pub all_judged : (ends : List (SourceEnd S)) → list_any is_short (map stop_in ends) ≡ false → list_any is_unread (map stop_in ends) ≡ false → All (λ (e : SourceEnd S). IsJudged (stop_in e)) ends
   all_judged [] found none = λ k d lt. absurd (omega (arith, lt))
   all_judged (e ∷ ends) found none =

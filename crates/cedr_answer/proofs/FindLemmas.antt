@@ -23,7 +23,7 @@ split_at (x ∷ xs) (suc k) d within = ap (λ ys. x ∷ ys) (split_at xs k d (om
 
 -- ---- names
 
--- some of the names of one node more, behind all of those before it
+-- some of the names of one node more, after all of those before it
 pub asks_more : (first now after : List (List ℕ)) (nodes : List PlanNode) (k : ℕ) (n : PlanNode) → k < length nodes → get_or nodes k n ≡ n → now ≡ first ++ source_files (take k nodes) → AsksFirst now after (files_of n) → AsksFirst first after (source_files nodes)
 asks_more first now after nodes k n within here asked more =
     subst (λ (ns : List PlanNode). AsksFirst first after (source_files ns)) (ap (λ (m : PlanNode). take k nodes ++ m ∷ drop (suc k) nodes) (sym here) ∙ sym (split_at nodes k n within))
@@ -82,7 +82,7 @@ count_full faults count (s ∷ sources) none =
     let later = count_full faults (count_sum count (faults s)) sources (λ k d lt. none (suc k) d (omega (arith, lt))) in
     omega (arith, here, later)
 
--- a find that failed is told where the sources found before are given back
+-- the count is that of a find that failed also once the sources found before are given back
 pub counted_back : {S : Type 0} (T U : Type 0) (faults : S → ℕ) (fault : OutsideFault) (old now new : ℕ) (sources : List S) → old < last_count → All (λ (s : S). faults s ≡ 0) sources → Counts {T = T} (Err fault) old now → new ≡ count_with faults now sources → Counts {T = U} (Err fault) old new
 counted_back T U faults outside.Failed old now new sources few none counted back =
     let full = count_full faults now sources none in

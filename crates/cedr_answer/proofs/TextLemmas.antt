@@ -19,15 +19,15 @@ use Rattle.cedr_answer.specs.Reports.{name_at, told_text}
 
 -- ---- changes
 
--- changes that are legal behind a message more
+-- changes that are legal after a message more
 legal_on : (before : List Message) (m : Message) (here cs : List Change) → changes_of (m ∷ []) ≡ here → AreLegal [] (changes_of (before ++ m ∷ [])) cs → AreLegal [] (changes_of before ++ here) cs
 legal_on before m here cs is legal = subst (λ (ds : List Change). AreLegal [] ds cs) (changes-append before (m ∷ []) ∙ ap (λ (ds : List Change). changes_of before ++ ds) is) legal
 
--- or behind one that is no change
+-- or after one that is no change
 legal_past : (before : List Message) (m : Message) (cs : List Change) → changes_of (m ∷ []) ≡ [] → AreLegal [] (changes_of (before ++ m ∷ [])) cs → AreLegal [] (changes_of before) cs
 legal_past before m cs none legal = subst (λ (ds : List Change). AreLegal [] ds cs) (append-nil (changes_of before)) (legal_on before m [] cs none legal)
 
--- the changes of messages that are legal behind others are legal behind theirs
+-- the changes of messages that are legal after others are legal after the changes of those
 legal_behind : (before ms : List Message) → IsLegalBehind before ms → AreLegal [] (changes_of before) (changes_of ms)
 legal_behind before [] legal = tt
 legal_behind before (message.Change c ∷ ms) legal = (legal.0.1.0, legal_on before (message.Change c) (c ∷ []) (changes_of ms) refl (legal_behind (before ++ message.Change c ∷ []) ms legal.1))
@@ -47,7 +47,7 @@ table_led ms cs rows is leads =
 
 -- ---- what ports forgot
 
--- a node stands behind those before it
+-- a node stands after those before it
 name_seam : (before after : List PlanNode) (n : PlanNode) → name_at (before ++ n ∷ after) (length before) ≡ n.name
 name_seam [] after n = refl
 name_seam (b ∷ before) after n = name_seam before after n
@@ -78,7 +78,7 @@ ports_texts : (nodes : List PlanNode) (place port : ℕ) (ports : List (List For
 ports_texts nodes place port [] = refl
 ports_texts nodes place port (l ∷ ports) = ap (λ (t : List ℕ). port_text (name_at nodes place) port l ++ t) (ports_texts nodes place (port + 1) ports)
 
--- the text of the nodes behind others
+-- the text of the nodes after others
 texts_behind : (before nodes : List PlanNode) (place : ℕ) (listed : List (List (List Forgotten))) → place ≡ length before → length listed ≡ length nodes → told_text (before ++ nodes) (nodes_told place listed) ≡ nodes_text nodes listed
 texts_behind before [] place [] at same = refl
 texts_behind before [] place (l ∷ listed) at same = absurd (omega (arith, same))
@@ -92,7 +92,7 @@ texts_behind before (n ∷ nodes) place (ports ∷ listed) at same =
     ∙ (ap (λ (t : List ℕ). t ++ told_text all (nodes_told (place + 1) listed)) (ports_texts all place 0 ports ∙ ap (λ (name : List ℕ). ports_text name 0 ports) name)
     ∙ ap (λ (t : List ℕ). ports_text n.name 0 ports ++ t) (sym (ap (λ (ns : List PlanNode). told_text ns (nodes_told (place + 1) listed)) whole) ∙ later))
 
--- the text of what is told of all nodes is theirs
+-- the text of what is listed of all nodes is theirs
 pub all_texts : (nodes : List PlanNode) (ts : List Told) (listed : List (List (List Forgotten))) → ts ≡ nodes_told 0 listed → length listed ≡ length nodes → told_text nodes ts ≡ nodes_text nodes listed
 all_texts nodes ts listed is same = ap (told_text nodes) is ∙ texts_behind [] nodes 0 listed refl same
 
@@ -110,17 +110,17 @@ nodes_within place bound [] same = λ k d lt. absurd (omega (arith, lt))
 nodes_within place bound (ports ∷ listed) same =
     All-append (λ (t : Told). t.node < bound) (ports_told place 0 ports) (nodes_told (place + 1) listed) (ports_within place 0 bound ports (omega (arith, same))) (nodes_within (place + 1) bound listed (omega (arith, same)))
 
--- a port is at the place that is told
+-- where the places that are listed are below a bound, so are those of the ports
 from_told : (bound : ℕ) (forgotten : List PortForgotten) → All (λ (t : Told). t.node < bound) (map told forgotten) → All (λ (p : PortForgotten). p.node < bound) forgotten
 from_told bound [] all = λ k d lt. absurd (omega (arith, lt))
 from_told bound (p ∷ forgotten) all =
     All-cons (λ (q : PortForgotten). q.node < bound) p forgotten (all 0 (told p) (omega arith)) (from_told bound forgotten (All-tail (λ (t : Told). t.node < bound) (told p) (map told forgotten) all))
 
--- each port that is told is one of a node
+-- each port that is listed is one of a node
 pub all_within : (nodes : List PlanNode) (forgotten : List PortForgotten) (listed : List (List (List Forgotten))) → map told forgotten ≡ nodes_told 0 listed → length listed ≡ length nodes → All (λ (p : PortForgotten). p.node < length nodes) forgotten
 all_within nodes forgotten listed is same =
     from_told (length nodes) forgotten (subst (λ (ts : List Told). All (λ (t : Told). t.node < length nodes) ts) (sym is) (nodes_within 0 (length nodes) listed (omega (arith, same))))
 
--- what is written behind two texts
+-- what is written after two texts
 pub behind_both : (first next text a b t : List ℕ) → a ≡ first ++ next → b ≡ a ++ t → t ≡ text → b ≡ first ++ (next ++ text)
 behind_both first next text a b t one two three = two ∙ (ap (λ (x : List ℕ). x ++ t) one ∙ (append_assoc first next t ∙ ap (λ (x : List ℕ). first ++ (next ++ x)) three))

@@ -1,4 +1,4 @@
--- What is left of a plan's sources at the end, and what that tells of them.
+-- What is left of a plan's sources at the end, and what that says of them.
 use Rattle.std.specs.Prelude.{ℕ, ◌≡◌, Bool, true, false, List, [], ◌∷◌, ◌++◌, length, slice_index_or, Option, None, Some, if◌then◌else◌}
 use Rattle.std.specs.List.{All}
 use Rattle.cedr_crew.specs.Wents.{SourceWent}
@@ -13,6 +13,7 @@ use Rattle.op_planned.specs.Ready.{is_source}
 
 -- ---- how one source stopped
 
+-- the source that is handed back at its end
 abbrev pub source_in : {S : Type 0} → SourceEnd S → S
 source_in end = end.source
 
@@ -23,16 +24,18 @@ fault_of (stop.Refused line fault) = Some (record { line = line; fault = fault }
 fault_of stop.ReadFault = None
 fault_of stop.OutOfMemory = None
 
+-- the first fault of the lines of a source, by its end
 abbrev pub fault_in : {S : Type 0} → SourceEnd S → Option Refusal
 fault_in end = fault_of end.stop
 
--- it was read as far as its lines tell: to its end, or to its first fault
+-- it was read far enough to judge its lines: to its end, or to its first fault
 abbrev pub IsJudged : SourceStop → Type 0
 IsJudged stop.Closed = Unit {0}
 IsJudged (stop.Refused line fault) = Unit {0}
 IsJudged stop.ReadFault = ⊥
 IsJudged stop.OutOfMemory = ⊥
 
+-- the source stopped at a line that isn't accepted
 abbrev pub is_faulty : SourceStop → Bool
 is_faulty stop.Closed = false
 is_faulty (stop.Refused line fault) = true

@@ -13,8 +13,9 @@ ghost use Rattle.cedr_answer.specs.Tellings.{AreEnded, IsJudged, fault_in, is_fa
 
 use cedr_io::Source;
 
-/// The law of sources that ended, where it is told what their files hold. Where each was read as far as its lines tell, these
-/// are the lists that the sources gave, and the faults of those that aren't accepted. Where each closed, all are accepted.
+/// The law of sources that ended, where it is known what their files hold. Where each was read far enough to judge its
+/// lines, these are the lists that the sources gave, and the faults of those that aren't accepted. Where each closed,
+/// all are accepted.
 pub fn ended_sources<S: Source + Drop>()
     ensures judged { (ends : List (SourceEnd S)) → list_any is_short (map stop_in ends) ≡ false → list_any is_unread (map stop_in ends) ≡ false → All (λ (end : SourceEnd S). IsJudged (stop_in end)) ends }
     ensures given { (nodes : List PlanNode) (sources : List S) (given : Lists) (ends : List (SourceEnd S)) (content : List ℕ → Option (List ℕ)) (told : List ℕ → List ℕ) → AreEnded S.rest S.faults nodes sources given ends → AreFound S.rest content nodes sources → AreTold content told (source_files nodes)

@@ -41,7 +41,7 @@ where
     }
 }
 
-/// Finds the file of a node, where it is a source. It goes behind those that were found before.
+/// Finds the file of a node, where it is a source. It goes after those that were found before.
 fn find_node<F: Files>(
     node: &PlanNode,
     files: &mut F,

@@ -22,11 +22,12 @@ use cedr_text::{write_change, write_forgotten, write_rows};
 use std::alloc::Global;
 
 /// Applies a change that may follow in a table.
-fn apply_one(table: &mut Table, change: &Change) -> Result<(), OutOfMemory>
+fn apply_one(alloc: Global, table: &mut Table, change: &Change) -> Result<(), OutOfMemory>
     requires { MayFollow table.old [] change.now }
     ensures { OnOk result (IsMoved change.now table.old table.new) }
 {
-    match table.apply(change) {
+    let copied = change.copy(alloc)?;
+    match table.apply(copied) {
         Ok(()) => Ok(()),
         Err(TableFault::OutOfMemory) => Err(OutOfMemory),
         Err(TableFault::NoSuchRow) => unreachable!(),
@@ -34,12 +35,12 @@ fn apply_one(table: &mut Table, change: &Change) -> Result<(), OutOfMemory>
 }
 
 /// Applies changes that are legal from a table on.
-fn apply_all(table: &mut Table, changes: &[Change]) -> Result<(), OutOfMemory>
+fn apply_all(alloc: Global, table: &mut Table, changes: &[Change]) -> Result<(), OutOfMemory>
     requires { AreLegal table.old [] changes.now }
     ensures { OnOk result (Leads table.old changes.now table.new) }
 {
     for change in changes {
-        apply_one(table, change)?;
+        apply_one(alloc, table, change)?;
     }
     Ok(())
 }
@@ -50,7 +51,7 @@ pub fn rows_of(alloc: Global, changes: &[Change]) -> Result<Vec<Row>, OutOfMemor
     ensures { IfOk result (λ sorted. (given : List Message) → IsLegal given → changes.now ≡ changes_of given → (rows : List Row) × IsTableOf given rows × (sorted.items ≡ in_order rows)) }
 {
     let mut table = Table::new(alloc);
-    apply_all(&mut table, changes)?;
+    apply_all(alloc, &mut table, changes)?;
     table.canonical()
 }
 
@@ -92,7 +93,7 @@ fn write_port(
     Ok(())
 }
 
-/// The lines of what all ports forgot, in the order in which they are told.
+/// The lines of what all ports forgot, in the order in which the ports are listed.
 fn write_ports(
     nodes: &[PlanNode],
     forgotten: &[PortForgotten],

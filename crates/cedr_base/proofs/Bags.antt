@@ -20,16 +20,20 @@ pub same_row_exact : (a b : Row) → same_row a b ≡ true → a ≡ b
 unfolding same_row
 same_row_exact a b h = exact_rows a b (from_is_eq (row_cmp a b) h)
 
+-- a row is the same as itself
 pub same_row_itself : (a : Row) → same_row a a ≡ true
 unfolding same_row
 same_row_itself a = ap is_eq (tied_itself row_total a)
 
+-- the copies of a row in two lists, one after the other, are those in the first and those in the second
 pub count_of-append : (r : Row) (xs ys : List Row) → count_of r (xs ++ ys) ≡ count_of r xs + count_of r ys
 count_of-append r xs ys = sum_by-append (one_if_same r) xs ys
 
+-- a list has one copy of a row more than its rest where its first row is the same, and else as many
 pub count_of-cons : (r x : Row) (xs : List Row) → count_of r (x ∷ xs) ≡ one_if_same r x + count_of r xs
 count_of-cons r x xs = sum_by-cons (one_if_same r) x xs
 
+-- a row counts as one copy of itself
 pub one_of_itself : (r : Row) → one_if_same r r ≡ 1
 one_of_itself r = ap {B = ℕ} (λ b. cond b 1 0) (same_row_itself r)
 

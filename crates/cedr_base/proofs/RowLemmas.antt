@@ -32,6 +32,7 @@ exact_fields (Number m) (Bytes t) h = cc
 exact_fields (Bytes s) (Number n) h = cc
 exact_fields (Bytes s) (Bytes t) h = ap (λ z. Bytes z) (exact_bytes s t h)
 
+-- rows that the canonical order compares as equal are one
 pub exact_rows : CmpEqualImpliesEq row_cmp
 exact_rows a b h =
     let ends = both_equal (nat_cmp a.end b.end) _ h in

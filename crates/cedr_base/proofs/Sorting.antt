@@ -13,7 +13,7 @@ use Rattle.cedr_base.specs.RowLaws.{row_total}
 use Rattle.cedr_base.proofs.RowLemmas.{exact_rows}
 use Rattle.cedr_base.proofs.Bags.{count_of-cons, one_of_itself, one_if_same_exact}
 
--- a row doesn't come behind another
+-- a row doesn't come after another
 record IsBelow (a b : Row) : Type 0 where
   not_behind : is_gt (row_cmp a b) ≡ false
 
@@ -53,7 +53,7 @@ abbrev Ascends : List Row → Type 0
 Ascends [] = Unit {0}
 Ascends (x ∷ xs) = ((r : Row) → 0 < count_of r xs → IsBelow x r) × Ascends xs
 
--- a row of a list is its first row or stands behind it
+-- a row of a list is its first row or stands after it
 first_or_later : (r x : Row) (xs : List Row) → 0 < count_of r (x ∷ xs) → IsBelow x x → ((s : Row) → 0 < count_of s xs → IsBelow x s) → IsBelow x r
 first_or_later r x xs there itself later = elim (cases_lt 0 (count_of r xs)) [
   | inl in_rest ↦ later r in_rest

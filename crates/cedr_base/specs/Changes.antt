@@ -25,6 +25,7 @@ abbrev pub puts : Change → List Row
 puts (Add r) = r ∷ []
 puts (Cut r e) = remnant r e
 
+-- the copies that a change takes out of a bag: none for an insertion, the row itself for a retraction
 abbrev pub takes : Change → List Row
 takes (Add r) = []
 takes (Cut r e) = r ∷ []
@@ -33,6 +34,7 @@ takes (Cut r e) = r ∷ []
 abbrev pub all_puts : List Change → List Row
 all_puts cs = flat_map puts cs
 
+-- all copies that a list of changes takes out, change by change
 abbrev pub all_takes : List Change → List Row
 all_takes cs = flat_map takes cs
 

@@ -44,14 +44,15 @@ Suits before (message.Mark t) = (mark_of before < t) × (t ≤ FOREVER)
 Suits before message.End = Unit {0}
 Suits before message.Broken = Unit {0}
 
--- a message may come behind these: none of them is the last, and it agrees with them
+-- a message may come after these: none of them is the last, and it agrees with them
 abbrev pub MayCome : List Message → Message → Type 0
 MayCome before m = IsOpen before × Suits before m
 
--- each of the messages may come behind those before it
+-- each of the messages may come after some others and those before it
 abbrev pub IsLegalBehind : List Message → List Message → Type 0
 IsLegalBehind before [] = Unit {0}
 IsLegalBehind before (m ∷ ms) = MayCome before m × IsLegalBehind (before ++ m ∷ []) ms
 
+-- a list of messages is legal: each may come after those before it
 abbrev pub IsLegal : List Message → Type 0
 IsLegal ms = IsLegalBehind [] ms

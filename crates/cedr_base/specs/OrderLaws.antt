@@ -32,8 +32,10 @@ field_congr (Bytes s) (Number n) z p = cc
 field_congr (Bytes s) (Bytes t) (Number o) p = refl
 field_congr (Bytes s) (Bytes t) (Bytes u) p = nat_list_cmp_total.congr s t u p
 
+-- the order of fields is total
 pub field_total : IsTotalOrder field_cmp
 field_total = record { antisymm = field_antisymm; trans = field_trans; congr = field_congr }
 
+-- the order of payloads is total
 pub payload_total : IsTotalOrder payload_cmp
 payload_total = lists_total field_total

@@ -16,6 +16,7 @@ pub record IsRow (r : Row) : Type 0 where
 abbrev pub row_cmp : Row → Row → Ordering
 row_cmp a b = ordering_then (nat_cmp a.end b.end) (ordering_then (nat_cmp a.begin b.begin) (payload_cmp a.payload b.payload))
 
+-- two rows are the same where the canonical order compares them as equal
 unfoldable pub same_row : Row → Row → Bool
 same_row a b = is_eq (row_cmp a b)
 

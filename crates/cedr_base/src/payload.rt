@@ -5,22 +5,24 @@ use crate::memory::OutOfMemory;
 use std::alloc::Global;
 use std::cmp::Ordering;
 use std::marker::Model;
+use std::sync::Arc;
 
 /// An event's values, one per column. Contracts see the list of its fields.
 ///
-/// Payloads compare field by field, and a prefix comes first.
-#[derive(Drop)]
+/// Payloads compare field by field, and a prefix comes first. A copy shares the memory of its source.
 pub struct Payload {
-    fields: Vec<Field>,
+    alloc: Global,
+    shared: Option<Arc<Vec<Field>>>,
 }
 
 impl Model for Payload {
     ghost use Rattle.std.specs.Prelude.{List};
     ghost use Rattle.cedr_base.specs.declared.field.Field.{Field};
+    ghost use Rattle.cedr_base.specs.Shared.{shared_items};
 
     ghost Value = { List Field };
 
-    ghost view = { λ p. p.fields.items };
+    ghost view = { λ p. shared_items p.shared };
 }
 
 impl Payload {
@@ -29,50 +31,92 @@ impl Payload {
         ensures { result ≡ [] }
     {
         Payload {
-            fields: Vec::new(alloc),
+            alloc,
+            shared: None,
         }
     }
 
-    /// Adds a field at the end. A field that finds no room is dropped.
+    /// A payload of these fields, which are moved. O(1).
+    pub fn from_fields(alloc: Global, fields: Vec<Field>) -> Result<Payload, OutOfMemory>
+        ensures { IfOk result (λ p. p ≡ fields.items) }
+    {
+        let shared = Arc::new(alloc, fields)?;
+        Ok(Payload {
+            alloc,
+            shared: Some(shared),
+        })
+    }
+
+    /// Adds a field at the end. A field that finds no room is dropped. It copies the other fields: to make a payload of
+    /// several, gather them and use [`Payload::from_fields`].
     pub fn push(&mut self, field: Field) -> Result<(), OutOfMemory>
         ensures ok { OnOk result (self.new ≡ self.old ++ field ∷ []) }
         ensures err { OnErr result (self.new ≡ self.old) }
     {
-        self.fields.push(field)?;
+        let mut all = Vec::with_capacity(self.alloc, self.fields().len() + 1)?;
+        push_copies(self.alloc, &mut all, self.fields())?;
+        all.push(field)?;
+        *self = Payload::from_fields(self.alloc, all)?;
         Ok(())
     }
 
     pub fn fields(&self) -> &[Field]
         ensures { result.now ≡ self.now }
     {
-        self.fields.as_slice()
+        match &self.shared {
+            None => &[],
+            Some(shared) => shared.as_slice(),
+        }
     }
 
-    /// The fields of this payload, and then those of the other.
+    /// Appends copies of the fields. Where memory runs out a part may stand there. O(n) in what they hold.
+    pub fn copy_fields(&self, alloc: Global, all: &mut Vec<Field>) -> Result<(), OutOfMemory>
+        ensures { OnOk result (all.new.items ≡ all.old.items ++ self.now) }
+    {
+        push_copies(alloc, all, self.fields())
+    }
+
+    /// The fields of this payload, and then those of the other. O(n) in what they hold.
     pub fn joined(&self, alloc: Global, other: &Payload) -> Result<Payload, OutOfMemory>
         ensures { IfOk result (λ p. p ≡ self.now ++ other.now) }
     {
-        let mut all = Payload::new(alloc);
-        push_copies(alloc, &mut all, self.fields())?;
-        push_copies(alloc, &mut all, other.fields())?;
-        Ok(all)
+        let mut all = Vec::with_capacity(alloc, self.fields().len() + other.fields().len())?;
+        self.copy_fields(alloc, &mut all)?;
+        other.copy_fields(alloc, &mut all)?;
+        Payload::from_fields(alloc, all)
     }
 
+    /// A payload that shares the memory of this one. It takes none itself. O(1).
     pub fn copy(&self, alloc: Global) -> Result<Payload, OutOfMemory>
         ensures { IfOk result (λ p. p ≡ self.now) }
     {
-        let mut all = Payload::new(alloc);
-        push_copies(alloc, &mut all, self.fields())?;
-        Ok(all)
+        match &self.shared {
+            None => Ok(Payload::new(alloc)),
+            Some(shared) => {
+                let shared = Arc::try_clone(shared)?;
+                Ok(Payload {
+                    alloc,
+                    shared: Some(shared),
+                })
+            }
+        }
     }
 }
 
-fn push_copies(alloc: Global, payload: &mut Payload, fields: &[Field]) -> Result<(), OutOfMemory>
-    ensures { OnOk result (payload.new ≡ payload.old ++ fields.now) }
+// By hand, so that code that lets a payload go makes one call for it, without a choice of its own.
+impl Drop for Payload {
+    fn drop(self) {
+        let Payload { alloc: _, shared } = self;
+        drop(shared);
+    }
+}
+
+fn push_copies(alloc: Global, all: &mut Vec<Field>, fields: &[Field]) -> Result<(), OutOfMemory>
+    ensures { OnOk result (all.new.items ≡ all.old.items ++ fields.now) }
 {
     for field in fields {
         let copied = field.copy(alloc)?;
-        payload.push(copied)?;
+        all.push(copied)?;
     }
     Ok(())
 }

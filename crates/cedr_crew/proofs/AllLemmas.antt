@@ -18,7 +18,7 @@ all_set As [] (x ∷ xs) k y all stands = absurd all
 all_set As (r ∷ rs) (x ∷ xs) zero y all stands = (stands r (λ d. all.0), all.1)
 all_set As (r ∷ rs) (x ∷ xs) (suc k) y all stands = (all.0, all_set As rs xs k y all.1 stands)
 
--- some may stand behind others
+-- some may stand after others
 pub all_join : {X : Type 0} (As : Role → X → Type 0) (rs ss : List Role) (xs ys : List X) → AllAs As rs xs → AllAs As ss ys → AllAs As (rs ++ ss) (xs ++ ys)
 all_join As [] ss [] ys first later = later
 all_join As [] ss (x ∷ xs) ys first later = absurd first
@@ -40,6 +40,7 @@ pub record First {X : Type 0} (As : Role → X → Type 0) (roles : List Role) (
   pub head : As role x
   pub tail : AllAs As others xs
 
+-- where there is a first thing it stands for a first role, and the others stand for the others
 pub all_first : {X : Type 0} (As : Role → X → Type 0) (roles : List Role) (x : X) (xs : List X) → AllAs As roles (x ∷ xs) → First As roles x xs
 all_first As [] x xs all = absurd all
 all_first As (r ∷ rs) x xs all = record { role = r; others = rs; are = refl; head = all.0; tail = all.1 }
@@ -50,7 +51,7 @@ all_none As Bs before [] xs ys none all stand = subst (λ rs. AllAs Bs rs ys) (s
 all_none As Bs before (r ∷ rs) [] ys none all stand = absurd all
 all_none As Bs before (r ∷ rs) (x ∷ xs) ys none all stand = absurd (cc none)
 
--- one more stands behind others for the first of some roles, and the rest behind it for the others
+-- one more stands after others for the first of some roles, and the rest after it for the others
 pub all_more : {X Y : Type 0} (As : Role → X → Type 0) (Bs : Role → Y → Type 0) (before roles : List Role) (x : X) (xs : List X) (ys after : List Y) (y : Y) → AllAs As roles (x ∷ xs) → AllAs Bs before ys → ((role : Role) → As role x → Bs role y)
     → ((rs ss : List Role) → AllAs As rs xs → AllAs Bs ss (ys ++ y ∷ []) → AllAs Bs (ss ++ rs) after) → AllAs Bs (before ++ roles) after
 all_more As Bs before roles x xs ys after y all stand one rest =

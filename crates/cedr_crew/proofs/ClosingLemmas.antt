@@ -63,7 +63,7 @@ one_more rest faults (r ∷ s ∷ rs) [] w all = absurd all.1
 one_more rest faults (r ∷ rs) (x ∷ ws) w all =
     let more = one_more rest faults rs ws w all.1 in record { first = r ∷ more.first; last = more.last; are = ap (λ (ys : List Role). r ∷ ys) more.are; work = (all.0, more.work); works = more.works }
 
--- one more is left behind the others
+-- one more is left after the others
 all_more : {S R : Type 0} (rest : S → Option (List ℕ)) (faults : S → ℕ) (roles : List Role) (role : Role) (es : List (Ended S R)) (e : Ended S R) → AllEndAs rest faults roles es → EndsAs rest faults role e → AllEndAs rest faults (roles ++ role ∷ []) (es ++ e ∷ [])
 all_more rest faults [] role [] e all one = (one, tt)
 all_more rest faults [] role (x ∷ es) e all one = absurd all

@@ -25,7 +25,7 @@ ports_more node first (suc port) (l ∷ ls) within =
     let later = ports_more node (first + 1) port ls (omega arith) ∙ ap (λ (p : ℕ). ports_told node (first + 1) (take port ls) ++ told_of node p (get_or ls port []) ∷ []) at in
     ap (λ (ts : List Told). told_of node first l ∷ ts) later
 
--- what one port more forgot is told behind the others
+-- what one port more forgot is listed after the others
 pub port_told : (node port : ℕ) (ls : List (List Forgotten)) (start : List Told) (before all : List PortForgotten) (one : PortForgotten) → map told before ≡ start ++ ports_told node 0 (take port ls) → all ≡ before ++ one ∷ [] → one.node ≡ node → one.port ≡ port → one.list.items ≡ get_or ls port [] → port < length ls
     → map told all ≡ start ++ ports_told node 0 (take (port + 1) ls)
 port_told node port ls start before all one so_far more of_node of_port of_list within =
@@ -48,7 +48,7 @@ nodes_more first (suc place) (x ∷ xs) within =
     let later = nodes_more (first + 1) place xs (omega arith) ∙ ap (λ (p : ℕ). nodes_told (first + 1) (take place xs) ++ ports_told p 0 (get_or xs place [])) at in
     ap (λ (ts : List Told). head ++ ts) later ∙ sym (append_assoc head (nodes_told (first + 1) (take place xs)) (ports_told (first + suc place) 0 (get_or xs place [])))
 
--- what the ports of one node more forgot is told behind the others
+-- what the ports of one node more forgot is listed after the others
 pub node_told : (place : ℕ) (xs : List (List (List Forgotten))) (ls : List (List Forgotten)) (before all : List Told) → before ≡ nodes_told 0 (take place xs) → get_or xs place [] ≡ ls → all ≡ before ++ ports_told place 0 ls → place < length xs → all ≡ nodes_told 0 (take (place + 1) xs)
 node_told place xs ls before all so_far list more within =
     let at : 0 + place ≡ place = omega arith in
@@ -56,13 +56,13 @@ node_told place xs ls before all so_far list more within =
     let here = ap (λ (p : ℕ). nodes_told 0 (take place xs) ++ ports_told p 0 (get_or xs place [])) at ∙ ap (λ (ks : List (List Forgotten)). nodes_told 0 (take place xs) ++ ports_told place 0 ks) list in
     more ∙ (ap (λ (ts : List Told). ts ++ ports_told place 0 ls) so_far ∙ (sym here ∙ (sym (nodes_more 0 place xs within) ∙ ap (λ (k : ℕ). nodes_told 0 (take k xs)) next)))
 
--- something is told of each node
+-- there is a list of what its ports forgot for each node
 pub forgot_count : (nodes : List PlanNode) (ports : List Lists) → length (forgot_in nodes ports) ≡ length nodes
 forgot_count [] ports = refl
 forgot_count (n ∷ nodes) [] = omega (arith, forgot_count nodes [])
 forgot_count (n ∷ nodes) (p ∷ ports) = omega (arith, forgot_count nodes ports)
 
--- and of the node at a place what its ports forgot
+-- and that of the node at a place is what its ports forgot
 pub forgot_at : (nodes : List PlanNode) (ports : List Lists) (place : ℕ) (n : PlanNode) → place < length nodes → n ≡ get_or nodes place n → get_or (forgot_in nodes ports) place [] ≡ forgot_on n (lists_at ports place)
 forgot_at [] ports place n within is = absurd (omega (arith, within))
 forgot_at (m ∷ nodes) [] zero n within is = ap (λ (k : PlanNode). forgot_on k []) (sym is)

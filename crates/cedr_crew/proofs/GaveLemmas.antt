@@ -1,4 +1,4 @@
--- What the worker of one node gave, and what its end tells of it.
+-- What the worker of one node gave, and what its end says of it.
 use Rattle.std.proofs.Common.{◌≡◌, ℕ, ◌++◌, Bool, true, false, List, [], ◌∷◌, Option, refl, sym, subst, ap}
 use Rattle.std.specs.List.{All}
 use Rattle.std.proofs.lemmas.List.Elements.{All-nil}
@@ -32,7 +32,7 @@ use Rattle.cedr_crew.specs.Ends.{OperatorEndsAs, PartEndsAs}
 use Rattle.cedr_crew.specs.Roles.{Role}
 use Rattle.cedr_crew.specs.Wents.{LostWent, part_lacked, source_left}
 
--- what is left of the source of a node tells what it gave
+-- what is left of the source of a node says what it gave
 pub record SourceGave {S : Type 0} (rest : S → Option (List ℕ)) (faults : S → ℕ) (node : PlanNode) (content : Option (List ℕ)) (count : ℕ) (end : SourceEnd S) (given : List Message) : Type 0 where
   pub shape : Shape
   pub types : HasTypes shape node.types.items
@@ -95,7 +95,7 @@ operator_gave rest faults role lists putters node true is =
       passed = λ output. absurd (cc (output, is.output));
     }
 
--- a worker gave what its end tells
+-- a worker gave what its end says
 pub gave : {S R : Type 0} (rest : S → Option (List ℕ)) (faults : S → ℕ) (role : Role) (lists : Lists) (putters : List OutEnd) (left : Part S R) → PartEndsAs rest faults role lists putters left → Gave rest faults role lists putters left
 gave rest faults role lists putters (part.Source end) is = record {
   given = is.ends.given ++ last_message (last_at end.stop) ∷ [];

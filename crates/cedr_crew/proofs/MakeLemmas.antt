@@ -38,7 +38,7 @@ pub writer_there : {R : Type 0} (history : Book) (w : Option (HeldWriter R)) (n 
 writer_there history None n nodes awaits is = let one = ap {B = ℕ} (λ (b : Bool). cond {A = ℕ} b 1 0) is in absurd (omega (arith, awaits, one, outputs_more n nodes))
 writer_there history (Some held) n nodes awaits is = awaits.0
 
--- and is gone behind it; behind any other node it is as it was
+-- and is gone after it; after any other node it is as it was
 pub writer_behind : {R : Type 0} (history : Book) (w w' : Option (HeldWriter R)) (n : PlanNode) (nodes : List PlanNode) → Awaits history w (n ∷ nodes) → (is_output n.kind ≡ true → w' ≡ None) → (is_output n.kind ≡ false → w' ≡ w) → Awaits history w' nodes
 writer_behind {R} history w w' n nodes awaits gone same = by (is_output n.kind) refl
   where
@@ -70,7 +70,7 @@ none_made rest faults number history = record {
   work = tt;
 }
 
--- a worker, and those of the nodes behind its own
+-- a worker, and those of the nodes after its own
 pub made_more : {S R : Type 0} (rest : S → Option (List ℕ)) (faults : S → ℕ) (number : ℕ) (n : PlanNode) (nodes : List PlanNode) (t : List InEnd) (ts : List (List InEnd)) (p : List OutEnd) (ps : List (List OutEnd)) (left left' : List S) (history : Book) (w : Worker S R) (ws : List (Worker S R))
     → IsMade rest faults number n t p history w → left ≡ source_in w ++ left' → AreMade rest faults (number + 1) nodes ts ps left' history ws → AreMade rest faults number (n ∷ nodes) (t ∷ ts) (p ∷ ps) left history (w ∷ ws)
 made_more {S} {R} rest faults number n nodes t ts p ps left left' history w ws one sources some = record {
@@ -161,7 +161,7 @@ pub only_end : (rest ends : List InEnd) (e : InEnd) → length ends ≡ 1 → en
 only_end [] ends e one are = (refl, are)
 only_end (r ∷ rest) ends e one are = absurd (omega (arith, one, ap (λ (xs : List InEnd). length xs) are, length-append rest (e ∷ [])))
 
--- what the role of a source's worker says of its source is what is told of that source
+-- what the role of a source's worker says of its source is what is known of that source
 pub source_told : {A S : Type 0} (of : Role → A) (from : S → A) (role : Role) (s : S) → is_source role.node.kind ≡ true → of role ≡ from s → map of (source_roles (role ∷ [])) ≡ map from (s ∷ [])
 source_told {A} {S} of from role s is same = ap (λ (b : Bool). map of (cond b (role ∷ []) [])) is ∙ ap (λ (a : A). a ∷ []) same
 

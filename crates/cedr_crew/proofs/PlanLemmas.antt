@@ -42,7 +42,7 @@ read_among place (n ∷ nodes) is =
     list_any-append (λ (f : ℕ). f == place) n.inputs.items (froms nodes)
     ∙ either (is_among place n.inputs.items) (is_read place (map node_of nodes)) (is_among place (froms nodes)) is (read_among place nodes)
 
--- the same of nodes behind others
+-- the same of nodes after others
 later_among : (place : ℕ) (before nodes : List PlanNode) → is_among place (froms nodes) ≡ true → is_among place (froms (before ++ nodes)) ≡ true
 later_among place [] nodes is = is
 later_among place (b ∷ before) nodes is =
@@ -52,7 +52,7 @@ later_among place (b ∷ before) nodes is =
     second true b is = refl
     second false b is = is
 
--- where a search finds nothing, it passed the first and finds nothing behind it
+-- where a search finds nothing, it passed the first and finds nothing after it
 goes_on : (b : Bool) (rest : Option ℕ) (k : ℕ) → (if b then rest else Some k) ≡ None → (b ≡ true) × (rest ≡ None)
 goes_on true rest k is = (refl, is)
 goes_on false rest k is = absurd (cc is)
@@ -73,13 +73,13 @@ used_behind k place (b ∷ before) after n at used isnt =
 
 -- ---- no node reads the output
 
--- an earlier node stands at its place whatever comes behind
+-- an earlier node stands at its place whatever comes after
 at_front : (earlier later : List Node) (i : ℕ) → i < length earlier → slice_get (earlier ++ later) i ≡ slice_get earlier i
 at_front [] later i within = absurd (omega (arith, within))
 at_front (x ∷ earlier) later zero within = refl
 at_front (x ∷ earlier) later (suc i) within = at_front earlier later i (omega (arith, within))
 
--- a node stands behind those before it
+-- a node is at the place after those before it
 at_seam : (before after : List PlanNode) (n : PlanNode) → slice_get (map node_of (before ++ n ∷ after)) (length before) ≡ Some (node_of n)
 at_seam [] after n = refl
 at_seam (b ∷ before) after n = at_seam before after n
@@ -184,7 +184,7 @@ one_can plan takers putters before after n ts ps is wired whole ports has =
 
 -- ---- all nodes of a plan
 
--- and for each of those behind some nodes
+-- and for each of those after some nodes
 ends_behind : (plan : Plan) (takers : List (List InEnd)) (putters : List (List OutEnd)) → IsPlan plan → AreWired plan.nodes.items takers putters
     → (before nodes : List PlanNode) (ts : List (List InEnd)) (firsts ps : List (List OutEnd)) → plan.nodes.items ≡ before ++ nodes → putters ≡ firsts ++ ps → length firsts ≡ length before
     → map length ts ≡ map port_count nodes → length ps ≡ length nodes → AreNew plan.edge ts ps → AllCanWork nodes ts ps

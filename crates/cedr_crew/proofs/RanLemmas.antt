@@ -58,7 +58,7 @@ taken_sum : (takers : List InEnd) → taken_count takers ≡ sum_by length_of (m
 taken_sum [] = refl
 taken_sum (e ∷ es) = sum_by-cons (λ (x : InEnd). length x.taken) e es ∙ (ap (λ k. length e.taken + k) (taken_sum es) ∙ sym (sum_by-cons length_of e.taken (map taken_of es)))
 
--- the worker at a place ran as its end tells
+-- the worker at a place ran as its end says
 ran_as : {S R : Type 0} (rest : S → Option (List ℕ)) (faults : S → ℕ) (roles : List Role) (ends : List (Ended S R)) (first : ℕ) → AllEndAs rest faults roles ends → AreNumbered first roles → (k : ℕ) (d : Ran) → k < length roles
     → RanAs (first + k) (lists_at (map (map taken_of) (map takers_left ends)) k) (puts_at (map putters_left ends) k) (slice_index_or (map ran_left ends) k d)
 ran_as rest faults [] ends first are numbered k d within = absurd (omega arith)
@@ -88,7 +88,7 @@ module _ {S R : Type 0} (rest : S → Option (List ℕ)) (faults : S → ℕ) (n
       let lists : carried edges ≡ map (list_at all.given) (froms nodes) = sym closed.same ∙ closed.sent all.given all.sent in
       sent_sum list own (all.sent k) ∙ (ap (λ j. j * length list) many ∙ (sym (from_count all.given k (froms nodes) tables (port_ends nodes (map takers_left ends) left.ports)) ∙ ap (count_from k (froms nodes)) (sym lists)))
 
-  -- the worker of a node ran as its end tells
+  -- the worker of a node ran as its end says
   ran_here : (k : ℕ) (d : Ran) → k < length nodes → RanAs (0 + k) (lists_at (map (map taken_of) (map takers_left ends)) k) (puts_at (map putters_left ends) k) (slice_index_or (map ran_left ends) k d)
   ran_here k d within = ran_as rest faults roles ends 0 ended are.numbers k d (let e = ap length are.nodes_are in omega (arith, e, within, length-map roles node_in))
 

@@ -104,7 +104,7 @@ pub one_writer : {S R : Type 0} (rest : S → Option (List ℕ)) (faults : S →
 one_writer rest faults plan takers putters sources history roles ends is are ended =
     writers_count rest faults roles ends ended ∙ (ap (λ (ns : List PlanNode). count_by is_drawn_output (map node_of ns)) are.nodes_are ∙ is.one_output)
 
--- a writer is of a history, and told nothing for the last time
+-- a writer is of a history, and made no last note
 abbrev IsOf : {R : Type 0} → Book → HeldWriter R → Type 0
 IsOf history held = (held.writer.history ≡ history) × (held.writer.told ≡ false)
 
@@ -124,7 +124,7 @@ writers_of {R = R} rest faults (r ∷ rs) (e ∷ es) history are same =
     let later = writers_of rest faults rs es history are.1 (All-tail (λ (role : Role). role.history ≡ history) r rs same) in
     All-append (IsOf {R = R} history) (writer_left e.part) (writers_in (map part_left es)) here later
 
--- the writer of a plan's result is of its history, and told nothing for the last time
+-- the writer of a plan's result is of its history, and made no last note
 pub writer_untold : {S R : Type 0} (rest : S → Option (List ℕ)) (faults : S → ℕ) (nodes : List PlanNode) (takers : List (List InEnd)) (putters : List (List OutEnd)) (sources : List S) (history : Book) (roles : List Role) (ends : List (Ended S R)) (held : HeldWriter R)
     → AreRoles rest faults nodes takers putters sources history roles → AllEndAs rest faults roles ends → writers_in (map part_left ends) ≡ held ∷ [] → (held.writer.history ≡ history) × (held.writer.told ≡ false)
 writer_untold {R = R} rest faults nodes takers putters sources history roles ends held are ended one =
@@ -160,7 +160,7 @@ published rest faults role lists putters (part.Output node lacked held) is outpu
   });
 }
 
--- the same among all that is left, of the output behind other nodes
+-- the same among all that is left, of the output after other nodes
 record PublishedAt {S R : Type 0} (place : ℕ) (n : PlanNode) (ends : List (Ended S R)) : Type 0 where
   pub held : HeldWriter R
   pub firsts : List (HeldWriter R)
@@ -178,7 +178,7 @@ first_published r e es n same here = record {
   changes = subst (λ (k : PlanNode). IsPublished k.level (list_at (map taken_of e.takers) 0) (part_lacked e.part) here.held.writer.published.changes) same here.changes;
 }
 
--- of a worker behind the first
+-- of a worker after the first
 later_published : {S R : Type 0} (e : Ended S R) (es : List (Ended S R)) (place : ℕ) (n : PlanNode) → PublishedAt place n es → PublishedAt (suc place) n (e ∷ es)
 later_published {R = R} e es place n later = record {
   held = later.held;

@@ -32,7 +32,7 @@ use Rattle.cedr_crew.proofs.LeftLemmas.{ports_left}
 
 -- ---- the worker at a place
 
--- The worker of a node behind others, and the list that it gave among those of all nodes.
+-- The worker of a node after others, and the list that it gave among those of all nodes.
 pub record GaveAt {S R : Type 0} (rest : S → Option (List ℕ)) (faults : S → ℕ) (before : List PlanNode) (n : PlanNode) (roles : List Role) (ends : List (Ended S R)) (given : Lists) : Type 0 where
   pub role : Role
   pub end : Ended S R
@@ -61,7 +61,7 @@ later_role : {X : Type 0} (f : Role → X) (b : Bool) (r : Role) (rs : List Role
 later_role f true r rs k n d is = ap (λ j. slice_index_or (map f (r ∷ rs)) j d) (let e : n ≡ suc k = omega arith in e)
 later_role f false r rs k n d is = ap (λ j. slice_index_or (map f rs) j d) (let e : n ≡ k = omega arith in e)
 
--- the number of a source is one more behind a source
+-- the number of a source is one more after a source
 count_behind : (b n : PlanNode) (bs : List PlanNode) → b ≡ n → source_count (n ∷ bs) ≡ cond {A = ℕ} (is_source b.kind) 1 0 + source_count bs
 count_behind b n bs same = sum_by-cons (λ (x : PlanNode). cond {A = ℕ} (is_source x.kind) 1 0) n bs ∙ ap (λ (x : PlanNode). cond {A = ℕ} (is_source x.kind) 1 0 + source_count bs) (sym same)
 
@@ -108,7 +108,7 @@ first_gave rest faults r rs e es n given same g = record {
   source_is = λ s d is. first_left (source_left e.part) (sources_left es) s d is;
 }
 
--- a worker behind the first
+-- a worker after the first
 later_gave : {S R : Type 0} (rest : S → Option (List ℕ)) (faults : S → ℕ) (r : Role) (rs : List Role) (e : Ended S R) (es : List (Ended S R)) (b : PlanNode) (bs : List PlanNode) (n : PlanNode) (given : Lists) → r.node ≡ b → (g : Gave rest faults r (map taken_of e.takers) e.putters e.part) → GaveAt rest faults bs n rs es given → GaveAt rest faults (b ∷ bs) n (r ∷ rs) (e ∷ es) (g.given ∷ given)
 later_gave rest faults r rs e es b bs n given same g later =
     let count : source_count (b ∷ bs) ≡ cond {A = ℕ} (is_source r.node.kind) 1 0 + source_count bs = count_behind r.node b bs same in
@@ -125,7 +125,7 @@ later_gave rest faults r rs e es b bs n given same g later =
       source_is = λ s d is. later_left (source_left e.part) (sources_left es) (source_count bs) (source_count (b ∷ bs)) d (count ∙ ap (λ j. j + source_count bs) (sym (left_count rest faults r (map taken_of e.takers) e.putters e.part g))) ∙ later.source_is s d is;
     }
 
--- no worker is behind others where there is none
+-- no worker comes after others where there is none
 none_gave : {S R : Type 0} (rest : S → Option (List ℕ)) (faults : S → ℕ) (before after : List PlanNode) (n : PlanNode) → [] ≡ before ++ n ∷ after → GaveAt {S = S} {R = R} rest faults before n [] [] []
 none_gave rest faults [] after n is = absurd (cc is)
 none_gave rest faults (b ∷ bs) after n is = absurd (cc is)
@@ -218,7 +218,7 @@ module _ {S R : Type 0} (rest : S → Option (List ℕ)) (faults : S → ℕ) (n
   lists_went : (before after : List PlanNode) (n : PlanNode) (whole : nodes ≡ before ++ n ∷ after) → map taken_of (at before after n whole).end.takers ≡ lists_at (ports_of nodes (carried edges)) (length before)
   lists_went before after n whole = sym (ap (λ ls. lists_at ls (length before)) (ports_left rest faults nodes takers putters sources history roles ends wired are ended edges closed) ∙ (at before after n whole).lists_are)
 
-  -- a source gave what its end tells
+  -- a source gave what its end says
   source_went : (before after : List PlanNode) (n : PlanNode) → nodes ≡ before ++ n ∷ after → is_source n.kind ≡ true → (s : S) (e : SourceEnd S) → SourceWent rest faults n (slice_index_or sources (source_count before) s) (slice_index_or (sources_left ends) (source_count before) e) (list_at all.given (length before))
   source_went before after n whole is s e =
       let here = at before after n whole in

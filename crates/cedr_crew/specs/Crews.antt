@@ -12,18 +12,23 @@ use Rattle.op_planned.specs.Ready.{is_source}
 use Rattle.cedr_crew.specs.declared.worker.Worker.{Worker}
 use Rattle.cedr_crew.specs.Roles.{Role, AllWorkAs}
 
+-- the node that a worker was made for
 abbrev pub node_in : Role → PlanNode
 node_in role = role.node
 
+-- the edges of its ports
 abbrev pub takes_in : Role → List TableId
 takes_in role = role.takes
 
+-- the edges that come from it
 abbrev pub puts_in : Role → List TableId
 puts_in role = role.puts
 
+-- the content of its source, where that is known
 abbrev pub content_in : Role → Option (List ℕ)
 content_in role = role.content
 
+-- the count of faults of its source
 abbrev pub count_in : Role → ℕ
 count_in role = role.count
 

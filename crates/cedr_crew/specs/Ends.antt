@@ -53,11 +53,13 @@ pub record OutputEndsAs (role : Role) (lists : Lists) (putters : List OutEnd) (n
   pub history : w.history ≡ role.history
   pub untold : w.told ≡ false
 
+-- the same by what is left of the worker: that of a source, of an operator, or of an output
 abbrev pub PartEndsAs : {S R : Type 0} → (S → Option (List ℕ)) → (S → ℕ) → Role → Lists → List OutEnd → Part S R → Type 0
 PartEndsAs rest faults role lists putters (part.Source end) = SourceEndsAs rest faults role putters end
 PartEndsAs rest faults role lists putters (part.Operator node lacked) = OperatorEndsAs role lists putters node lacked
 PartEndsAs rest faults role lists putters (part.Output node lacked held) = OutputEndsAs role lists putters node lacked held.writer
 
+-- how many messages were sent over the edge of an end
 abbrev pub sent_length : OutEnd → ℕ
 sent_length e = length e.sent
 

@@ -17,6 +17,7 @@ pub record Told : Type 0 where
   pub port : ℕ
   pub list : List Forgotten
 
+-- an entry of what a port forgot, with its list as contracts see it
 abbrev pub told : PortForgotten → Told
 told p = record { node = p.node; port = p.port; list = p.list.items }
 

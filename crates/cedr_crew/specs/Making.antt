@@ -1,4 +1,4 @@
--- How the workers of a plan are made, one behind the other.
+-- How the workers of a plan are made, one after the other.
 use Rattle.std.specs.Prelude.{ℕ, ◌≡◌, ◌<◌, ◌≤◌, true, false, List, [], ◌∷◌, length, map, count_by, Option, None, Some}
 use Rattle.std.specs.List.{All, flat_map}
 use Rattle.logbook.specs.Pages.{Book}

@@ -22,8 +22,8 @@ use Rattle.cedr_crew.specs.declared.worker.Worker.{Worker}
 use Rattle.cedr_crew.specs.declared.worker.Worker.TheVariants as worker
 
 -- What a worker was made for: its number, the node of the plan, the edges of its ports and those that come from it. A
--- source's worker besides for a source of this shape, with this content, where it is told, and this count of faults; an
--- output's for this history. The other workers say nothing of these.
+-- source's worker besides for a source of this shape, with this content, where that is known, and this count of faults;
+-- an output's for this history. The other workers say nothing of these.
 pub record Role : Type 0 where
   pub number : ℕ
   pub node : PlanNode

@@ -11,6 +11,7 @@ use Rattle.cedr_crew.specs.Wents.{source_left}
 abbrev pub source_ends_in : {S R : Type 0} → List (Part S R) → List (SourceEnd S)
 source_ends_in parts = flat_map source_left parts
 
+-- the writer that is left of an output, and none of any other node
 abbrev pub writer_left : {S R : Type 0} → Part S R → List (HeldWriter R)
 writer_left (part.Source end) = []
 writer_left (part.Operator node lacked) = []

@@ -4,6 +4,7 @@ use Rattle.cedr_worker.specs.declared.source.SourceEnd.{SourceEnd}
 use Rattle.cedr_worker.specs.declared.stop.SourceStop.{SourceStop}
 use Rattle.cedr_worker.specs.declared.stop.SourceStop.TheVariants as stop
 
+-- how a source stopped
 abbrev pub stop_in : {S : Type 0} → SourceEnd S → SourceStop
 stop_in end = end.stop
 

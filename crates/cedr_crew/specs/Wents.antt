@@ -27,18 +27,23 @@ use Rattle.cedr_crew.specs.declared.ended.Part.TheVariants as part
 
 -- ---- what is left, as lists
 
+-- the ends of the edges of a worker's ports
 abbrev pub takers_left : {S R : Type 0} → Ended S R → List InEnd
 takers_left end = end.takers
 
+-- the ends of the edges that come from its node
 abbrev pub putters_left : {S R : Type 0} → Ended S R → List OutEnd
 putters_left end = end.putters
 
+-- how many messages its turns took and put
 abbrev pub ran_left : {S R : Type 0} → Ended S R → Ran
 ran_left end = end.ran
 
+-- what is left of it besides
 abbrev pub part_left : {S R : Type 0} → Ended S R → Part S R
 part_left end = end.part
 
+-- the end of a source, and none of any other node
 abbrev pub source_left : {S R : Type 0} → Part S R → List (SourceEnd S)
 source_left (part.Source end) = end ∷ []
 source_left (part.Operator node lacked) = []
@@ -55,6 +60,7 @@ part_lacked (part.Source end) = false
 part_lacked (part.Operator node lacked) = lacked
 part_lacked (part.Output node lacked held) = lacked
 
+-- memory was lacking for the node at a place, which is no source
 abbrev pub lacked_at : {S R : Type 0} → List (Ended S R) → ℕ → Bool
 lacked_at [] place = false
 lacked_at (e ∷ es) place = if nat_eq place 0 then part_lacked e.part else lacked_at es (place - 1)
@@ -96,6 +102,7 @@ count_from place [] lists = 0
 count_from place (f ∷ fs) [] = 0
 count_from place (f ∷ fs) (l ∷ ls) = (if nat_eq f place then length l else 0) + count_from place fs ls
 
+-- how many messages a list has
 abbrev pub length_of : List Message → ℕ
 length_of ms = length ms
 

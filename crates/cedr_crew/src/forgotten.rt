@@ -45,7 +45,7 @@ fn copy_all(alloc: Global, list: &[Forgotten]) -> Result<Vec<Forgotten>, OutOfMe
     Ok(copies)
 }
 
-/// What each port of a node forgot goes behind the rest.
+/// What each port of a node forgot goes after the rest.
 fn tell_ports(
     alloc: Global,
     place: usize,

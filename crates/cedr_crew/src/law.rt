@@ -15,8 +15,8 @@ ghost use Rattle.cedr_crew.specs.Wents.{AreRan, Went, lacked_at, putters_left, r
 use cedr_io::Source;
 use std::sync::Wait;
 
-/// The law of workers that ended. What is left of them tells which node gave what over which edge, and how many messages the
-/// turns of each moved. Where memory was found for each, what went over the edges is a run of the plan.
+/// The law of workers that ended. What is left of them says which node gave what over which edge, and how many messages
+/// the turns of each moved. Where memory was found for each, what went over the edges is a run of the plan.
 pub fn workers_went<S: Source + Drop, R: Wait + Drop>()
     ensures went { (nodes : List PlanNode) (takers : List (List InEnd)) (putters : List (List OutEnd)) (sources : List S) (history : Book) (roles : List Role) (ends : List (Ended S R)) (edges : List Carried) → AreWired nodes takers putters → AreRoles S.rest S.faults nodes takers putters sources history roles → AllEndAs S.rest S.faults roles ends → AreClosed nodes (map takers_left ends) (map putters_left ends) edges
         → (given : Lists) × Went S.rest S.faults nodes sources (ports_of nodes (carried edges)) given (lacked_at ends) (sources_left ends) }

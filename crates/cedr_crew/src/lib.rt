@@ -1,9 +1,9 @@
 //! The workers of a plan together: made with the plan's edges, turned, and put away once each has ended.
 //!
-//! `specs/Roles.antt` says what each worker was made for, and that it works as that whatever its turns do. The turns may be
-//! taken by any thread, in any order. `specs/Ends.antt` says what is left of the workers, `specs/Closings.antt` how that is
-//! put away, and `specs/Wents.antt` what it tells of the plan: which node gave what over which edge. Nothing in it speaks of
-//! turns.
+//! `specs/Roles.antt` says what each worker was made for, and that it works as that whatever its turns do. The turns
+//! may be taken by any thread, in any order. `specs/Ends.antt` says what is left of the workers, `specs/Closings.antt`
+//! how that is put away, and `specs/Wents.antt` what that says of the plan: which node gave what over which edge.
+//! Nothing in it speaks of turns.
 #![tactic(auto)]
 
 mod ended;

@@ -42,7 +42,7 @@ pub struct Crew<S: Source + Drop, R: Wait + Drop> {
     pub workers: Vec<Worker<S, R>>,
     /// The reader of the result.
     pub reader: Reader,
-    /// Room for what is told of each edge once it is closed.
+    /// Room for the record of each edge once it is closed.
     pub records: Vec<EdgeRecord>,
 }
 
@@ -206,7 +206,7 @@ fn make_workers<S: Source + Drop, R: Wait + Drop>(
     make_workers(alloc, number + 1, others, takers, putters, making)
 }
 
-/// The source of a worker goes behind the others.
+/// The source of a worker goes after the others.
 fn keep_source<S: Source + Drop, R: Wait + Drop>(sources: &mut Vec<S>, worker: Worker<S, R>)
     requires { length sources.old.items + length (source_in worker) ≤ vec_capacity sources.old }
     ensures sources { sources.new.items ≡ sources.old.items ++ source_in worker }
@@ -257,8 +257,8 @@ fn open_edges<R: Wait + Drop>(
     Ok((wires, HeldWriter::new(rt, writer), reader))
 }
 
-/// The workers of a plan over its edges, which are made with them. Nothing is read. Where memory is lacking, all that was made is
-/// dropped but the sources.
+/// The workers of a plan over its edges, which are made with them. Nothing is read. Where memory is lacking the sources
+/// are handed back, and all that was made is dropped.
 pub fn new_crew<S: Source + Drop, R: Wait + Drop>(
     alloc: Global,
     rt: R,

@@ -31,7 +31,7 @@ pub fn any_lacked<S: Source + Drop, R: Wait + Drop>(parts: &[Part<S, R>]) -> boo
     parts.iter().any(|part| part.lacked())
 }
 
-/// The end of a source goes behind the others, and the writer of an output is given back. All else is dropped.
+/// The end of a source goes after the others, and the writer of an output is given back. All else is dropped.
 fn sort_part<S: Source + Drop, R: Wait + Drop>(
     part: Part<S, R>,
     sources: &mut Vec<SourceEnd<S>>,

@@ -35,6 +35,7 @@ puts-one r c = omega (arith, count_of-append r (puts c) [])
 wrapped-append : (cs ds : List Change) → wrapped (cs ++ ds) ≡ wrapped cs ++ wrapped ds
 wrapped-append cs ds = map-append (λ c. message.Change c) cs ds
 
+-- there are as many tables as lists whose tables they are
 pub are_length : (ls : Lists) (ts : Tables) → AreTables ls ts → length ts ≡ length ls
 are_length [] [] h = refl
 are_length [] (t ∷ ts) h = absurd h
@@ -77,6 +78,7 @@ marks_stay k [] ms h = refl
 marks_stay zero (l ∷ ls) ms h = ap (λ n. n ∷ map mark_of ls) h
 marks_stay (suc k) (l ∷ ls) ms h = ap (λ ns. mark_of l ∷ ns) (marks_stay k ls ms h)
 
+-- the tables of lists are ones that the lists once had
 pub whole_prefixes : (ls : Lists) (ts : Tables) → AreTables ls ts → AreTablesOfPrefixes ls ts
 whole_prefixes [] [] h = tt
 whole_prefixes [] (t ∷ ts) h = absurd h
@@ -92,6 +94,7 @@ prefixes_grow zero (l ∷ ls) (t ∷ ts) ms h =
     (record { before = p.before; after = p.after ++ ms; whole = ap (λ (xs : List Message). xs ++ ms) p.whole ∙ append_assoc p.before p.after ms; table = p.table }, h.1)
 prefixes_grow (suc k) (l ∷ ls) (t ∷ ts) ms h = (h.0, prefixes_grow k ls ts ms h.1)
 
+-- a row of the result at tables that lists once had stays one where a list goes on
 pub real_grow : (meaning : Meaning) (lists : Lists) (k : ℕ) (ms : List Message) (r : Row) → IsReal meaning lists r → IsReal meaning (with_more lists k ms) r
 real_grow meaning lists k ms r h = record { tables = h.tables; prefixes = prefixes_grow k lists h.tables ms h.prefixes; there = h.there }
 
@@ -115,6 +118,7 @@ puts_none old new r o n before (c ∷ cs) all e legal most t p =
     let rest = puts_none old new r o n (before ++ c ∷ []) cs all e' legal.1 most (omega (arith, takes-append r before (c ∷ []), takes-one r c)) (omega (arith, puts-append r before (c ∷ []), puts-one r c)) in
     omega (arith, count_of-append r (puts c) (all_puts cs))
 
+-- a row that the changes of a repair put is in the old table or in the new one
 pub put_is_there : (old new : List Row) (m : ℕ) (cs : List Change) (r : Row) → Repair old new m cs → 0 < count_of r (all_puts cs) → (0 < count_of r old) ⊎ (0 < count_of r new)
 put_is_there old new m cs r fix there = elim (cases_lt 0 (count_of r old)) [
   | inl o ↦ inl o
@@ -225,27 +229,31 @@ with_more-twice [] port xs ys = refl
 with_more-twice (l ∷ ls) zero xs ys = ap (λ (ms : List Message). ms ∷ ls) (append_assoc l xs ys)
 with_more-twice (l ∷ ls) (suc k) xs ys = ap (λ (ms : Lists). l ∷ ms) (with_more-twice ls k xs ys)
 
+-- lists with no message more on a port stay as they are
 pub with_more-none : (lists : Lists) (port : ℕ) → with_more lists port [] ≡ lists
 with_more-none [] port = refl
 with_more-none (l ∷ ls) zero = ap (λ (ms : List Message). ms ∷ ls) (append-nil l)
 with_more-none (l ∷ ls) (suc k) = ap (λ (ms : Lists). l ∷ ms) (with_more-none ls k)
 
+-- with more messages on a port its list goes on with them
 pub list_at-more : (lists : Lists) (port : ℕ) (xs : List Message) → port < length lists → list_at (with_more lists port xs) port ≡ list_at lists port ++ xs
 list_at-more [] port xs h = absurd (omega arith)
 list_at-more (l ∷ ls) zero xs h = refl
 list_at-more (l ∷ ls) (suc k) xs h = list_at-more ls k xs (omega arith)
 
+-- more messages on a port leave the number of lists as it is
 pub length-more : (lists : Lists) (port : ℕ) (xs : List Message) → length (with_more lists port xs) ≡ length lists
 length-more [] port xs = refl
 length-more (l ∷ ls) zero xs = refl
 length-more (l ∷ ls) (suc k) xs = ap (λ n. suc n) (length-more ls k xs)
 
--- the message at a place may come behind those before it
+-- the message at a place may come after those before it
 pub legal_at : (before xs : List Message) (i : ℕ) (d : Message) → i < length xs → IsLegalBehind before xs → MayCome (before ++ take i xs) (get_or xs i d)
 legal_at before [] i d h legal = absurd (omega arith)
 legal_at before (x ∷ xs) zero d h legal = subst (λ (bs : List Message). MayCome bs x) (sym (append-nil before)) legal.0
 legal_at before (x ∷ xs) (suc i) d h legal = subst (λ (bs : List Message). MayCome bs (get_or xs i d)) (append_assoc before (x ∷ []) (take i xs)) (legal_at (before ++ x ∷ []) xs i d (omega arith) legal.1)
 
+-- what works was fed with no message on a port, and gave nothing for it
 pub fed_none : (meaning : Meaning) (stands : Tables → List ℕ → Type 0) (marks : List ℕ) (lists : Lists) (port : ℕ) (given before : List Message) → Works meaning stands marks lists given
     → IsFed meaning stands marks lists port [] given before before
 fed_none meaning stands marks lists port given before w = record {
@@ -256,6 +264,7 @@ fed_none meaning stands marks lists port given before w = record {
   echo = λ e. refl;
 }
 
+-- what was fed with messages on a port, and then with others there, was fed with all of them
 pub fed_more : (meaning meaning' : Meaning) (stands stands' : Tables → List ℕ → Type 0) (marks marks' : List ℕ) (lists : Lists) (port : ℕ) (xs ys given before mid after : List Message)
     → meaning' ≡ meaning
     → (f : IsFed meaning stands marks lists port xs given before mid) → IsFed meaning' stands' marks' (with_more lists port xs) port ys (given ++ f.gained) mid after
@@ -273,19 +282,27 @@ fed_more meaning meaning' stands stands' marks marks' lists port xs ys given bef
       ∙ (ap (λ (ms : List Message). wrapped (changes_of xs) ++ ms) (k.echo (ap (λ (h : Meaning). h.echoes) same ∙ e)) ∙ (sym (wrapped-append (changes_of xs) (changes_of ys)) ∙ ap (λ (cs : List Change). wrapped cs) (sym (changes-append xs ys))));
 }
 
+-- what works by a meaning works by each that is the same
 pub works_as : (meaning meaning' : Meaning) (stands : Tables → List ℕ → Type 0) (marks : List ℕ) (lists : Lists) (given : List Message) → meaning' ≡ meaning → Works meaning stands marks lists given → Works meaning' stands marks lists given
 works_as meaning meaning' stands marks lists given same w = subst (λ (h : Meaning). Works h stands marks lists given) (sym same) w
 
-pub may_take_at : (lists : Lists) (port : ℕ) (taken : List Message) (i : ℕ) (m : Message) → port < length lists → IsLegalBehind (list_at lists port) taken → i < length taken → get_or taken i m ≡ m → MayTake (with_more lists port (take i taken)) port m
+may_take_at : (lists : Lists) (port : ℕ) (taken : List Message) (i : ℕ) (m : Message) → port < length lists → IsLegalBehind (list_at lists port) taken → i < length taken → get_or taken i m ≡ m → MayTake (with_more lists port (take i taken)) port m
 may_take_at lists port taken i m port_is legal within at = record {
   port_is = omega (arith, length-more lists port (take i taken));
   comes = subst (λ (x : Message). MayCome (list_at (with_more lists port (take i taken)) port) x) at (subst (λ (bs : List Message). MayCome bs (get_or taken i m)) (sym (list_at-more lists port (take i taken) port_is)) (legal_at (list_at lists port) taken i m within legal));
 }
 
+-- the next message of a list that is legal may be taken after those before it
+pub may_take_next : (lists : Lists) (port : ℕ) (taken yielded : List Message) (m : Message) → port < length lists → IsLegalBehind (list_at lists port) taken → yielded ≡ take (length yielded) taken → (length yielded < length taken) × (m ≡ get_or taken (length yielded) m) → MayTake (with_more lists port yielded) port m
+may_take_next lists port taken yielded m port_is legal so_far next =
+    subst (λ (xs : List Message). MayTake (with_more lists port xs) port m) (sym so_far) (may_take_at lists port taken (length yielded) m port_is legal next.0 (sym next.1))
+
+-- tables are the same bags as themselves
 pub same_tables_itself : (ts : Tables) → SameTables ts ts
 same_tables_itself [] = tt
 same_tables_itself (t ∷ ts) = (same_itself t, same_tables_itself ts)
 
+-- tables that are the same bags as others are so the other way round
 pub same_tables_back : (ts us : Tables) → SameTables ts us → SameTables us ts
 same_tables_back [] [] h = tt
 same_tables_back [] (u ∷ us) h = absurd h
@@ -311,7 +328,7 @@ record IsMarked (given : List Message) (rows : List Row) (t : ℕ) : Type 0 wher
   table : IsTableOf given rows
   mark : mark_of given ≡ t
 
--- a mark behind messages, where it is above theirs
+-- a mark after messages, where it is above theirs
 marked_at : (given : List Message) (rows : List Row) (old t : ℕ) (b : Bool) → nat_lt old t ≡ b → old ≤ t → t ≤ FOREVER → IsLegal given → IsOpen given → IsTableOf given rows → mark_of given ≡ old → IsMarked (given ++ cond b (message.Mark t ∷ []) []) rows t
 marked_at given rows old t true h up time legal opened table mark =
     let above = ltb-true old t h in
@@ -327,7 +344,7 @@ marked_at given rows old t false h up time legal opened table mark =
 
 module _ (meaning : Meaning) (stands stands' : Tables → List ℕ → Type 0) (held : Tables) (marks : List ℕ) (lists : Lists) (port : ℕ) (taken given before mid : List Message)
     (f : IsFed meaning stands marks lists port taken given before mid) (sent sent' b : ℕ) where
-  -- the mark behind what was given
+  -- the mark after what was given
   pub answer_fed : (after : List Message) → sent ≡ mark_of given → sent' ≡ max sent b
       → ((others : Tables) → SameTables f.works.tables others → b ≡ meaning.bound others marks) → ((others : Tables) → SameTables f.works.tables others → SameRows (meaning.result others) (meaning.result f.works.tables))
       → (meaning.echoes ≡ true → marks ≡ meaning.bound f.works.tables marks ∷ []) → b ≤ FOREVER → stands' f.works.tables marks → ((others : Tables) → SameTables f.works.tables others → OnlyHolds meaning others marks held)
@@ -384,6 +401,7 @@ none_are_times : (n : ℕ) → AreTimes (replicate n 0)
 none_are_times zero = tt
 none_are_times (suc n) = (omega arith, none_are_times n)
 
+-- a driven operator to which nothing came stands for empty lists, and gave nothing
 pub first_drive : (meaning : Meaning) (stands : Tables → List ℕ → Type 0) (marks : List ℕ) → marks ≡ replicate meaning.ports 0 → stands (replicate meaning.ports []) (replicate meaning.ports 0) → SameRows (meaning.result (replicate meaning.ports [])) []
     → Drives meaning stands marks 0 (replicate meaning.ports []) []
 first_drive meaning stands marks is op nothing = record {

@@ -18,17 +18,12 @@ pub struct Driver<O> {
 }
 
 /// Appends changes as messages. Where memory runs out some of them may stand there.
-fn push_changes(
-    alloc: Global,
-    changes: &[Change],
-    out: &mut Vec<Message>,
-) -> Result<(), OutOfMemory>
-    ensures out { OnOk result (out.new.items ≡ out.old.items ++ wrapped changes.now) }
+fn push_changes(changes: Vec<Change>, out: &mut Vec<Message>) -> Result<(), OutOfMemory>
+    ensures out { OnOk result (out.new.items ≡ out.old.items ++ wrapped changes.items) }
     ensures kept { take (length out.old.items) out.new.items ≡ out.old.items }
 {
     for change in changes {
-        let copied = change.copy(alloc)?;
-        out.push(Message::Change(copied))?;
+        out.push(Message::Change(change))?;
     }
     Ok(())
 }
@@ -51,11 +46,11 @@ fn feed_one<O: Operator>(
     op: &mut O,
     marks: &mut Vec<Time>,
     port: usize,
-    message: &Message,
+    message: Message,
     out: &mut Vec<Message>,
 ) -> Result<(), OutOfMemory>
-    requires { (lists : Lists) × (given : List Message) × Works (O.meaning op.old) (O.stands op.old) marks.old.items lists given × MayTake lists port message.now }
-    ensures fed { OnOk result ((lists : Lists) (given : List Message) → Works (O.meaning op.old) (O.stands op.old) marks.old.items lists given → MayTake lists port message.now → IsFed (O.meaning op.old) (O.stands op.new) marks.new.items lists port (message.now ∷ []) given out.old.items out.new.items) }
+    requires { (lists : Lists) × (given : List Message) × Works (O.meaning op.old) (O.stands op.old) marks.old.items lists given × MayTake lists port message }
+    ensures fed { OnOk result ((lists : Lists) (given : List Message) → Works (O.meaning op.old) (O.stands op.old) marks.old.items lists given → MayTake lists port message → IsFed (O.meaning op.old) (O.stands op.new) marks.new.items lists port (message ∷ []) given out.old.items out.new.items) }
     ensures meaning { O.meaning op.new ≡ O.meaning op.old }
     ensures kept { take (length out.old.items) out.new.items ≡ out.old.items }
 {
@@ -63,11 +58,11 @@ fn feed_one<O: Operator>(
         Message::Change(change) => {
             let mut changes = Vec::new(alloc);
             op.apply(alloc, port, change, &mut changes)?;
-            push_changes(alloc, changes.as_slice(), out)?;
+            push_changes(changes, out)?;
             Ok(())
         }
         Message::Mark(t) => {
-            marks[port] = *t;
+            marks[port] = t;
             Ok(())
         }
         Message::End => Ok(()),
@@ -75,17 +70,18 @@ fn feed_one<O: Operator>(
     }
 }
 
-/// Hands messages to the operator, one after the other. Where memory runs out some of what answers them may stand there.
+/// Hands messages to the operator, one after the other. Where memory runs out some of what answers them may stand
+/// there.
 fn feed<O: Operator>(
     alloc: Global,
     op: &mut O,
     marks: &mut Vec<Time>,
     port: usize,
-    taken: &[Message],
+    taken: Vec<Message>,
     out: &mut Vec<Message>,
 ) -> Result<(), OutOfMemory>
-    requires { (lists : Lists) × (given : List Message) × Works (O.meaning op.old) (O.stands op.old) marks.old.items lists given × (port < length lists) × IsLegalBehind (list_at lists port) taken.now }
-    ensures fed { OnOk result ((lists : Lists) (given : List Message) → Works (O.meaning op.old) (O.stands op.old) marks.old.items lists given → port < length lists → IsLegalBehind (list_at lists port) taken.now → IsFed (O.meaning op.old) (O.stands op.new) marks.new.items lists port taken.now given out.old.items out.new.items) }
+    requires { (lists : Lists) × (given : List Message) × Works (O.meaning op.old) (O.stands op.old) marks.old.items lists given × (port < length lists) × IsLegalBehind (list_at lists port) taken.items }
+    ensures fed { OnOk result ((lists : Lists) (given : List Message) → Works (O.meaning op.old) (O.stands op.old) marks.old.items lists given → port < length lists → IsLegalBehind (list_at lists port) taken.items → IsFed (O.meaning op.old) (O.stands op.new) marks.new.items lists port taken.items given out.old.items out.new.items) }
     ensures meaning { O.meaning op.new ≡ O.meaning op.old }
     ensures kept { take (length out.old.items) out.new.items ≡ out.old.items }
 {
@@ -113,11 +109,11 @@ impl<O: Operator> Driver<O> {
         &mut self,
         alloc: Global,
         port: usize,
-        taken: &[Message],
+        taken: Vec<Message>,
         out: &mut Vec<Message>,
     ) -> Result<(), OutOfMemory>
-        requires { (lists : Lists) × (given : List Message) × Drives (O.meaning self.old.op) (O.stands self.old.op) self.old.marks.items self.old.sent lists given × (port < length lists) × IsLegalBehind (list_at lists port) taken.now }
-        ensures answers { OnOk result ((lists : Lists) (given : List Message) → Drives (O.meaning self.old.op) (O.stands self.old.op) self.old.marks.items self.old.sent lists given → port < length lists → IsLegalBehind (list_at lists port) taken.now → Answers (O.meaning self.old.op) (O.stands self.new.op) (O.held self.new.op) self.new.marks.items self.old.sent self.new.sent lists port taken.now given out.old.items out.new.items) }
+        requires { (lists : Lists) × (given : List Message) × Drives (O.meaning self.old.op) (O.stands self.old.op) self.old.marks.items self.old.sent lists given × (port < length lists) × IsLegalBehind (list_at lists port) taken.items }
+        ensures answers { OnOk result ((lists : Lists) (given : List Message) → Drives (O.meaning self.old.op) (O.stands self.old.op) self.old.marks.items self.old.sent lists given → port < length lists → IsLegalBehind (list_at lists port) taken.items → Answers (O.meaning self.old.op) (O.stands self.new.op) (O.held self.new.op) self.new.marks.items self.old.sent self.new.sent lists port taken.items given out.old.items out.new.items) }
         ensures meaning { O.meaning self.new.op ≡ O.meaning self.old.op }
         ensures kept { take (length out.old.items) out.new.items ≡ out.old.items }
     {
@@ -134,11 +130,11 @@ impl<O: Operator> Driver<O> {
         &mut self,
         alloc: Global,
         port: usize,
-        taken: &[Message],
+        taken: Vec<Message>,
         out: &mut Vec<Message>,
     ) -> Result<(), OutOfMemory>
-        requires { (lists : Lists) × (given : List Message) × Drives (O.meaning self.old.op) (O.stands self.old.op) self.old.marks.items self.old.sent lists given × (port < length lists) × IsLegalBehind (list_at lists port) taken.now }
-        ensures answers { OnOk result ((lists : Lists) (given : List Message) → Drives (O.meaning self.old.op) (O.stands self.old.op) self.old.marks.items self.old.sent lists given → port < length lists → IsLegalBehind (list_at lists port) taken.now → Answers (O.meaning self.old.op) (O.stands self.new.op) (O.held self.new.op) self.new.marks.items self.old.sent self.new.sent lists port taken.now given out.old.items out.new.items) }
+        requires { (lists : Lists) × (given : List Message) × Drives (O.meaning self.old.op) (O.stands self.old.op) self.old.marks.items self.old.sent lists given × (port < length lists) × IsLegalBehind (list_at lists port) taken.items }
+        ensures answers { OnOk result ((lists : Lists) (given : List Message) → Drives (O.meaning self.old.op) (O.stands self.old.op) self.old.marks.items self.old.sent lists given → port < length lists → IsLegalBehind (list_at lists port) taken.items → Answers (O.meaning self.old.op) (O.stands self.new.op) (O.held self.new.op) self.new.marks.items self.old.sent self.new.sent lists port taken.items given out.old.items out.new.items) }
         ensures meaning { O.meaning self.new.op ≡ O.meaning self.old.op }
         ensures kept { take (length out.old.items) out.new.items ≡ out.old.items }
         ensures err { OnErr result (out.new.items ≡ out.old.items) }

@@ -30,6 +30,7 @@ all_set F views port w mine others j u e = ⊎_elim (λ (x : (j ≡ port) × (w 
 pub begins : IsInOrder [] (hand true true [] [] ∷ [])
 begins = (0, 0, [], [], refl, tt, all_set (Fits 0 0 [] []) (hand true true [] [] ∷ []) 0 (hand true true [] []) ((λ _. (refl, refl)), λ _. (refl, refl)) (λ j u other e. absurd (other (at_end [] _ u j (λ x. some-ne-none u (sym x)) e))))
 
+-- parting the passes: one may put and has what was sent, the other may take and has what was taken
 pub parts : (port : ℕ) (v : Hand) → v.puts ≡ true → v.takes ≡ true → Forks IsInOrder port v (hand true false v.sent []) (hand false true [] v.taken)
 parts port v a b items views h at = let l : Hand = hand true false v.sent [] in let r : Hand = hand false true [] v.taken in let mine = h.6 port v at in let vs : List Hand = set views port l in
     let Old : ℕ → Hand → Type 0 = λ j u. (u.puts ≡ true → (j ≡ h.0) × (u.sent ≡ h.2)) × (u.takes ≢ true) in
@@ -98,6 +99,8 @@ joins port v other u a b items views h at two at' = let both : Hand = hand true 
     let now : All Now vs = all_set Now views port both (λ _. ((λ _. (refl, theirs.1)), λ _. mine.1 a)) (λ j y _ e apart. ((λ p. absurd (apart (((h.6 j y e).0 p).0 ∙ sym theirs.0))), (h.6 j y e).1)) in
     (port, h.1, h.2, h.3, h.4, h.5, all_set (Fits port h.1 h.2 h.3) vs other (hand false false [] []) ((λ p. absurd (true≢false (sym p))), λ p. absurd (true≢false (sym p))) (λ j y apart e. now j y e apart))
 
+-- a pass that may put and take learns that what was sent is what was taken and then what the queue holds,
+-- and that it is legal
 pub totals : (port : ℕ) (v : Hand) → v.puts ≡ true → v.takes ≡ true → Learns IsInOrder port v (λ items. (v.sent ≡ v.taken ++ items) × IsLegal v.sent)
 totals port v a b items views h at = let mine = h.6 port v at in ((mine.0 a).1 ∙ h.4 ∙ ap (λ l. l ++ items) (sym (mine.1 b).1), subst IsLegal (sym (mine.0 a).1) h.5)
 

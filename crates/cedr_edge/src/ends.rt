@@ -124,9 +124,9 @@ fn is_last(message: &Message) -> bool
 }
 
 impl EdgeOut {
-    /// Puts a message behind those that were sent, behind which it may come. `Full` hands it back: the queue was full
-    /// at this step, so at least its room of messages was sent before. It takes no memory and holds no lock, and may
-    /// spin while the other end is between two machine steps.
+    /// Puts a message, which may come after those that were sent. `Full` hands it back: the queue was full at this
+    /// step, so at least its room of messages was sent before. It takes no memory and holds no lock, and may spin while
+    /// the other end is between two machine steps.
     pub fn put<R: Wait>(&mut self, rt: &R, message: Message) -> Result<(), Full>
         requires { IsLegal (self.old.sent ++ message ∷ []) }
         ensures put { OnOk result (self.new ≡ record self.old { sent = self.old.sent ++ message ∷ [] }) }

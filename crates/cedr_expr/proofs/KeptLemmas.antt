@@ -7,7 +7,7 @@ use Rattle.std.proofs.lemmas.List.Elements.{filter_map-append}
 use Rattle.std.proofs.lemmas.Option.{slice_get-get_or, slice_get-map}
 use Rattle.cedr_expr.specs.Columns.{kept}
 
--- what is kept at one more place comes behind what is kept at those before it
+-- what is kept at one more place comes after what is kept at those before it
 pub kept_more : {X : Type 0} (places : List ℕ) (xs : List X) (i : ℕ) → i < length places → kept (take (i + 1) places) xs ≡ kept (take i places) xs ++ kept (get_or places i 0 ∷ []) xs
 kept_more places xs i within =
     ap (λ front. kept front xs) (take_more places i 0 within)

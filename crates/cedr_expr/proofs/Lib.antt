@@ -1,2 +1,4 @@
 pub mod KeptLemmas
 pub mod TypeLemmas
+pub mod TieLemmas
+pub mod TagLemmas

@@ -14,6 +14,7 @@ use Rattle.cedr_expr.specs.declared.test.Test.{Test}
 use Rattle.cedr_expr.specs.Columns.{column}
 use Rattle.cedr_expr.specs.Tests.{operand_value}
 
+-- the type of a field
 abbrev pub type_of : Field → FieldType
 type_of (Number n) = field_type.Number
 type_of (Bytes text) = field_type.Bytes
@@ -28,6 +29,7 @@ operand_type (operand.Column place) left right = column left right place
 operand_type (operand.Number n) left right = Some field_type.Number
 operand_type (operand.Bytes text) left right = Some field_type.Bytes
 
+-- two field types are the same
 abbrev pub same_type : FieldType → FieldType → Bool
 same_type field_type.Number field_type.Number = true
 same_type field_type.Bytes field_type.Bytes = true
@@ -45,9 +47,11 @@ has_bad_column left right test = is_none (sides_of left right test)
 abbrev pub has_two_types : List FieldType → List FieldType → Test → Bool
 has_two_types left right test = option_map_or (λ sides. not (same_type sides.0 sides.1)) (sides_of left right test) false
 
+-- the place of the first test that names a column past the end
 abbrev pub first_bad_column : List Test → List FieldType → List FieldType → Option ℕ
 first_bad_column tests left right = position (has_bad_column left right) tests
 
+-- the place of the first test whose two sides differ in type
 abbrev pub first_differing : List Test → List FieldType → List FieldType → Option ℕ
 first_differing tests left right = position (has_two_types left right) tests
 
@@ -61,6 +65,7 @@ first_fault None None = None
 abbrev pub type_fault_of : List Test → List FieldType → List FieldType → Option TypeFault
 type_fault_of tests left right = first_fault (first_bad_column tests left right) (first_differing tests left right)
 
+-- the place, among columns, of the first one that is past the end of the types
 abbrev pub first_past_end : List ℕ → List FieldType → Option ℕ
 first_past_end columns types = position (λ column. nat_le (length types) column) columns
 

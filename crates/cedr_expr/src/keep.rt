@@ -41,11 +41,11 @@ impl Keep {
         ensures { IfOk result (λ fields. fields ≡ kept self.now payload.now) }
     {
         let fields = payload.fields();
-        let mut chosen = Payload::new(alloc);
+        let mut chosen = Vec::with_capacity(alloc, self.columns.len())?;
         for column in &self.columns {
             push_column(alloc, &mut chosen, fields, *column)?;
         }
-        Ok(chosen)
+        Payload::from_fields(alloc, chosen)
     }
 
     pub fn copy(&self, alloc: Global) -> Result<Keep, OutOfMemory>
@@ -59,11 +59,11 @@ impl Keep {
 /// Adds a copy of the field at the column, where there is one.
 fn push_column(
     alloc: Global,
-    chosen: &mut Payload,
+    chosen: &mut Vec<Field>,
     fields: &[Field],
     column: usize,
 ) -> Result<(), OutOfMemory>
-    ensures { OnOk result (chosen.new ≡ chosen.old ++ kept (column ∷ []) fields.now) }
+    ensures { OnOk result (chosen.new.items ≡ chosen.old.items ++ kept (column ∷ []) fields.now) }
 {
     if let Some(field) = fields.get(column) {
         let copied = field.copy(alloc)?;

@@ -1,10 +1,13 @@
 ghost use Rattle.std.specs.Prelude.{◌≡◌, IfOk};
 ghost use Rattle.std.specs.Result.{result_err};
+ghost use Rattle.cedr_expr.specs.Tags.{tag_of};
 ghost use Rattle.cedr_expr.specs.Tests.{passes};
 ghost use Rattle.cedr_expr.specs.Types.{sides_of, has_two_types, first_bad_column, first_differing, type_fault_of};
 
 use crate::column::item_at;
 use crate::fault::TypeFault;
+use crate::side::Side;
+use crate::tag::tag_by;
 use crate::test::{Operand, Test};
 use cedr_base::{FieldType, OutOfMemory, Payload};
 use std::alloc::Global;
@@ -53,6 +56,15 @@ impl Tests {
         let left = left.fields();
         let right = right.fields();
         self.tests.iter().all(|test| test.holds(left, right))
+    }
+
+    /// A number from 1 to 2^62 that is the same for a left payload of this many fields and a right payload where they
+    /// pass the tests: it depends on the fields alone that equality tests compare between the two sides, so that rows
+    /// which may pass can be found by it. It takes no memory. O(n) in these fields.
+    pub fn tag(&self, side: Side, width: usize, payload: &Payload) -> u64
+        ensures { result ≡ tag_of side width self.now payload.now }
+    {
+        tag_by(self.as_slice(), side, width, payload.fields())
     }
 
     /// The tests, in the order in which they were given. It takes no memory.

@@ -1,5 +1,6 @@
 -- Accepted lines are apart: no id is inserted twice, and no line is about an id that isn't inserted.
 use Rattle.std.proofs.Common.{◌≡◌, ℕ, List, [], ◌∷◌, ◌++◌, Bool, true, false, cond, eqb, length, get_or, ◌≤◌, Option, None, Some, refl, ap, sym, ◌∙◌, subst}
+use Rattle.std.specs.Option.{option_or}
 use Rattle.std.proofs.lemmas.Bool.{eqb-true}
 use Rattle.std.proofs.lemmas.List.{append-nil}
 use Rattle.cedr_base.specs.declared.row.Row.{Row}
@@ -8,7 +9,7 @@ use Rattle.cedr_text.specs.declared.event_line.EventLine.TheVariants.{Insert, Re
 use Rattle.cedr_guard.specs.Judging.{ends_of, least_of, row_after}
 use Rattle.cedr_guard.specs.History.{rows_among}
 use Rattle.cedr_guard.specs.Standing.{place_of, AreApart, AreKnown}
-use Rattle.cedr_guard.proofs.EventLemmas.{ends_of-append, ends_of-retract, rows_among-append, rows_among-alike, rows_among-retract, place_of-insert, place_of-retract, place_of-promise, or_place, no_place, flipped, cut_at}
+use Rattle.cedr_guard.proofs.EventLemmas.{ends_of-append, ends_of-retract, rows_among-append, rows_among-alike, rows_among-retract, place_of-insert, place_of-retract, place_of-promise, no_place, flipped, cut_at}
 
 apart-insert : (id : ℕ) (row : Row) (xs : List EventLine) → AreApart xs → place_of id xs ≡ None → AreApart (xs ++ Insert id row ∷ [])
 apart-insert id row [] apart none = (refl, tt)
@@ -16,7 +17,7 @@ apart-insert id row (Insert first r ∷ xs) apart none =
     let parts = no_place (eqb first id) (place_of id xs) none in
     let first_none : place_of first (xs ++ Insert id row ∷ []) ≡ None =
     place_of-insert first id row [] xs
-    ∙ (ap (λ place. or_place place (cond (eqb id first) (Some (length (rows_among [] xs))) None)) apart.0
+    ∙ (ap (λ place. option_or place (cond (eqb id first) (Some (length (rows_among [] xs))) None)) apart.0
     ∙ ap (λ test. cond test (Some (length (rows_among [] xs))) None) (flipped first id false parts.0)) in
     (first_none, apart-insert id row xs apart.1 parts.1)
 apart-insert id row (Retract first end ∷ xs) apart none = apart-insert id row xs apart none
@@ -39,7 +40,7 @@ apart-promise time (Promise t ∷ xs) apart = apart-promise time xs apart
 ends_of-insert : (id other : ℕ) (row : Row) (before : List EventLine) → ends_of id (before ++ Insert other row ∷ []) ≡ ends_of id before
 ends_of-insert id other row before = ends_of-append id before (Insert other row ∷ []) ∙ append-nil (ends_of id before)
 
-no_place_before : (first other : Option ℕ) → or_place first other ≡ None → first ≡ None
+no_place_before : (first other : Option ℕ) → option_or first other ≡ None → first ≡ None
 no_place_before None other h = refl
 no_place_before (Some place) other h = cc
 

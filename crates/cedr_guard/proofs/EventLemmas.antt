@@ -1,6 +1,7 @@
 -- What one more line changes in what lines say together.
 use Rattle.std.proofs.Common.{◌≡◌, ℕ, suc, ◌<◌, ◌≤◌, List, [], ◌∷◌, ◌++◌, Bool, true, false, cond, eqb, length, get_or, set, min, max, Option, None, Some, refl, ap, sym, ◌∙◌, subst, arith, ◌⊎◌, inl, inr}
 use Rattle.std.specs.Prelude.{option_map}
+use Rattle.std.specs.Option.{option_or}
 use Rattle.std.proofs.lemmas.Bool.{eqb-true, eq-eqb}
 use Rattle.std.proofs.lemmas.Bool.Decides.{nat_tests}
 use Rattle.std.proofs.lemmas.List.{append-nil}
@@ -17,6 +18,7 @@ cond_append : (test : Bool) (end : ℕ) (xs ys : List ℕ) → cond test (end �
 cond_append true end xs ys = refl
 cond_append false end xs ys = refl
 
+-- the new ends that two lists of lines give an id are those of the first and then those of the second
 pub ends_of-append : (id : ℕ) (xs ys : List EventLine) → ends_of id (xs ++ ys) ≡ ends_of id xs ++ ends_of id ys
 ends_of-append id [] ys = refl
 ends_of-append id (Insert other row ∷ xs) ys = ends_of-append id xs ys
@@ -24,16 +26,19 @@ ends_of-append id (Retract other end ∷ xs) ys =
     ap (λ ends. cond (eqb other id) (end ∷ ends) ends) (ends_of-append id xs ys) ∙ cond_append (eqb other id) end (ends_of id xs) (ends_of id ys)
 ends_of-append id (Promise time ∷ xs) ys = ends_of-append id xs ys
 
+-- with one more end, the least is the lesser of that end and the least before
 pub least_of-push : (end : ℕ) (xs : List ℕ) (other : ℕ) → least_of end (xs ++ other ∷ []) ≡ min other (least_of end xs)
 least_of-push end [] other = refl
 least_of-push end (x ∷ xs) other = let rest = least_of-push end xs other in omega arith
 
+-- the greatest guarantee of two lists of lines is the greater one of theirs
 pub guarantee_of-append : (xs ys : List EventLine) → guarantee_of (xs ++ ys) ≡ max (guarantee_of xs) (guarantee_of ys)
 guarantee_of-append [] ys = omega arith
 guarantee_of-append (Insert id row ∷ xs) ys = guarantee_of-append xs ys
 guarantee_of-append (Retract id end ∷ xs) ys = guarantee_of-append xs ys
 guarantee_of-append (Promise time ∷ xs) ys = let rest = guarantee_of-append xs ys in omega arith
 
+-- the rows of the insertions of two lists of lines are those of the first and then those of the second
 pub rows_among-append : (all xs ys : List EventLine) → rows_among all (xs ++ ys) ≡ rows_among all xs ++ rows_among all ys
 rows_among-append all [] ys = refl
 rows_among-append all (Insert id row ∷ xs) ys = ap (λ rows. row_after id row all ∷ rows) (rows_among-append all xs ys)
@@ -52,12 +57,7 @@ rows_among-alike all others (Promise time ∷ xs) same = rows_among-alike all ot
 
 -- ---- places
 
--- the first of two places
-abbrev pub or_place : Option ℕ → Option ℕ → Option ℕ
-or_place None other = other
-or_place (Some place) other = Some place
-
-place_behind : (test : Bool) (first other : Option ℕ) → cond test (Some 0) (option_map (λ n. suc n) (or_place first other)) ≡ or_place (cond test (Some 0) (option_map (λ n. suc n) first)) (option_map (λ n. suc n) other)
+place_behind : (test : Bool) (first other : Option ℕ) → cond test (Some 0) (option_map (λ n. suc n) (option_or first other)) ≡ option_or (cond test (Some 0) (option_map (λ n. suc n) first)) (option_map (λ n. suc n) other)
 place_behind true first other = refl
 place_behind false None other = refl
 place_behind false (Some place) other = refl
@@ -66,24 +66,26 @@ next_place : (test : Bool) (n : ℕ) → option_map (λ m. suc m) (cond test (So
 next_place true n = refl
 next_place false n = refl
 
--- an insertion behind others has the next place
-pub place_of-insert : (id other : ℕ) (row : Row) (all xs : List EventLine) → place_of id (xs ++ Insert other row ∷ []) ≡ or_place (place_of id xs) (cond (eqb other id) (Some (length (rows_among all xs))) None)
+-- an insertion after others has the next place
+pub place_of-insert : (id other : ℕ) (row : Row) (all xs : List EventLine) → place_of id (xs ++ Insert other row ∷ []) ≡ option_or (place_of id xs) (cond (eqb other id) (Some (length (rows_among all xs))) None)
 place_of-insert id other row all [] = refl
 place_of-insert id other row all (Insert first r ∷ xs) =
     let found = eqb first id in
     let here = cond (eqb other id) (Some (length (rows_among all xs))) None in
     ap (λ place. cond found (Some 0) (option_map (λ n. suc n) place)) (place_of-insert id other row all xs)
     ∙ (place_behind found (place_of id xs) here
-    ∙ ap (λ place. or_place (cond found (Some 0) (option_map (λ n. suc n) (place_of id xs))) place) (next_place (eqb other id) (length (rows_among all xs))))
+    ∙ ap (λ place. option_or (cond found (Some 0) (option_map (λ n. suc n) (place_of id xs))) place) (next_place (eqb other id) (length (rows_among all xs))))
 place_of-insert id other row all (Retract first end ∷ xs) = place_of-insert id other row all xs
 place_of-insert id other row all (Promise time ∷ xs) = place_of-insert id other row all xs
 
+-- one more retraction changes no id's place
 pub place_of-retract : (id other end : ℕ) (xs : List EventLine) → place_of id (xs ++ Retract other end ∷ []) ≡ place_of id xs
 place_of-retract id other end [] = refl
 place_of-retract id other end (Insert first r ∷ xs) = ap (λ place. cond (eqb first id) (Some 0) (option_map (λ n. suc n) place)) (place_of-retract id other end xs)
 place_of-retract id other end (Retract first e ∷ xs) = place_of-retract id other end xs
 place_of-retract id other end (Promise time ∷ xs) = place_of-retract id other end xs
 
+-- one more guarantee changes no id's place
 pub place_of-promise : (id time : ℕ) (xs : List EventLine) → place_of id (xs ++ Promise time ∷ []) ≡ place_of id xs
 place_of-promise id time [] = refl
 place_of-promise id time (Insert first r ∷ xs) = ap (λ place. cond (eqb first id) (Some 0) (option_map (λ n. suc n) place)) (place_of-promise id time xs)
@@ -97,18 +99,20 @@ event_at true first d rows place event is = refl
 event_at false first d rows None event is = is
 event_at false first d rows (Some p) event is = is
 
+-- the event of an id is the row at its place, and there is none where the id has no place
 pub event_place : (id : ℕ) (all xs : List EventLine) (d : Row) → event_among id all xs ≡ option_map (λ p. get_or (rows_among all xs) p d) (place_of id xs)
 event_place id all [] d = refl
 event_place id all (Insert other row ∷ xs) d = event_at (eqb other id) (row_after other row all) d (rows_among all xs) (place_of id xs) (event_among id all xs) (event_place id all xs d)
 event_place id all (Retract other end ∷ xs) d = event_place id all xs d
 event_place id all (Promise time ∷ xs) d = event_place id all xs d
 
--- what a place behind a first insertion comes from
+-- a place is that of the first insertion, or one more than the place among the later ones
 place_cases : (test : Bool) (place : Option ℕ) (p : ℕ) → cond test (Some 0) (option_map (λ n. suc n) place) ≡ Some p → ((test ≡ true) × (p ≡ 0)) ⊎ ((test ≡ false) × ((q : ℕ) × (place ≡ Some q) × (p ≡ suc q)))
 place_cases true place p h = inl (refl, cc)
 place_cases false None p h = cc
 place_cases false (Some q) p h = inr (refl, (q, refl, cc))
 
+-- an id without a place isn't that of the first insertion, and has no place among the later ones
 pub no_place : (test : Bool) (place : Option ℕ) → cond test (Some 0) (option_map (λ n. suc n) place) ≡ None → (test ≡ false) × (place ≡ None)
 no_place true place h = cc
 no_place false None h = (refl, refl)
@@ -124,13 +128,14 @@ place_below id all (Insert other row ∷ xs) p h = elim (place_cases (eqb other 
 place_below id all (Retract other end ∷ xs) p h = place_below id all xs p h
 place_below id all (Promise time ∷ xs) p h = place_below id all xs p h
 
--- ---- a retraction behind other lines
+-- ---- a retraction after other lines
 
 -- equality of ids has no direction
 pub flipped : (a b : ℕ) (t : Bool) → eqb a b ≡ t → eqb b a ≡ t
 flipped a b true h = eq-eqb b a (sym (eqb-true a b h))
 flipped a b false h = grind (arith, nat_tests)
 
+-- one more retraction adds its new end to those of its own id, and none to those of another
 pub ends_of-retract : (other id end : ℕ) (all : List EventLine) (t : Bool) → eqb other id ≡ t → ends_of other (all ++ Retract id end ∷ []) ≡ ends_of other all ++ cond t (end ∷ []) []
 ends_of-retract other id end all t h = ends_of-append other all (Retract id end ∷ []) ∙ ap (λ test. ends_of other all ++ cond test (end ∷ []) []) (flipped other id t h)
 

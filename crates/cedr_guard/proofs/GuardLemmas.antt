@@ -1,8 +1,6 @@
 -- A guard that takes one more line stands for the lines with that one.
 use Rattle.std.proofs.Common.{◌≡◌, ℕ, ◌≤◌, List, [], ◌∷◌, ◌++◌, Bool, true, false, cond, get_or, Option, None, Some, refl, ap, sym, ◌∙◌, arith}
 use Rattle.std.specs.Prelude.{option_map, is_some, map}
-use Rattle.std.specs.Ordering.{nat_cmp}
-use Rattle.std.specs.BTreeMap.{get}
 use Rattle.std.proofs.lemmas.List.{map-append, get_or-map}
 use Rattle.std.proofs.Math.Seq.{map-set_same}
 use Rattle.cedr_base.specs.declared.row.Row.{Row}
@@ -17,7 +15,7 @@ use Rattle.cedr_guard.specs.declared.guard.Guard.{Guard}
 use Rattle.cedr_guard.specs.Judging.{guarantee_of, event_of, late_fault, retraction_fault, fault_behind, AreAccepted}
 use Rattle.cedr_text.specs.Reading.{IsEvent}
 use Rattle.cedr_guard.specs.History.{rows_among}
-use Rattle.cedr_guard.specs.Standing.{place_of, interval_of, payload_of, IsEventOf, StandsFor, Guards}
+use Rattle.cedr_guard.specs.Standing.{place_of, place_in, interval_of, payload_of, IsEventOf, StandsFor, Guards}
 use Rattle.cedr_guard.proofs.EventLemmas.{place_below}
 use Rattle.cedr_guard.proofs.StandingLemmas.{fault-insert, event_here, shorter}
 use Rattle.cedr_guard.proofs.ApartLemmas.{rows-insert, rows-retract, rows-promise}
@@ -46,8 +44,9 @@ none_at (Some p) h = cc
 new_id : (guard : Guard) (before : List EventLine) (id : ℕ) (row : Row) → Guards guard before → fault_behind before (Insert id row) ≡ None → place_of id before ≡ None
 new_id guard before id row guards none =
     sym (guards.judge.places id)
-    ∙ none_at (get nat_cmp guard.judge.places id) (unknown_at (is_some (get nat_cmp guard.judge.places id)) (late_fault row.begin guard.judge.mark) (sym (fault-insert guard.judge before id row guards.judge) ∙ none))
+    ∙ none_at (place_in guard.judge.ids id) (unknown_at (is_some (place_in guard.judge.ids id)) (late_fault row.begin guard.judge.mark) (sym (fault-insert guard.judge before id row guards.judge) ∙ none))
 
+-- a guard stands for one more insertion without a fault, where its judge does and it adds the payload
 pub guards-insert : (guard next : Guard) (before : List EventLine) (id : ℕ) (row : Row) → Guards guard before → IsEvent (Insert id row) → fault_behind before (Insert id row) ≡ None
     → StandsFor next.judge (before ++ Insert id row ∷ []) → next.payloads.items ≡ guard.payloads.items ++ row.payload ∷ [] → Guards next (before ++ Insert id row ∷ [])
 guards-insert guard next before id row guards event none judge payloads =
@@ -67,6 +66,7 @@ low_end guard before id end p guards at none =
     let fault = ap (λ event. retraction_fault event end (guarantee_of before)) (sym (event_here guard.judge before id p no_row guards.judge there)) ∙ none in
     omega (arith, shorter (get_or (rows_among before before) p no_row) end (guarantee_of before) fault)
 
+-- a guard stands for one more retraction without a fault, where its judge does and no payload changes
 pub guards-retract : (guard next : Guard) (before : List EventLine) (id end p : ℕ) → Guards guard before → IsEvent (Retract id end) → place_of id before ≡ Some p → fault_behind before (Retract id end) ≡ None
     → StandsFor next.judge (before ++ Retract id end ∷ []) → next.payloads.items ≡ guard.payloads.items → Guards next (before ++ Retract id end ∷ [])
 guards-retract guard next before id end p guards event at none judge payloads =
@@ -78,6 +78,7 @@ guards-retract guard next before id end p guards event at none judge payloads =
       accepted = accepted-more before (Retract id end) guards.accepted event none;
     }
 
+-- a guard stands for one more guarantee, where its judge does and no payload changes
 pub guards-promise : (guard next : Guard) (before : List EventLine) (time : ℕ) → Guards guard before → IsEvent (Promise time)
     → StandsFor next.judge (before ++ Promise time ∷ []) → next.payloads.items ≡ guard.payloads.items → Guards next (before ++ Promise time ∷ [])
 guards-promise guard next before time guards event judge payloads =

@@ -1,5 +1,6 @@
 pub mod EventLemmas
 pub mod ApartLemmas
+pub mod IdLemmas
 pub mod StandingLemmas
 pub mod GuardLemmas
 pub mod LivingLemmas

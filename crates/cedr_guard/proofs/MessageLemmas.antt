@@ -22,7 +22,7 @@ use Rattle.cedr_guard.proofs.EventLemmas.{guarantee_of-append, event_place, plac
 use Rattle.cedr_guard.proofs.ApartLemmas.{known-insert, known-retract, known-promise, rows-insert, rows-retract, rows-promise}
 use Rattle.cedr_guard.proofs.LivingLemmas.{count_of-append, count_of-push, in_order_count, living_push, living_at, living_cut}
 
--- ---- messages behind messages
+-- ---- messages after messages
 
 -- the changes of messages one after the other
 pub changes_of-append : (ms ns : List Message) → changes_of (ms ++ ns) ≡ changes_of ms ++ changes_of ns
@@ -46,7 +46,7 @@ open-append (message.Mark t ∷ ms) ns open_ms open_ns = open-append ms ns open_
 open-append (message.End ∷ ms) ns open_ms open_ns = absurd open_ms
 open-append (message.Broken ∷ ms) ns open_ms open_ns = absurd open_ms
 
--- legal messages behind legal messages
+-- legal messages after legal messages
 pub legal-append : (before ms ns : List Message) → IsLegalBehind before ms → IsLegalBehind (before ++ ms) ns → IsLegalBehind before (ms ++ ns)
 legal-append before [] ns first rest = subst (λ (b : List Message). IsLegalBehind b ns) (append-nil before) rest
 legal-append before (m ∷ ms) ns first rest =
@@ -73,7 +73,7 @@ pub record AreOf (lines : List EventLine) (ms : List Message) : Type 0 where
   known : AreKnown lines
   rows : HaveRows lines
 
--- a line's messages may come behind those of the lines before it, and are with them those of the lines with it
+-- a line's messages may come after those of the lines before it, and are with them those of the lines with it
 record Follows (before : List EventLine) (line : EventLine) (ms next : List Message) : Type 0 where
   legal : IsLegalBehind ms next
   all : AreOf (before ++ line ∷ []) (ms ++ next)
@@ -141,7 +141,7 @@ times_at all (Insert id row ∷ xs) (suc p) d have within = times_at all xs p d 
 times_at all (Retract id end ∷ xs) p d have within = times_at all xs p d have within
 times_at all (Promise time ∷ xs) p d have within = times_at all xs p d have within
 
--- a new end is right for a row behind a guarantee
+-- a new end is right for a row after a guarantee
 record IsEnd (row : Row) (end mark : ℕ) : Type 0 where
   begun : row.begin ≤ end
   shorter : end < row.end
@@ -235,7 +235,7 @@ pub record AreLegalOf (lines : List EventLine) (before ms : List Message) : Type
   pub legal : IsLegalBehind before ms
   pub all : AreOf lines (before ++ ms)
 
--- accepted lines behind others become legal messages behind theirs
+-- accepted lines after others become legal messages after theirs
 follow : (before : List EventLine) (ms : List Message) (lines : List EventLine) → AreOf before ms → AreAcceptedBehind before lines → AreLegalOf (before ++ lines) ms (messages_behind before lines)
 follow before ms [] are accepted = record { legal = tt; all = subst₂ AreOf (sym (append-nil before)) (sym (append-nil ms)) are }
 follow before ms (line ∷ lines) are accepted =

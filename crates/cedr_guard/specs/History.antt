@@ -6,6 +6,7 @@ use Rattle.cedr_text.specs.declared.event_line.EventLine.{EventLine}
 use Rattle.cedr_text.specs.declared.event_line.EventLine.TheVariants.{Insert, Retract, Promise}
 use Rattle.cedr_guard.specs.Judging.{row_after}
 
+-- a row lives: its valid interval isn't empty
 abbrev pub lives : Row → Bool
 lives row = nat_lt row.begin row.end
 

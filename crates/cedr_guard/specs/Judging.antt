@@ -39,6 +39,7 @@ event_among id all (Insert other row ∷ lines) = if other == id then Some (row_
 event_among id all (Retract other end ∷ lines) = event_among id all lines
 event_among id all (Promise time ∷ lines) = event_among id all lines
 
+-- the row of the event with this id among the lines, as it is after all of them
 abbrev pub event_of : ℕ → List EventLine → Option Row
 event_of id lines = event_among id lines lines
 
@@ -53,7 +54,7 @@ abbrev pub retraction_fault : Option Row → ℕ → ℕ → Option LineFault
 retraction_fault None end mark = Some UnknownId
 retraction_fault (Some row) end mark = if nat_le row.begin end && nat_lt end row.end then late_fault end mark else Some (BadEnd row.begin row.end)
 
--- the least fault that a line has behind these, if it has one
+-- the least fault that a line has after these, if it has one
 abbrev pub fault_behind : List EventLine → EventLine → Option LineFault
 fault_behind before (Insert id row) = if is_some (event_of id before) then Some KnownId else late_fault row.begin (guarantee_of before)
 fault_behind before (Retract id end) = retraction_fault (event_of id before) end (guarantee_of before)
@@ -61,15 +62,16 @@ fault_behind before (Promise time) = None
 
 -- ---- accepted lines
 
--- a line behind others that it agrees with
+-- a line after others that it agrees with
 pub record IsAccepted (before : List EventLine) (line : EventLine) : Type 0 where
   pub event : IsEvent line
   pub faultless : fault_behind before line ≡ None
 
--- each of the lines is accepted behind those before it
+-- each of the lines is accepted after some others and those before it
 abbrev pub AreAcceptedBehind : List EventLine → List EventLine → Type 0
 AreAcceptedBehind before [] = Unit {0}
 AreAcceptedBehind before (line ∷ lines) = IsAccepted before line × AreAcceptedBehind (before ++ line ∷ []) lines
 
+-- each of the lines is accepted after those before it
 abbrev pub AreAccepted : List EventLine → Type 0
 AreAccepted lines = AreAcceptedBehind [] lines

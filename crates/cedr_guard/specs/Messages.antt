@@ -1,4 +1,4 @@
--- The messages of accepted lines: what they become for the operators behind a source.
+-- The messages of accepted lines: what they become for the operators after a source.
 use Rattle.std.specs.Prelude.{ℕ, List, [], ◌∷◌, ◌++◌, nat_lt, if◌then◌else◌, Option, None, Some}
 use Rattle.cedr_base.specs.declared.row.Row.{Row}
 use Rattle.cedr_base.specs.declared.change.Change.TheVariants.{Add, Cut}
@@ -13,12 +13,13 @@ abbrev pub cut_of : Option Row → ℕ → List Message
 cut_of None end = []
 cut_of (Some row) end = message.Change (Cut row end) ∷ []
 
--- a line's message behind the lines before it: a guarantee that isn't above the earlier ones has none
+-- a line's message after the lines before it: a guarantee that isn't above the earlier ones has none
 abbrev pub message_of : List EventLine → EventLine → List Message
 message_of before (Insert id row) = message.Change (Add row) ∷ []
 message_of before (Retract id end) = cut_of (event_of id before) end
 message_of before (Promise time) = if nat_lt (guarantee_of before) time then message.Mark time ∷ [] else []
 
+-- the messages of lines that come after others, line by line
 abbrev pub messages_behind : List EventLine → List EventLine → List Message
 messages_behind before [] = []
 messages_behind before (line ∷ lines) = message_of before line ++ messages_behind (before ++ line ∷ []) lines

@@ -24,6 +24,7 @@ abbrev pub with_event : List EventLine → EventLine → Option LineFault → Re
 with_event before event None = Ok (before ++ event ∷ [])
 with_event before event (Some fault) = Err fault
 
+-- the accepted lines with what one more line says, if it says anything, or its fault
 abbrev pub with_reading : List EventLine → Result (Option EventLine) LineFault → Result (List EventLine) LineFault
 with_reading before (Err fault) = Err fault
 with_reading before (Ok None) = Ok before
@@ -40,15 +41,18 @@ pub record Judged : Type 0 where
   pub good : List EventLine
   pub fault : Option Refusal
 
+-- after a line without a fault the rest is judged from the lines accepted now; a fault ends the judging, with
+-- the line's number and what was accepted before
 abbrev pub go_on : ℕ → List EventLine → Result (List EventLine) LineFault → (List EventLine → Judged) → Judged
 go_on number before (Ok now) rest = rest now
 go_on number before (Err fault) rest = record { good = before; fault = Some (record { line = number; fault = fault }) }
 
--- each line is judged behind those before it, of which so many were
+-- each line is judged after those before it; the count says how many these are
 abbrev pub judged_behind : Shape → ℕ → List EventLine → List (List ℕ) → Judged
 judged_behind shape count before [] = record { good = before; fault = None }
 judged_behind shape count before (line ∷ lines) = go_on (count + 1) before (with_reading before (line_reading shape line)) (λ now. judged_behind shape (count + 1) now lines)
 
+-- each of the lines of a source is judged after those before it
 abbrev pub judged_lines : Shape → List (List ℕ) → Judged
 judged_lines shape lines = judged_behind shape 0 [] lines
 
@@ -60,13 +64,14 @@ whole_lines [] = []
 whole_lines (part ∷ []) = []
 whole_lines (part ∷ next ∷ parts) = part ∷ whole_lines (next ∷ parts)
 
--- what stands behind the last line feed
+-- what stands after the last line feed
 abbrev pub unfinished_line : List (List ℕ) → List ℕ
 unfinished_line [] = []
 unfinished_line (part ∷ []) = part
 unfinished_line (part ∷ next ∷ parts) = unfinished_line (next ∷ parts)
 
--- the fault of a source over the limit whose whole lines have none: its unfinished line is too long, or else the source is too large
+-- the fault of a source over the limit whose whole lines have none: its unfinished line is too long, or else
+-- the source is too large
 abbrev pub limit_fault : List ℕ → LineFault
 limit_fault line = if nat_lt LINE_LIMIT (length line) then LineTooLong else TooLarge
 
@@ -84,7 +89,7 @@ judged_front shape parts = record {
 
 -- ---- all bytes
 
--- the lines of a source, of which over the limit only the first bytes count
+-- the lines of a source, judged; over the limit only its first bytes count
 abbrev pub judged : Shape → List ℕ → Judged
 judged shape bytes = if nat_lt FILE_LIMIT (length bytes) then judged_front shape (parts_of line_feed (take FILE_LIMIT bytes)) else judged_lines shape (raw_lines bytes)
 
@@ -93,6 +98,7 @@ abbrev pub ending : Option Refusal → List Message
 ending None = message.End ∷ []
 ending (Some refusal) = []
 
+-- the messages of a source: those of the lines before its first fault, and then the end where it has none
 abbrev pub messages_of : Shape → List ℕ → List Message
 messages_of shape bytes = messages_behind [] (judged shape bytes).good ++ ending (judged shape bytes).fault
 

@@ -1,5 +1,6 @@
 -- What a judge keeps of the lines that it accepted.
 use Rattle.std.specs.Prelude.{ℕ, ◌≡◌, ◌==◌, suc, List, [], ◌∷◌, map, if◌then◌else◌, Option, None, Some, option_map, Result, Ok, Err}
+use Rattle.std.specs.Option.{option_or}
 use Rattle.std.specs.Ordering.{nat_cmp}
 use Rattle.std.specs.BTreeMap.{get}
 use Rattle.cedr_base.specs.declared.row.Row.{Row}
@@ -10,12 +11,14 @@ use Rattle.cedr_text.specs.declared.event_line.EventLine.TheVariants.{Insert, Re
 use Rattle.cedr_text.specs.declared.fault.LineFault.{LineFault}
 use Rattle.cedr_guard.specs.declared.fault.GuardFault.{GuardFault}
 use Rattle.cedr_guard.specs.declared.fault.GuardFault.TheVariants as guard_fault
+use Rattle.cedr_guard.specs.declared.ids.Ids.{Ids}
 use Rattle.cedr_guard.specs.declared.judge.Interval.{Interval}
 use Rattle.cedr_guard.specs.declared.judge.Judge.{Judge}
 use Rattle.cedr_guard.specs.declared.judge.Retracted.{Retracted}
 use Rattle.cedr_guard.specs.declared.guard.Guard.{Guard}
 use Rattle.cedr_guard.specs.Judging.{guarantee_of, ends_of, event_of, AreAccepted}
 use Rattle.cedr_guard.specs.History.{rows_among}
+use Rattle.cedr_guard.specs.Ids.{place_among}
 
 -- at which place among the insertions an id was inserted first
 abbrev pub place_of : ℕ → List EventLine → Option ℕ
@@ -40,14 +43,19 @@ pub record AreKnown (lines : List EventLine) : Type 0 where
 abbrev pub interval_of : Row → Interval
 interval_of row = record { begin = row.begin; end = row.end }
 
+-- the payload of a row
 abbrev pub payload_of : Row → List Field
 payload_of row = row.payload
+
+-- the place of an id in the list, or else in the map
+abbrev pub place_in : Ids → ℕ → Option ℕ
+place_in ids id = option_or (place_among id ids.rising.items) (get nat_cmp ids.others id)
 
 -- the judge stands for these lines: it has the valid interval of each event as it is after them, the place of
 -- each id and the guarantee
 pub record StandsFor (judge : Judge) (lines : List EventLine) : Type 0 where
   pub intervals : judge.intervals.items ≡ map interval_of (rows_among lines lines)
-  pub places : (id : ℕ) → get nat_cmp judge.places id ≡ place_of id lines
+  pub places : (id : ℕ) → place_in judge.ids id ≡ place_of id lines
   pub mark : judge.mark ≡ guarantee_of lines
   pub ids : AreKnown lines
 

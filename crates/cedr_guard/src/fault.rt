@@ -7,7 +7,7 @@ use cedr_text::{LineFault, ReadLineFault};
 use std::alloc::AllocFailed;
 use thiserror::Error;
 
-/// Why a line isn't accepted behind others.
+/// Why a line isn't accepted after others.
 #[derive(Clone, Copy, Debug, PartialEq, Eq, Error)]
 pub enum GuardFault {
     #[error("{0}")]

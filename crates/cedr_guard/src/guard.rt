@@ -35,19 +35,19 @@ impl Guard {
     }
 
     /// Accepts the line and answers its message, or answers its least fault, which changes nothing. A
-    /// guarantee that isn't above `mark()` has no message. O(log n) in the insertions before it, and copies of
-    /// a payload.
-    pub fn accept(&mut self, line: &EventLine) -> Result<Option<Message>, GuardFault>
-        requires event { IsEvent line.now }
-        ensures judged { (before : List EventLine) → Guards self.old before → Judges result (fault_behind before line.now) }
-        ensures message { IfOk result (λ message. (before : List EventLine) → Guards self.old before → as_list message ≡ message_of before line.now) }
-        ensures stands { OnOk result ((before : List EventLine) → Guards self.old before → Guards self.new (before ++ line.now ∷ [])) }
+    /// guarantee that isn't above `mark()` has no message. A copy of a payload, and O(1) for an insertion whose id
+    /// is above all before it, else O(log n) in the insertions before it.
+    pub fn accept(&mut self, line: EventLine) -> Result<Option<Message>, GuardFault>
+        requires event { IsEvent line }
+        ensures judged { (before : List EventLine) → Guards self.old before → Judges result (fault_behind before line) }
+        ensures message { IfOk result (λ message. (before : List EventLine) → Guards self.old before → as_list message ≡ message_of before line) }
+        ensures stands { OnOk result ((before : List EventLine) → Guards self.old before → Guards self.new (before ++ line ∷ [])) }
         ensures stays { OnErr result ((before : List EventLine) → Guards self.old before → Guards self.new before) }
     {
         match line {
-            EventLine::Insert { id, row } => Ok(Some(self.insert(*id, row)?)),
-            EventLine::Retract { id, end } => Ok(Some(self.retract(*id, *end)?)),
-            EventLine::Promise(time) => Ok(self.promise(*time)),
+            EventLine::Insert { id, row } => Ok(Some(self.insert(id, row)?)),
+            EventLine::Retract { id, end } => Ok(Some(self.retract(id, end)?)),
+            EventLine::Promise(time) => Ok(self.promise(time)),
         }
     }
 
@@ -63,22 +63,21 @@ impl Guard {
         }
     }
 
-    fn insert(&mut self, id: u64, row: &Row) -> Result<Message, GuardFault>
-        requires event { IsEvent (Insert id row.now) }
-        ensures judged { (before : List EventLine) → Guards self.old before → Judges result (fault_behind before (Insert id row.now)) }
-        ensures message { IfOk result (λ message. (before : List EventLine) → Guards self.old before → message ∷ [] ≡ message_of before (Insert id row.now)) }
-        ensures stands { OnOk result ((before : List EventLine) → Guards self.old before → Guards self.new (before ++ Insert id row.now ∷ [])) }
+    fn insert(&mut self, id: u64, row: Row) -> Result<Message, GuardFault>
+        requires event { IsEvent (Insert id row) }
+        ensures judged { (before : List EventLine) → Guards self.old before → Judges result (fault_behind before (Insert id row)) }
+        ensures message { IfOk result (λ message. (before : List EventLine) → Guards self.old before → message ∷ [] ≡ message_of before (Insert id row)) }
+        ensures stands { OnOk result ((before : List EventLine) → Guards self.old before → Guards self.new (before ++ Insert id row ∷ [])) }
         ensures stays { OnErr result ((before : List EventLine) → Guards self.old before → Guards self.new before) }
     {
         let alloc = *self.payloads.allocator();
         let kept = row.payload.copy(alloc)?;
-        let added = row.copy(alloc)?;
         self.payloads.push(kept)?;
         if let Err(fault) = self.judge.insert(id, row.begin, row.end) {
             self.payloads.pop();
             return Err(fault);
         }
-        Ok(Message::Change(Change::Add(added)))
+        Ok(Message::Change(Change::Add(row)))
     }
 
     fn retract(&mut self, id: u64, end: Time) -> Result<Message, GuardFault>

@@ -7,11 +7,10 @@ ghost use Rattle.cedr_guard.specs.History.{rows_among};
 ghost use Rattle.cedr_guard.specs.Standing.{StandsFor, Judges, IsEventOf, interval_of, place_of};
 
 use crate::fault::GuardFault;
-use cedr_base::Time;
+use crate::ids::Ids;
+use cedr_base::{OutOfMemory, Time};
 use cedr_text::LineFault;
 use std::alloc::Global;
-use std::collections::BTreeMap;
-use std::collections::btree_map::Entry;
 
 /// When an event is valid: from `begin` on and before `end`, and never where these are the same.
 #[derive(Clone, Copy, Debug, PartialEq, Eq)]
@@ -32,11 +31,12 @@ pub(crate) struct Retracted {
 /// Judges event lines against the accepted lines before them, by ids and times alone. It stands for the
 /// list of the accepted lines.
 ///
-/// It keeps 16 bytes for each insertion, and a place in an ordered map.
+/// It keeps 32 bytes for each insertion whose id is above all before it, and for another one 16 bytes and a
+/// place in an ordered map.
 #[derive(Drop)]
 pub struct Judge {
     /// Where the interval of an id's event stands.
-    places: BTreeMap<u64, usize>,
+    ids: Ids,
     /// One for each insertion, in order. A retraction may have left it empty.
     intervals: Vec<Interval>,
     /// The greatest guarantee, 0 at first.
@@ -49,14 +49,14 @@ impl Judge {
         ensures { StandsFor result [] }
     {
         Judge {
-            places: BTreeMap::new(alloc),
+            ids: Ids::new(alloc),
             intervals: Vec::new(alloc),
             mark: 0,
         }
     }
 
     /// Accepts an insertion with this id and valid interval, or answers its least fault, which changes
-    /// nothing. O(log n) in the insertions before it.
+    /// nothing. O(1) where the id is above all before it, else O(log n) in the insertions before it.
     pub fn insert(&mut self, id: u64, begin: Time, end: Time) -> Result<(), GuardFault>
         ensures judged { (before : List EventLine) (row : Row) → StandsFor self.old before → interval_of row ≡ record { begin = begin; end = end }
             → Judges result (fault_behind before (Insert id row)) }
@@ -64,22 +64,21 @@ impl Judge {
             → StandsFor self.new (before ++ Insert id row ∷ [])) }
         ensures stays { OnErr result ((before : List EventLine) → StandsFor self.old before → StandsFor self.new before) }
     {
-        let place = self.intervals.len();
-        match self.places.entry(id)? {
-            Entry::Occupied(_) => Err(GuardFault::Line(LineFault::KnownId)),
-            Entry::Vacant(vacant) => {
-                if let Some(fault) = late_fault(begin, self.mark) {
-                    return Err(GuardFault::Line(fault));
-                }
-                self.intervals.push(Interval { begin, end })?;
-                vacant.insert(place);
-                Ok(())
-            }
+        if let Some(fault) = late_fault(begin, self.mark) {
+            let known = self.ids.place(id).is_some();
+            return Err(GuardFault::Line(if known { LineFault::KnownId } else { fault }));
         }
+        self.intervals.reserve(1).map_err(OutOfMemory::from)?;
+        let place = self.intervals.len();
+        if !self.ids.insert(id, place)? {
+            return Err(GuardFault::Line(LineFault::KnownId));
+        }
+        self.intervals.push(Interval { begin, end })?;
+        Ok(())
     }
 
     /// Accepts a retraction of the event with this id to a new end, or answers its least fault, which changes
-    /// nothing. O(log n) in the insertions before it.
+    /// nothing. O(1) where the ids before it ascended with even gaps, else O(log n) in the insertions before it.
     pub fn retract(&mut self, id: u64, end: Time) -> Result<(), GuardFault>
         ensures judged { (before : List EventLine) → StandsFor self.old before → Judges result (fault_behind before (Retract id end)) }
         ensures stands { OnOk result ((before : List EventLine) → StandsFor self.old before → StandsFor self.new (before ++ Retract id end ∷ [])) }
@@ -96,7 +95,7 @@ impl Judge {
         ensures event { IfOk result (λ found. (before : List EventLine) → StandsFor self.now before → IsEventOf id before found) }
         ensures within { IfOk result (λ found. found.place < length self.now.intervals.items) }
     {
-        let Some(place) = self.places.get(&id).copied() else {
+        let Some(place) = self.ids.place(id) else {
             return Err(GuardFault::Line(LineFault::UnknownId));
         };
         let Some(interval) = self.intervals.get(place).copied() else {

@@ -1,7 +1,7 @@
 //! Event lines judged against the lines before them, and what accepted lines become: messages, and a
 //! canonical history.
 //!
-//! `specs/Judging.antt` says which fault a line has behind others, `specs/Messages.antt` and
+//! `specs/Judging.antt` says which fault a line has after others, `specs/Messages.antt` and
 //! `specs/History.antt` what accepted lines say together, and `specs/Sources.antt` the same of a source's
 //! bytes. `Guard` answers the messages; `Judge` looks at ids and times alone. `message_laws` says that the
 //! messages are legal and that their table is the canonical history, and `source_limits` what the limits are.
@@ -9,6 +9,7 @@
 
 mod fault;
 mod guard;
+mod ids;
 mod judge;
 mod law;
 mod refusal;

@@ -13,7 +13,7 @@ fn answer(
     let Some(event) = read_line(alloc, line, &Shape::AnyText)? else {
         return Ok(Ok(Vec::new(alloc)));
     };
-    match guard.accept(&event) {
+    match guard.accept(event) {
         Ok(message) => Ok(Ok(text_of(alloc, message)?)),
         Err(GuardFault::Line(fault)) => Ok(Err(fault)),
         Err(GuardFault::OutOfMemory) => Err(OutOfMemory)?,
@@ -112,5 +112,35 @@ fn a_judge_keeps_the_intervals_of_events(rt: HostRuntime) -> Result<(), Fail> {
         Interval { begin: 2, end: 12 },
     ];
     assert_eq!(rt; intervals.as_slice(), wanted.as_slice());
+    Ok(())
+}
+
+#[test]
+fn ids_are_known_in_whichever_order_they_come(rt: HostRuntime) -> Result<(), Fail> {
+    let mut judge = Judge::new(rt.alloc());
+    let last = u64::MAX;
+    for id in [10, 20, 30, 31, last, 25, 0, 12, last - 1] {
+        judge.insert(id, 1, 9)?;
+    }
+    for known in [10, 30, last, 25, 0, last - 1] {
+        assert_eq!(rt;
+            judge.insert(known, 1, 9),
+            Err(GuardFault::Line(LineFault::KnownId))
+        );
+    }
+    for unknown in [1, 11, 21, 29, 32, last - 2] {
+        assert_eq!(rt;
+            judge.retract(unknown, 2),
+            Err(GuardFault::Line(LineFault::UnknownId))
+        );
+    }
+    for (id, end) in [(20, 2), (31, 3), (last, 4), (25, 5), (0, 6), (last - 1, 7)] {
+        judge.retract(id, end)?;
+    }
+    let mut ends = Vec::new(rt.alloc());
+    for interval in judge.into_intervals() {
+        ends.push(interval.end)?;
+    }
+    assert_eq!(rt; ends.as_slice(), [9, 2, 9, 3, 4, 5, 6, 9, 7].as_slice());
     Ok(())
 }

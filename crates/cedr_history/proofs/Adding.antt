@@ -9,12 +9,16 @@ use Rattle.cedr_history.specs.declared.step.Step.{Step}
 use Rattle.cedr_history.specs.Rules.{IsKept, Adds}
 use Rattle.cedr_history.proofs.Fronts.{prefix_whole}
 
+-- what the book shows to clients: nothing
 abbrev pub shown : List Step → List Step
 shown log = []
 
+-- what a client's update may make of what is shown: there is no condition
 abbrev pub moved : List Step → List Step → ℕ → Type 0
 moved xs ys n = Unit {0}
 
+-- where the history begins with what was seen, the exchange adds the entry if that is all of the history, and
+-- else finds that the history is longer; the rule of the book stays
 pub adds_goes : (log v : List Step) (e : Step) (old : ℕ) → length v ≡ old → IsPrefix v log
     → (b : Bool) → (length log == old) ≡ b
     → Goes IsKept shown moved 0 (v, (no_nib, None)) (λ n. either (n == old) (old + 1) n) (Adds (step 0 old (old + 1) e) (v, (no_nib, None))) ((length log, true) ∷ (0, true) ∷ []) log

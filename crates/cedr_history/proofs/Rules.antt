@@ -52,7 +52,7 @@ set_known x views seat v h fits = (
       (λ (t : (j ≢ seat) × (get_elem? views j ≡ some u)). h.1 j u t.1 known) (at_set views seat j v u e),
 )
 
--- a thread tells all that it knows
+-- a thread hands on all that it knows
 pub forks : (seat : ℕ) (v : Knows) → Forks IsLatest seat v v v
 forks seat v x views h at =
     let here = set_known x views seat v h (h.1 seat v at) in (
@@ -61,7 +61,7 @@ forks seat v x views h at =
           (at_snoc (set views seat v) v u j e),
     )
 
--- a thread knows what it was told, and the note is spent
+-- a thread knows what a note says, and the note is spent
 pub merges : (seat : ℕ) (v : Knows) (other : ℕ) (w spent : Knows) → spent.known ≡ false → Merges IsLatest seat v other w w spent
 merges seat v other w spent none x views h at apart there =
     let theirs : w.known ≡ true → Begins w.front x.front = ⊎_elim (λ (t : (other ≡ seat) × (w ≡ w)). absurd (apart t.0)) (λ (t : (other ≢ seat) × (get_elem? views other ≡ some w)). h.1 other w t.1)

@@ -15,29 +15,32 @@ use Rattle.cedr_history.specs.Versions.{listing}
 abbrev pub raised : ℕ → ℕ
 raised n = min (n + 1) (2 ^ 64 - 1)
 
--- the writer: its history, the published list, that list with all that is pending, and whether it told its list for the last time
+-- the writer: its history, the published list, that list with all that is pending, and whether it made its last note
 pub record Writing : Type 0 where
   pub history : Book
   pub published : Listed
   pub all : Listed
   pub told : Bool
 
--- a reader: its history, the list that it has seen or was told of, the list of the last note if it learnt that, and how many enters were refused
+-- a reader: its history, the list that it has seen or learnt from a note, the list of the last note if it learnt that,
+-- and how many enters were refused
 pub record Reads : Type 0 where
   pub history : Book
   pub seen : Listed
   pub last : Option Listed
   pub refused : ℕ
 
--- a note: the list that it tells, and whether it is the last one
+-- a note: its history, the list that it says, and whether it is the last one
 pub record Told : Type 0 where
   pub history : Book
   pub list : Listed
   pub last : Bool
 
+-- the list that the steps of a beginning leave
 abbrev pub list_of : Sight → Listed
 list_of s = listed s.steps
 
+-- that list, where there is a beginning
 abbrev pub last_of : Option Sight → Option Listed
 last_of None = None
 last_of (Some s) = Some (list_of s)
@@ -46,9 +49,11 @@ last_of (Some s) = Some (list_of s)
 abbrev pub part : {A : Type 0} → ℕ → ℕ → List A → List A
 part from max xs = take max (drop from xs)
 
+-- what a version holds: its list, and its front
 abbrev pub holding : Version → Holding
 holding x = record { listed = listing x; front = x.front }
 
+-- what is held once one more step is done: the list with it, and the front that comes with the step
 abbrev pub done : Holding → Deed → Holding
 done s d = record { listed = stepped s.listed d.step; front = d.front }
 

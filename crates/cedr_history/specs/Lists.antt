@@ -12,6 +12,7 @@ use Rattle.cedr_history.specs.declared.listed.Listed.{Listed}
 abbrev pub nothing : Listed
 nothing = record { changes = []; mark = 0; close = Open }
 
+-- the list with a step: a change at the end, the greater of its mark and another one, or a close
 abbrev pub added : Listed → Step → Listed
 added l (step.Change c) = record l { changes = l.changes ++ arc_value c ∷ [] }
 added l (step.Mark t) = record l { mark = max l.mark t }
@@ -23,6 +24,7 @@ going Open l o = added l o
 going Ended l o = l
 going Broken l o = l
 
+-- what a step leaves of a list
 abbrev pub stepped : Listed → Step → Listed
 stepped l o = going l.close l o
 

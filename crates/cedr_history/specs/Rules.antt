@@ -1,4 +1,4 @@
--- The rule of the book, and what its steps tell.
+-- The rule of the book, and what its steps say.
 use Rattle.std.specs.Prelude.{ℕ, ◌≡◌, ◌==◌, true, List, [], ◌∷◌, ◌++◌, length, MatchBool}
 use Rattle.logbook.specs.Pages.{Cell, Step as Exchange, View, Book, Named}
 use Rattle.cedr_history.specs.declared.step.Step.{Step}
@@ -7,6 +7,7 @@ use Rattle.cedr_history.specs.declared.step.Step.{Step}
 pub record IsKept (cells : List Cell) (log : List Step) : Type 0 where
   pub words : cells ≡ (length log, true) ∷ (0, true) ∷ []
 
+-- the first word of a book, which the book tracks
 abbrev pub head_of : Book → Named
 head_of b = record { tracked = true; key = 0; book = b }
 

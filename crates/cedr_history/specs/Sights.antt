@@ -4,6 +4,7 @@ use mathlib.Core.List.{IsPrefix}
 use Rattle.logbook.specs.Pages.{Book}
 use Rattle.cedr_history.specs.declared.step.Step.{Step}
 
+-- a beginning: which history it is of, and the first of that history's steps
 pub record Sight : Type 0 where
   pub book : Book
   pub steps : List Step

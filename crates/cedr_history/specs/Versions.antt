@@ -26,7 +26,7 @@ IsTied x = listing x ≡ listed x.front.steps
 abbrev pub knower : Sight → Knows
 knower s = record { known = true; front = s }
 
--- the version is what its steps leave, and they go on from all that each pass has seen or was told of, in one history
+-- the version is what its steps leave, and they go on from all that each pass has seen or learnt, in one history
 abbrev pub IsLatest : Version → List Knows → Type 0
 IsLatest x views = IsTied x × ((seat : ℕ) (v : Knows) → get_elem? views seat ≡ some v → v.known ≡ true → Begins v.front x.front)
 

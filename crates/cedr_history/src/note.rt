@@ -1,8 +1,8 @@
 use crate::book::Front;
 use std::marker::Model;
 
-/// A published list, as its writer tells it to the reader. Contracts see which history it is of, the list, and whether it
-/// is the last one that the writer tells.
+/// A note of the published list, from its writer to the reader. Contracts see which history it is of, the list, and
+/// whether it is the writer's last note.
 #[derive(Drop)]
 pub struct Note {
     pub(crate) front: Front,

@@ -13,8 +13,8 @@ use core::mem::replace;
 use std::alloc::Global;
 use std::marker::Model;
 
-/// The one reader of a list. Contracts see its history, the list that it has seen or was told of, the list of the last
-/// note where it learnt that, and how many of its enters were refused.
+/// The one reader of a list. Contracts see its history, the list that it has seen or learnt from a note, the list of
+/// the last note where it learnt that, and how many of its enters were refused.
 #[derive(Drop)]
 pub struct Reader {
     alloc: Global,

@@ -85,7 +85,7 @@ fn push_part(
     done
 }
 
-/// Reads a copy. `None` where it is older than what the reader has seen or was told of, or isn't the list of the last note.
+/// Reads a copy. `None` where it is older than what the reader has seen or learnt, or isn't the list of the last note.
 /// Neither ever comes. The steps are counted to show it, since no clause of the copies says it.
 fn look(
     alloc: Global,

@@ -89,7 +89,7 @@ impl Absorb<Deed> for Version {
 }
 
 /// The rule: the copy that is shown has what the history up to its front leaves, and goes on from all that each thread
-/// has seen or was told of.
+/// has seen or learnt.
 pub struct Latest;
 
 impl Protocol<Version, Knows> for Latest {
@@ -110,7 +110,7 @@ impl Outcome<Version, Knows> for Sees {
     ghost then = { Saw };
 }
 
-/// The writer tells all that it knows.
+/// The writer hands on all that it knows.
 pub struct Tells;
 
 impl Split<Knows> for Tells {
@@ -119,7 +119,7 @@ impl Split<Knows> for Tells {
     ghost right = { λ v. v };
 }
 
-/// The reader knows what it was told.
+/// The reader knows what the writer handed on.
 pub struct Learns;
 
 impl Join<Knows> for Learns {

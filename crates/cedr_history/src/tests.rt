@@ -37,7 +37,7 @@ fn seen(len: usize, mark: Time, close: Close) -> Option<Seen> {
     Some(Seen { len, mark, close })
 }
 
-// What a read answers, and how many changes stand in the list behind it.
+// What a read answers, and how many changes are in the list after it.
 type Found = (Option<Seen>, usize);
 
 fn write_and_read<R: Wait>(

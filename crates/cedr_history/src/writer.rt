@@ -22,8 +22,8 @@ use std::alloc::{AllocError, Global};
 use std::marker::Model;
 use std::sync::{Arc, Wait};
 
-/// The one who adds to a list and publishes it. Contracts see its history, the list that is published, that list with all
-/// that is pending, and whether it told its list for the last time.
+/// The one who adds to a list and publishes it. Contracts see its history, the list that is published, that list with
+/// all that is pending, and whether it made its last note.
 ///
 /// It can't be dropped: `end` uses it up.
 pub struct Writer {
@@ -99,9 +99,9 @@ impl Writer {
         self.give(Step::Close(how))
     }
 
-    /// Shows all that is pending at once, and tells it. It waits until the reader has left the copy that isn't shown.
-    /// Where it is refused, all stays pending, and it may be called again. O(n) in what was added since the publish
-    /// before the last one: each copy takes each step once.
+    /// Shows all that is pending at once, and answers a note of it. It waits until the reader has left the copy that
+    /// isn't shown. Where it is refused, all stays pending, and it may be called again. O(n) in what was added since
+    /// the publish before the last one: each copy takes each step once.
     pub fn publish<R: Wait>(&mut self, rt: &R) -> Result<Note, OutOfMemory>
         requires { self.old.told ≡ false }
         ensures ok { OnOk result (self.new ≡ record self.old { published = self.old.all }) }
@@ -127,7 +127,7 @@ impl Writer {
         })
     }
 
-    /// Tells the published list for the last time. It publishes nothing, and takes no memory.
+    /// Makes the last note, of the published list. It publishes nothing, and takes no memory.
     pub fn last(&mut self) -> Note
         requires { self.old.told ≡ false }
         ensures told { self.new ≡ record self.old { told = true } }

@@ -7,7 +7,7 @@ use Rattle.std.proofs.Math.Seq.{take-append_seam, take-add}
 pub rest_of : (bytes : List ℕ) (read : ℕ) → take (length bytes - read) (drop read bytes) ≡ drop read bytes
 rest_of bytes read = take_all (length bytes - read) (drop read bytes) (omega (arith, length-drop read bytes))
 
--- the copied front, and what is left behind it, are what there was
+-- the copied front, and what is left after it, are what there was
 pub given_at : (bytes copied behind : List ℕ) (read count : ℕ) → length copied ≡ count
     → copied ≡ take count (take (length bytes - read) (drop read bytes))
     → drop read bytes ≡ take count (copied ++ behind) ++ drop (read + count) bytes

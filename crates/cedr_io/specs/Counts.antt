@@ -4,6 +4,7 @@ use Rattle.cedr_io.specs.declared.fault.Failed.{Failed}
 use Rattle.cedr_io.specs.declared.fault.OutsideFault.{OutsideFault}
 use Rattle.cedr_io.specs.declared.fault.OutsideFault.TheVariants as outside
 
+-- the last value of a count: the greatest number of 64 bits
 abbrev pub last_count : ℕ
 last_count = 2 ^ 64 - 1
 

@@ -9,7 +9,7 @@ use std::fs::File;
 use std::io::Read;
 use std::{fs, str};
 
-/// The files of the file system, by their paths. What they hold isn't told.
+/// The files of the file system, by their paths. What they hold isn't known.
 #[derive(Drop)]
 pub struct DiskFiles<'a> {
     rt: &'a HostRuntime,

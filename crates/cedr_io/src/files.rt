@@ -9,7 +9,7 @@ use crate::source::Source;
 pub trait Files {
     type Source: Source + Send;
 
-    /// The bytes under a name, where there are some and they are told.
+    /// The bytes under a name, where there are some and they are known.
     ghost content: { Self → List ℕ → Option (List ℕ) };
 
     /// How many finds were refused, and reads of the sources that were given back. It stays at its

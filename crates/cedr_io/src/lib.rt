@@ -1,7 +1,7 @@
 //! The outside, as traits: where bytes come from, how a file is found by its name, where answers go.
 //!
-//! Contracts see what a source has left, what a file holds and what a sink was given, where an
-//! implementation tells it: those in memory do, the real ones don't. Each object counts its faults,
+//! Contracts see what a source has left, what a file holds and what a sink was given, where that is
+//! known: of those in memory it is, of the real ones it isn't. Each object counts its faults,
 //! and a call answers `Failed` only where its count rose.
 #![tactic(auto)]
 

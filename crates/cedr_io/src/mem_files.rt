@@ -11,7 +11,7 @@ use std::alloc::Global;
 use std::collections::BTreeMap;
 
 /// Files in memory, for tests. It numbers its finds, and each source its reads, from 1 on, and
-/// refuses those that it was told to refuse.
+/// refuses those that it was asked to refuse.
 #[derive(Drop)]
 pub struct MemFiles {
     alloc: Global,

@@ -5,7 +5,7 @@ use crate::sink::Sink;
 use cedr_base::OutOfMemory;
 use std::alloc::Global;
 
-/// A sink in memory, for tests. It numbers its writes from 1 on, and refuses those that it was told to
+/// A sink in memory, for tests. It numbers its writes from 1 on, and refuses those that it was asked to
 /// refuse.
 #[derive(Drop)]
 pub struct MemSink {

@@ -7,7 +7,7 @@ use crate::fault::OutsideFault;
 
 /// Where bytes go.
 pub trait Sink {
-    /// The bytes that were taken so far, where they are told.
+    /// The bytes that were taken so far, where they are known.
     ghost written: { Self → Option (List ℕ) };
 
     /// How many writes were refused. It stays at its last value, that of a `u64`.

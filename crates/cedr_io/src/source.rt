@@ -6,7 +6,7 @@ use crate::fault::Failed;
 
 /// Where bytes come from.
 pub trait Source {
-    /// The bytes that weren't read yet, where they are told.
+    /// The bytes that weren't read yet, where they are known.
     ghost rest: { Self → Option (List ℕ) };
 
     /// How many reads were refused. It stays at its last value, that of a `u64`.

@@ -4,7 +4,7 @@ use crate::fault::OutsideFault;
 use crate::sink::Sink;
 use std::io::{Stderr, Stdout, Write};
 
-/// Standard output or standard error. What was written isn't told.
+/// Standard output or standard error. What was written isn't known.
 #[derive(Drop)]
 pub struct StdSink {
     stream: Stream,

@@ -9,6 +9,7 @@ use Rattle.cedr_laws.specs.Lawful.{has_broken, any_broken, all_end, is_over, all
 use Rattle.cedr_laws.proofs.Holds.{open_is}
 use Rattle.cedr_laws.proofs.Induct.{by_legal}
 
+-- an open list isn't broken
 pub open_unbroken : (ms : List Message) → IsOpen ms → has_broken ms ≡ false
 open_unbroken [] h = refl
 open_unbroken (message.Change c ∷ ms) h = open_unbroken ms h
@@ -24,6 +25,7 @@ open_from (message.Mark t ∷ ms) h k = open_from ms h k
 open_from (message.End ∷ ms) h k = absurd (let e = h in cc)
 open_from (message.Broken ∷ ms) h k = absurd (let e = k in cc)
 
+-- a list that begins with messages without Broken is broken exactly where its rest is
 pub broken-append : (xs ys : List Message) → has_broken xs ≡ false → has_broken (xs ++ ys) ≡ has_broken ys
 broken-append [] ys h = refl
 broken-append (message.Change c ∷ xs) ys h = broken-append xs ys h
@@ -31,6 +33,7 @@ broken-append (message.Mark t ∷ xs) ys h = broken-append xs ys h
 broken-append (message.End ∷ xs) ys h = broken-append xs ys h
 broken-append (message.Broken ∷ xs) ys h = cc
 
+-- a list to which Broken is added is broken
 pub broken-pushed : (xs : List Message) → has_broken (xs ++ message.Broken ∷ []) ≡ true
 broken-pushed [] = refl
 broken-pushed (message.Change c ∷ xs) = broken-pushed xs
@@ -38,6 +41,7 @@ broken-pushed (message.Mark t ∷ xs) = broken-pushed xs
 broken-pushed (message.End ∷ xs) = broken-pushed xs
 broken-pushed (message.Broken ∷ xs) = refl
 
+-- an alternative is true where its second part is
 pub or_true : (b : Bool) → (b || true) ≡ true
 or_true true = refl
 or_true false = refl
@@ -54,6 +58,7 @@ and_false : (b c : Bool) → c ≡ false → (b && c) ≡ false
 and_false true c h = h
 and_false false c h = refl
 
+-- an open list isn't over
 pub over_open : (l : List Message) → IsOpen l → is_over l ≡ false
 over_open l h = ap (λ (b : Bool). b || has_broken l) (open_is l h) ∙ open_unbroken l h
 
@@ -79,11 +84,13 @@ over_before [] k ms h = h
 over_before (l ∷ ls) zero ms h = over_before_at l ms (all_over ls) (is_over l) refl h
 over_before (l ∷ ls) (suc k) ms h = over_later_at (is_over l) (all_over ls) (all_over (with_more ls k ms)) (over_before ls k ms) h
 
+-- where some port's list is open, not all lists are over
 pub open_not_over : (k : ℕ) (ls : Lists) → k < length ls → IsOpen (list_at ls k) → all_over ls ≡ false
 open_not_over k [] within h = absurd (omega arith)
 open_not_over zero (l ∷ ls) within h = ap (λ (b : Bool). b && all_over ls) (over_open l h)
 open_not_over (suc k) (l ∷ ls) within h = and_false (is_over l) (all_over ls) (open_not_over k ls (omega arith) h)
 
+-- where no list is broken, each has its End exactly where each is over
 pub ends_over : (ls : Lists) → any_broken ls ≡ false → all_end ls ≡ all_over ls
 ends_over [] h = refl
 ends_over (l ∷ ls) h =

@@ -116,13 +116,14 @@ module _ (level : Level) (ms : List Message) (unblocked : level.block ≡ Some 0
     };
   }
 
--- nothing is held behind the end
+-- nothing is held after the end
 none_held : (block : Option ℕ) (b : Bool) (mark high : ℕ) (r : Row) → b ≡ true → is_held block b mark high r ≡ false
 none_held block b mark high r h = ap (λ (d : Bool). not d && (not (nat_lt r.end mark) && is_blocked block high r)) h
 
--- behind the end all that was kept is passed
+-- after the end all that was kept is passed
 pub ended_passed : (level : Level) (ms : List Message) → has_end ms ≡ true → passed_table level ms ≡ kept_table level.memory ms
 ended_passed level ms ended = (filters_none (holds level ms) (kept_table level.memory ms) (λ r there. none_held level.block (has_end ms) (mark_of ms) (high_of ms) r ended)).1
 
+-- after the end the front is FOREVER
 pub ended_front : (level : Level) (ms : List Message) → has_end ms ≡ true → front level ms ≡ FOREVER
 ended_front level ms ended = ap (λ (b : Bool). front_at b (mark_of ms) (held level ms)) ended

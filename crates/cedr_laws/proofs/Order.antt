@@ -32,10 +32,12 @@ count-without_at r x y ys false h rest = elim (not_both r x y h) [
   | inr a ↦ omega (arith, count_of-cons r y ys, count_of-cons r y (without x ys), rest, a)
 ]
 
+-- a bag without one copy of a row has one less of it, where it had any, and the same of each other row
 pub count-without : (r x : Row) (ys : List Row) → count_of r (without x ys) ≡ count_of r ys - one_if_same r x
 count-without r x [] = omega arith
 count-without r x (y ∷ ys) = count-without_at r x y ys (same_row x y) refl (count-without r x ys)
 
+-- of each row a bag less another one has the difference of their counts, and 0 where the other has more
 pub count-less : (r : Row) (xs ys : List Row) → count_of r (less xs ys) ≡ count_of r xs - count_of r ys
 count-less r xs [] = omega arith
 count-less r xs (y ∷ ys) = omega (arith, count-less r (without y xs) ys, count-without r y xs, count_of-cons r y ys)
@@ -51,6 +53,7 @@ after_back Greater Greater e h = cc
 pub after_one_way : (a b : Row) → is_after a b ≡ true → is_after b a ≡ false
 after_one_way a b h = after_back (row_cmp a b) (row_cmp b a) (row_total.antisymm a b) h
 
+-- where a row isn't after a second one, nor that after a third one, the first isn't after the third
 pub up_to : (a b c : Row) → is_after a b ≡ false → is_after b c ≡ false → is_after a c ≡ false
 up_to a b c h k = upto row_total a b c h k
 
@@ -65,9 +68,11 @@ tied Greater p e h k = cc
 pub same_place : (a b : Row) → is_after a b ≡ false → is_after b a ≡ false → a ≡ b
 same_place a b h k = exact_rows a b (tied (row_cmp a b) (row_cmp b a) (row_total.antisymm a b) h k)
 
+-- no row is after itself
 pub not_after_itself : (a : Row) → is_after a a ≡ false
 not_after_itself a = elim (cases_Bool (is_after a a)) [ inl t ↦ after_one_way a a t | inr f ↦ f ]
 
+-- a row that isn't after one that stands after no row of a list stands after none of them either
 pub all_from-weaker : (r x : Row) (xs : List Row) → is_after r x ≡ false → AllFromRow x xs → AllFromRow r xs
 all_from-weaker r x [] h k = tt
 all_from-weaker r x (y ∷ ys) h k = (up_to r x y h k.0, all_from-weaker r x ys h k.1)
@@ -76,6 +81,7 @@ all_from_at : (r x y : Row) (ys : List Row) (b : Bool) → same_row x y ≡ b �
 all_from_at r x y ys true h k there rest = subst (λ (z : Row). is_after r z ≡ false) (sym (same_row_exact x y h)) k
 all_from_at r x y ys false h k there rest = rest (let c = ap {B = ℕ} (λ b. cond b 1 0) h in omega (arith, count_of-cons x y ys, c))
 
+-- a row that stands after no row of a list isn't after a row that is in it
 pub all_from-there : (r x : Row) (xs : List Row) → AllFromRow r xs → 0 < count_of x xs → is_after r x ≡ false
 all_from-there r x [] h there = absurd (omega arith)
 all_from-there r x (y ∷ ys) h there = all_from_at r x y ys (same_row x y) refl h.0 there (all_from-there r x ys h.1)
@@ -109,6 +115,7 @@ ascend-put : (r : Row) (xs : List Row) → Ascend xs → Ascend (put_in_order r 
 ascend-put r [] h = (tt, tt)
 ascend-put r (x ∷ xs) h = ascend-put_at r x xs (is_le (row_cmp r x)) refl h.0 h.1 (ascend-put r xs h.1)
 
+-- the rows of a bag in canonical order ascend
 pub ascend-in_order : (xs : List Row) → Ascend (in_order xs)
 ascend-in_order [] = tt
 ascend-in_order (x ∷ xs) = ascend-put x (in_order xs) (ascend-in_order xs)
@@ -121,6 +128,7 @@ count-put : (q r : Row) (xs : List Row) → count_of q (put_in_order r xs) ≡ o
 count-put q r [] = omega (arith, count_of-cons q r [])
 count-put q r (x ∷ xs) = count-put_at q r x xs (is_le (row_cmp r x)) (count-put q r xs)
 
+-- the rows of a bag in canonical order are the same bag
 pub count-in_order : (q : Row) (xs : List Row) → count_of q (in_order xs) ≡ count_of q xs
 count-in_order q [] = refl
 count-in_order q (x ∷ xs) = omega (arith, count-put q x (in_order xs), count-in_order q xs, count_of-cons q x xs)
@@ -139,9 +147,11 @@ one_order (x ∷ xs) (y ∷ ys) h k same =
     let rest : xs ≡ ys = one_order xs ys h.1 k.1 (record { each = λ r. let f = same.each r in let g = ap (one_if_same r) e in omega (arith, count_of-cons r x xs, count_of-cons r y ys) }) in
     cc
 
+-- a list that ascends and is the same bag as another is that bag in canonical order
 pub canonical_is : (xs ys : List Row) → Ascend ys → ((r : Row) → count_of r ys ≡ count_of r xs) → in_order xs ≡ ys
 canonical_is xs ys up same = one_order (in_order xs) ys (ascend-in_order xs) up (record { each = λ r. count-in_order r xs ∙ sym (same r) })
 
+-- a row that stands after no row of two lists stands after none of the joined list
 pub all_from-append : (r : Row) (xs ys : List Row) → AllFromRow r xs → AllFromRow r ys → AllFromRow r (xs ++ ys)
 all_from-append r [] ys h k = k
 all_from-append r (x ∷ xs) ys h k = (h.0, all_from-append r xs ys h.1 k)

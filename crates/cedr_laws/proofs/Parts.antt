@@ -89,9 +89,11 @@ no_parts memory = record { puts = λ r. refl; takes = λ r. refl }
 parts : (memory : Option ℕ) (ms : List Message) → Parts memory ms
 parts memory ms = by_messages (Parts memory) (parts_more memory) (no_parts memory) ms
 
+-- what came puts the same rows as what is kept and what is forgotten put together
 pub all_put : (memory : Option ℕ) (ms : List Message) → SameRows (all_puts (changes_of ms)) (all_puts (kept memory ms ++ changes_in (forgot memory ms)))
 all_put memory ms = record { each = λ r. omega (arith, (parts memory ms).puts r, puts-append r (kept memory ms) (changes_in (forgot memory ms))) }
 
+-- what came takes the same rows as what is kept and what is forgotten take together
 pub all_taken : (memory : Option ℕ) (ms : List Message) → SameRows (all_takes (changes_of ms)) (all_takes (kept memory ms ++ changes_in (forgot memory ms)))
 all_taken memory ms = record { each = λ r. omega (arith, (parts memory ms).takes r, takes-append r (kept memory ms) (changes_in (forgot memory ms))) }
 

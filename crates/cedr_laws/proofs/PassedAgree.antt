@@ -42,6 +42,7 @@ from_front_at level ms r false h there = least-there (mark_of ms) (held level ms
 from_front : (level : Level) (ms : List Message) (r : Row) → 0 < count_of r (held level ms) → front level ms ≤ r.begin
 from_front level ms r there = from_front_at level ms r (has_end ms) refl there
 
+-- the kept table and the passed one agree up to the front
 pub passed_agrees : (level : Level) (ms : List Message) → AgreeUpTo (front level ms) (kept_table level.memory ms) (passed_table level ms)
 passed_agrees level ms = record {
   same = record {

@@ -35,12 +35,12 @@ pub record IsGiven (given : List Message) (rows : List Row) (t : ℕ) : Type 0 w
   pub table : IsTableOf given rows
   pub mark : mark_of given ≡ t
 
--- a message that is no change leaves the table
+-- a message that is no change leaves the table as it is
 pub table_stays : (given : List Message) (m : Message) (rows : List Row) → changes_of (m ∷ []) ≡ [] → IsTableOf given rows → IsTableOf (given ++ m ∷ []) rows
 table_stays given m rows none table =
     record { sums = subst (λ (cs : List Change). SameRows (rows ++ all_takes cs) (all_puts cs)) (sym (changes-append given (m ∷ []) ∙ (ap (λ cs. changes_of given ++ cs) none ∙ append-nil (changes_of given)))) table.sums }
 
--- a mark behind messages, where it is above theirs
+-- a mark after messages, where it is above theirs
 marked_at : (given : List Message) (rows : List Row) (old t : ℕ) (b : Bool) → nat_lt old t ≡ b → old ≤ t → t ≤ FOREVER → IsGiven given rows old → IsGiven (given ++ cond b (message.Mark t ∷ []) []) rows t
 marked_at given rows old t true h up time k =
     let above = ltb-true old t h in
@@ -55,10 +55,11 @@ marked_at given rows old t false h up time k =
     let same : old ≡ t = let f = ltb-false old t h in omega arith in
     subst (λ (ms : List Message). IsGiven ms rows t) (sym (append-nil given)) (subst (λ (n : ℕ). IsGiven given rows n) same k)
 
+-- given messages to which a mark is added, where it is above theirs, have that mark and the same table
 pub marked : (given : List Message) (rows : List Row) (old t : ℕ) → old ≤ t → t ≤ FOREVER → IsGiven given rows old → IsGiven (given ++ mark_above old t) rows t
 marked given rows old t up time k = marked_at given rows old t (nat_lt old t) refl up time k
 
--- a repair behind messages
+-- a repair after messages
 pub repaired : (given : List Message) (old new : List Row) (t : ℕ) (cs : List Change) → IsGiven given old t → Repair old new t cs → IsGiven (given ++ wrapped cs) new t
 repaired given old new t cs k fix = record {
   legal = legal_repaired given old new cs k.legal k.opened k.table (subst (λ (n : ℕ). Repair old new n cs) (sym k.mark) fix);
@@ -67,13 +68,16 @@ repaired given old new t cs k fix = record {
   mark = let e = k.mark in omega (arith, mark-append given (wrapped cs), mark-wrapped cs);
 }
 
+-- the changes that add rows
 abbrev pub adds : List Row → List Change
 adds rows = map (λ r. Add r) rows
 
+-- the messages that add rows are those that bring the changes that add them
 pub additions_wrapped : (rows : List Row) → additions rows ≡ wrapped (adds rows)
 additions_wrapped [] = refl
 additions_wrapped (r ∷ rows) = ap (λ (ms : List Message). message.Change (Add r) ∷ ms) (additions_wrapped rows)
 
+-- the messages that bring joined changes are those that bring the first ones, and then the others
 pub wrapped-append : (cs ds : List Change) → wrapped (cs ++ ds) ≡ wrapped cs ++ wrapped ds
 wrapped-append cs ds = map-append (λ c. message.Change c) cs ds
 
@@ -164,6 +168,7 @@ time_after ms (message.Mark t) may time = let e = may.1.1 in omega (arith, mark-
 time_after ms message.End may time = omega (arith, mark-append ms (message.End ∷ []))
 time_after ms message.Broken may time = omega (arith, mark-append ms (message.Broken ∷ []))
 
+-- a list to which End is added isn't open
 pub not_open_end : (ms : List Message) → IsOpen (ms ++ message.End ∷ []) → ⊥
 not_open_end [] h = h
 not_open_end (message.Change c ∷ ms) h = not_open_end ms h
@@ -171,6 +176,7 @@ not_open_end (message.Mark t ∷ ms) h = not_open_end ms h
 not_open_end (message.End ∷ ms) h = h
 not_open_end (message.Broken ∷ ms) h = h
 
+-- a list to which Broken is added isn't open
 pub not_open_broken : (ms : List Message) → IsOpen (ms ++ message.Broken ∷ []) → ⊥
 not_open_broken [] h = h
 not_open_broken (message.Change c ∷ ms) h = not_open_broken ms h
@@ -259,6 +265,7 @@ module _ (level : Level) (ms : List Message) (opened : IsOpen ms) where
       ap (λ b. front_at b (mark_of (ms ++ message.Broken ∷ [])) (held level (ms ++ message.Broken ∷ []))) broken_end
       ∙ (ap (λ n. front_at (has_end ms) n (held level (ms ++ message.Broken ∷ []))) broken_mark ∙ front-same (has_end ms) (mark_of ms) _ _ broken_held)
 
+-- what is the same bag as the table of messages is their table too
 pub table_alike : (given : List Message) (rows others : List Row) → SameRows others rows → IsTableOf given rows → IsTableOf given others
 table_alike given rows others same table = record {
   sums = record {
@@ -279,6 +286,7 @@ stands_broken level ms may s =
       mark = ap (λ (xs : List Message). mark_of xs) whole ∙ (let f = s.mark in omega (arith, mark-append (pass level ms) (message.Broken ∷ []), broken_front level ms may.0));
     }
 
+-- what is known of a legal list is known of it with one more message that may come
 pub stands_step : (level : Level) (ms : List Message) (m : Message) → IsLegal ms → MayCome ms m → Stands level ms → Stands level (ms ++ m ∷ [])
 stands_step level ms (message.Change c) legal may s = stands_more level ms (message.Change c) may s refl refl
 stands_step level ms (message.Mark t) legal may s = stands_more level ms (message.Mark t) may s refl refl

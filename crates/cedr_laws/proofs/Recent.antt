@@ -151,6 +151,8 @@ agrees_first : (memory : Option ℕ) → Agrees memory []
 unfolding kept
 agrees_first memory = record { sound = λ r. omega arith; agree = λ r recent. refl; old = tt }
 
+-- of a legal list the full table adds up, what is kept agrees with it on recent rows, and what is
+-- forgotten is old
 pub agrees : (level : Level) (ms : List Message) → IsLegal ms → Agrees level.memory ms
 agrees level ms legal = by_legal (Agrees level.memory) (agrees_step level) (agrees_first level.memory) ms legal
 

@@ -29,9 +29,11 @@ abbrev pub cuts_held : Level → List Message → Change → List Change
 cuts_held level before (Add r) = Add r ∷ []
 cuts_held level before (Cut r e) = cond (holds level before r) (Cut r e ∷ []) []
 
+-- of some changes those that go to the held rows: the additions, and the cuts of rows that are held
 abbrev pub to_held : Level → List Message → List Change → List Change
 to_held level before cs = flat_map (cuts_held level before) cs
 
+-- of some changes those that go to the passed rows: the cuts of rows that aren't held
 abbrev pub to_passed : Level → List Message → List Change → List Change
 to_passed level before cs = flat_map (cuts_passed level before) cs
 
@@ -64,6 +66,7 @@ part_at level ms c true orphan h is from = none refl
 part_at level ms c false true h is from = none refl
 part_at level ms c false false h is from = one c refl (record { is = is; from = from; there = there_of (kept level.memory ms) c h })
 
+-- what is kept of a message that may come is nothing or one kept change
 pub part_of : (level : Level) (ms : List Message) (m : Message) → MayCome ms m → IsPart level ms (kept_of level.memory ms (kept level.memory ms) m)
 part_of level ms (message.Change c) may = part_at level ms c (is_late level.memory (high_of ms) c) (is_orphan (kept level.memory ms) c) refl (may_is [] (changes_of ms) c may.1.0) may.1.1
 part_of level ms (message.Mark t) may = none refl
@@ -89,6 +92,7 @@ in_one_at : (r x : Row) (b : Bool) → same_row r x ≡ b → 0 < cond {A = ℕ}
 in_one_at r x true h k = same_row_exact r x h
 in_one_at r x false h k = absurd (omega arith)
 
+-- a row of a list of one row is that row
 pub in_one : (r x : Row) → 0 < count_of r (x ∷ []) → r ≡ x
 in_one r x there = in_one_at r x (same_row r x) refl (omega (arith, count_of-cons r x []))
 
@@ -96,12 +100,15 @@ in_remnant_at : (a r : Row) (e : ℕ) (b : Bool) → 0 < count_of r (cond b (rec
 in_remnant_at a r e true there = in_one r (record a { end = e }) there
 in_remnant_at a r e false there = absurd (omega arith)
 
+-- a row that a cut leaves is the cut row with its new end
 pub in_remnant : (a r : Row) (e : ℕ) → 0 < count_of r (remnant a e) → r ≡ record a { end = e }
 in_remnant a r e there = in_remnant_at a r e (nat_lt a.begin e) there
 
+-- a list of one change takes what that change takes
 pub takes-one : (r : Row) (c : Change) → count_of r (all_takes (c ∷ [])) ≡ count_of r (takes c)
 takes-one r c = omega (arith, count_of-append r (takes c) [])
 
+-- a list of one change puts what that change puts
 pub puts-one : (r : Row) (c : Change) → count_of r (all_puts (c ∷ [])) ≡ count_of r (puts c)
 puts-one r c = omega (arith, count_of-append r (puts c) [])
 
@@ -199,6 +206,8 @@ module _ (level : Level) (ms : List Message) (opened : IsOpen ms) where
   split_of cs (none e) = subst (λ (ds : List Change). Split level ms ds (to_passed level ms ds) (to_held level ms ds)) (sym e) split_none
   split_of cs (one c e k) = subst (λ (ds : List Change). Split level ms ds (to_passed level ms ds) (to_held level ms ds)) (sym e) (split_one c k)
 
+-- what is kept of a message that may come has a part that goes to the passed rows and one that goes to
+-- the held rows
 pub split : (level : Level) (ms : List Message) (m : Message) → MayCome ms m
     → Split level ms (kept_of level.memory ms (kept level.memory ms) m) (itself level ms m) (to_held level ms (kept_of level.memory ms (kept level.memory ms) m))
 split level ms m may = split_of level ms may.0 (kept_of level.memory ms (kept level.memory ms) m) (part_of level ms m may)

@@ -33,6 +33,7 @@ cond_sum : (b : Bool) (n : ℕ) → cond b n 0 + cond b 0 n ≡ n
 cond_sum true n = omega arith
 cond_sum false n = omega arith
 
+-- the held copies of a row and its passed copies are together its kept ones
 pub count-both : (level : Level) (ms : List Message) (r : Row) → count_of r (held level ms) + count_of r (passed_table level ms) ≡ count_of r (kept_table level.memory ms)
 count-both level ms r = omega (arith, count-held level ms r, count-passed level ms r, cond_sum (holds level ms r) (count_of r (kept_table level.memory ms)))
 
@@ -44,21 +45,27 @@ part_passed : (b : Bool) (n c p : ℕ) → n ≡ c + p → (b ≡ true → p ≡
 part_passed true n c p h k = let e = k refl in omega arith
 part_passed false n c p h k = omega arith
 
+-- what is 0 or a number, as a test says, is above 0 only where the number is
 pub cond_some : (b : Bool) (n : ℕ) → 0 < cond b 0 n → 0 < n
 cond_some true n h = absurd (omega arith)
 cond_some false n h = h
 
+-- what is a number where a test holds, and else 0, is above 0 only where the test holds and the number
+-- is above 0
 pub cond_some_true : (b : Bool) (n : ℕ) → 0 < cond b n 0 → (b ≡ true) × (0 < n)
 cond_some_true true n h = (refl, h)
 cond_some_true false n h = absurd (omega arith)
 
+-- what is 0 or a number, as a test says, is 0 where the number is
 pub cond_none : (b : Bool) (n : ℕ) → n ≡ 0 → cond b 0 n ≡ 0
 cond_none true n h = refl
 cond_none false n h = h
 
+-- what is kept of a message that comes after others
 abbrev pub part : Level → List Message → Message → List Change
 part level ms m = kept_of level.memory ms (kept level.memory ms) m
 
+-- what is kept of a message that comes after others, and goes to the held rows
 abbrev pub other : Level → List Message → Message → List Change
 other level ms m = to_held level ms (part level ms m)
 
@@ -139,6 +146,7 @@ module _ (level : Level) (ms : List Message) (m : Message) (may : MayCome ms m) 
     up false = least-from (mark_of (ms ++ m ∷ [])) (front level ms) (held level (ms ++ m ∷ [])) (omega (arith, front_low level ms may.0, mark_up level ms m may.0))
         (λ r there. candidate_begins r (cond_some_true (holds level (ms ++ m ∷ []) r) (candidates r) (let e = held_after r in omega arith)).1)
 
+-- the front isn't above FOREVER where the mark isn't
 pub front_time : (level : Level) (ms : List Message) → mark_of ms ≤ FOREVER → front level ms ≤ FOREVER
 front_time level ms time = at (has_end ms) where
   at : (b : Bool) → front_at b (mark_of ms) (held level ms) ≤ FOREVER

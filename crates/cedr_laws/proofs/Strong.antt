@@ -57,11 +57,12 @@ after_at a b false h = cc
 ends_first : (a b : Row) → a.end < b.end → is_after a b ≡ false
 ends_first a b h = let e = lt-ltb a.end b.end h in rw e refl
 
--- changes and marks
+-- a mark, where there is one, is no change
 pub changes_marks : (old t : ℕ) (b : Bool) → changes_of (cond b (message.Mark t ∷ []) []) ≡ []
 changes_marks old t true = refl
 changes_marks old t false = refl
 
+-- what closes a list brings no change
 pub changes_closing : (m : Message) → changes_of (closing m) ≡ []
 changes_closing (message.Change c) = refl
 changes_closing (message.Mark t) = refl
@@ -80,6 +81,7 @@ changes_answer level ms m =
     ∙ (ap (λ (cs : List Change). cs ++ changes_of tail) (ap (λ (xs : List Message). changes_of xs) (additions_wrapped rows) ∙ changes-wrapped (adds rows))
     ∙ (ap (λ (cs : List Change). adds rows ++ cs) (changes-append (mark_above (front level ms) (front level (ms ++ m ∷ []))) (closing m) ∙ (ap (λ (cs : List Change). cs ++ changes_of (closing m)) (changes_marks (front level ms) (front level (ms ++ m ∷ [])) (nat_lt (front level ms) (front level (ms ++ m ∷ [])))) ∙ changes_closing m)) ∙ append-nil (adds rows)))))
 
+-- the rows that the passed table gains besides ascend
 pub gained_ascends : (level : Level) (ms : List Message) (m : Message) → Ascend (gained level ms m)
 gained_ascends level ms m = ascend-in_order (less (passed_table level (ms ++ m ∷ [])) (less (passed_table level ms ++ all_puts (itself level ms m)) (all_takes (itself level ms m))))
 

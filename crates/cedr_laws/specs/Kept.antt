@@ -36,17 +36,19 @@ is_orphan kept (Cut r e) = nat_eq (count_of r (table_of kept)) 0
 abbrev pub cause_of : Option ℕ → ℕ → List Change → Change → Option Cause
 cause_of memory high kept c = if is_late memory high c then Some Late else (if is_orphan kept c then Some Orphan else None)
 
+-- a change itself where there is no cause to forget it, and else nothing
 abbrev pub kept_alone : Option Cause → Change → List Change
 kept_alone None c = c ∷ []
 kept_alone (Some cause) c = []
 
--- what is kept of a message, behind the messages before it and what was kept of them
+-- what is kept of a message, after the messages before it and what was kept of them
 abbrev pub kept_of : Option ℕ → List Message → List Change → Message → List Change
 kept_of memory before kept (message.Change c) = kept_alone (cause_of memory (high_of before) kept c) c
 kept_of memory before kept (message.Mark t) = []
 kept_of memory before kept message.End = []
 kept_of memory before kept message.Broken = []
 
+-- what was kept of some messages, and then what is kept of those that come after them
 abbrev pub kept_behind : Option ℕ → List Message → List Change → List Message → List Change
 kept_behind memory before kept [] = kept
 kept_behind memory before kept (m ∷ ms) = kept_behind memory (before ++ m ∷ []) (kept ++ kept_of memory before kept m) ms
@@ -55,11 +57,12 @@ kept_behind memory before kept (m ∷ ms) = kept_behind memory (before ++ m ∷ 
 unfoldable pub kept : Option ℕ → List Message → List Change
 kept memory ms = kept_behind memory [] [] ms
 
+-- a change where there is a cause to forget it, with that cause and the greatest time, and else nothing
 abbrev pub forgotten_alone : Option Cause → ℕ → Change → List Forgotten
 forgotten_alone None high c = []
 forgotten_alone (Some cause) high c = record { change = c; cause = cause; high = high } ∷ []
 
--- what is forgotten of a message behind others, with its cause and the greatest time before it
+-- what is forgotten of a message after others, with its cause and the greatest time before it
 abbrev pub forgotten_of : Option ℕ → List Message → Message → List Forgotten
 forgotten_of memory before (message.Change c) = forgotten_alone (cause_of memory (high_of before) (kept memory before) c) (high_of before) c
 forgotten_of memory before (message.Mark t) = []
@@ -83,6 +86,7 @@ abbrev pub IsRecent : Option ℕ → ℕ → Row → Type 0
 IsRecent None high r = Unit {0}
 IsRecent (Some m) high r = high ≤ r.begin + m
 
+-- the row that a change adds or cuts
 abbrev pub row_of : Change → Row
 row_of (Add r) = r
 row_of (Cut r e) = r

@@ -11,22 +11,25 @@ use Rattle.cedr_table.specs.Operators.{Tables, Meaning}
 use Rattle.cedr_laws.specs.Lists.{Lists, with_more, IsReal}
 use Rattle.cedr_laws.specs.Pass.{has_end, passed_table, front, pass}
 
--- the passed tables, the fronts and the passed lists of the ports
+-- the passed tables of the ports
 abbrev pub tables_of : List Level → Lists → Tables
 tables_of [] lists = []
 tables_of (v ∷ vs) [] = []
 tables_of (v ∷ vs) (l ∷ ls) = passed_table v l ∷ tables_of vs ls
 
+-- the fronts of the ports
 abbrev pub fronts_of : List Level → Lists → List ℕ
 fronts_of [] lists = []
 fronts_of (v ∷ vs) [] = []
 fronts_of (v ∷ vs) (l ∷ ls) = front v l ∷ fronts_of vs ls
 
+-- the passed lists of the ports
 abbrev pub passes_of : List Level → Lists → Lists
 passes_of [] lists = []
 passes_of (v ∷ vs) [] = []
 passes_of (v ∷ vs) (l ∷ ls) = pass v l ∷ passes_of vs ls
 
+-- a list is broken: Broken is among its messages
 abbrev pub has_broken : List Message → Bool
 has_broken [] = false
 has_broken (message.Change c ∷ ms) = has_broken ms
@@ -34,18 +37,21 @@ has_broken (message.Mark t ∷ ms) = has_broken ms
 has_broken (message.End ∷ ms) = has_broken ms
 has_broken (message.Broken ∷ ms) = true
 
--- some list is broken; each list has its End; each has its End or Broken
+-- some list is broken
 abbrev pub any_broken : Lists → Bool
 any_broken [] = false
 any_broken (l ∷ ls) = has_broken l || any_broken ls
 
+-- each list has its End
 abbrev pub all_end : Lists → Bool
 all_end [] = true
 all_end (l ∷ ls) = has_end l && all_end ls
 
+-- a list is over: it has its End or Broken
 abbrev pub is_over : List Message → Bool
 is_over l = has_end l || has_broken l
 
+-- each list is over
 abbrev pub all_over : Lists → Bool
 all_over [] = true
 all_over (l ∷ ls) = is_over l && all_over ls
@@ -88,10 +94,11 @@ pub record Step : Type 0 where
   pub message : Message
   pub piece : List Message
 
+-- the lists after a step
 abbrev pub lists_after : Lists → Step → Lists
 lists_after lists s = with_more lists s.port (s.message ∷ [])
 
--- each step is right behind those before it
+-- each step is right, one after the other
 abbrev pub AreRightBehind : Meaning → List Level → Lists → List Message → List Step → Type 0
 AreRightBehind meaning levels lists given [] = Unit {0}
 AreRightBehind meaning levels lists given (s ∷ ss) = IsRight meaning levels (lists_after lists s) (given ++ s.piece) s.piece × AreRightBehind meaning levels (lists_after lists s) (given ++ s.piece) ss
@@ -101,6 +108,7 @@ abbrev pub lists_behind : Lists → List Step → Lists
 lists_behind lists [] = lists
 lists_behind lists (s ∷ ss) = lists_behind (lists_after lists s) ss
 
+-- what steps gave: their pieces, one after the other
 abbrev pub given_by : List Step → List Message
 given_by [] = []
 given_by (s ∷ ss) = s.piece ++ given_by ss

@@ -7,9 +7,11 @@ use Rattle.cedr_base.specs.Rows.{count_of}
 use Rattle.cedr_base.specs.Messages.{IsTableOf}
 use Rattle.cedr_table.specs.Operators.{Tables, Meaning}
 
+-- a list of messages for each port
 abbrev pub Lists : Type 0
 Lists = List (List Message)
 
+-- the list of a port, and an empty one where there is no such port
 abbrev pub list_at : Lists → ℕ → List Message
 list_at lists port = slice_index_or lists port []
 

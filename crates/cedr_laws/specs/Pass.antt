@@ -17,6 +17,7 @@ use Rattle.cedr_base.specs.Rows.{in_order}
 use Rattle.cedr_laws.specs.Places.{each_place}
 use Rattle.cedr_laws.specs.Kept.{high_of, kept, kept_of, kept_table}
 
+-- End is among the messages
 abbrev pub has_end : List Message → Bool
 has_end [] = false
 has_end (message.Change c ∷ ms) = has_end ms
@@ -33,9 +34,11 @@ is_blocked (Some b) high r = nat_lt high (r.begin + b)
 abbrev pub is_held : Option ℕ → Bool → ℕ → ℕ → Row → Bool
 is_held block ended mark high r = not ended && (not (nat_lt r.end mark) && is_blocked block high r)
 
+-- a port holds a row, at its level and after a list of messages
 abbrev pub holds : Level → List Message → Row → Bool
 holds level ms r = is_held level.block (has_end ms) (mark_of ms) (high_of ms) r
 
+-- the rows that a port holds: those of its kept table that are held
 abbrev pub held : Level → List Message → List Row
 held level ms = filter (holds level ms) (kept_table level.memory ms)
 
@@ -53,6 +56,7 @@ abbrev pub front_at : Bool → ℕ → List Row → ℕ
 front_at true mark rows = FOREVER
 front_at false mark rows = least_begin mark rows
 
+-- the front after a list of messages
 abbrev pub front : Level → List Message → ℕ
 front level ms = front_at (has_end ms) (mark_of ms) (held level ms)
 
@@ -71,15 +75,18 @@ gained level before m =
     let own = itself level before m in
     in_order (less (passed_table level (before ++ m ∷ [])) (less (passed_table level before ++ all_puts own) (all_takes own)))
 
+-- the messages that add rows
 abbrev pub additions : List Row → List Message
 additions rows = map (λ r. message.Change (Add r)) rows
 
+-- what closes the list that is passed on: End for End, and nothing for any other message
 abbrev pub closing : Message → List Message
 closing (message.Change c) = []
 closing (message.Mark t) = []
 closing message.End = message.End ∷ []
 closing message.Broken = []
 
+-- what a message passes on: its own cut, the gained rows, the front where it rose, and the end
 abbrev pub answer : Level → List Message → Message → List Message
 answer level before m = wrapped (itself level before m) ++ (additions (gained level before m) ++ (mark_above (front level before) (front level (before ++ m ∷ [])) ++ closing m))
 
@@ -100,6 +107,7 @@ IsWithin block None = Unit {0}
 IsWithin None (Some m) = ⊥
 IsWithin (Some b) (Some m) = b ≤ m
 
+-- a level's block isn't over its memory
 abbrev pub IsLevel : Level → Type 0
 IsLevel level = IsWithin level.block level.memory
 
@@ -109,6 +117,7 @@ added [] = []
 added (Add r ∷ cs) = r ∷ added cs
 added (Cut r e ∷ cs) = added cs
 
+-- no change is a cut
 abbrev pub HasNoCut : List Change → Type 0
 HasNoCut [] = Unit {0}
 HasNoCut (Add r ∷ cs) = HasNoCut cs

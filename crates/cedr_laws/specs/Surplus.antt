@@ -16,6 +16,7 @@ less xs (y ∷ ys) = less (without y xs) ys
 abbrev pub table_of : List Change → List Row
 table_of cs = less (all_puts cs) (all_takes cs)
 
+-- a row stands after another one in canonical order
 abbrev pub is_after : Row → Row → Bool
 is_after a b = is_gt (row_cmp a b)
 

@@ -54,9 +54,9 @@ pub fn forgetting()
 {}
 
 /// The law of lawful nodes. There is a list for each level. Once a message came, and while no list is broken, what was
-/// given fits; before, nothing was given. Where some list is broken, what was given is broken exactly where each list is
-/// over. What was given of legal lists is legal, broken or not, so its `Broken` stands once, at its end, and it is open
-/// while some list is. An output gave what its port passed on, a break included.
+/// given fits; before, nothing was given. Where some list is broken, what was given is broken exactly where each list
+/// is over. What was given of legal lists is legal, broken or not, so its `Broken` stands once, at its end, and it is
+/// open while some list is. An output gave what its port passed on, a break included.
 pub fn lawful_giving()
     ensures count { (meaning : Meaning) (levels : List Level) (lists : Lists) (given : List Message) → IsLawful meaning levels lists given → length lists ≡ length levels }
     ensures fits { (meaning : Meaning) (levels : List Level) (lists : Lists) (given : List Message) → IsLawful meaning levels lists given → any_came lists ≡ true → any_broken lists ≡ false → Fits meaning levels lists given }

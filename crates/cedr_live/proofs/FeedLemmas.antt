@@ -42,6 +42,7 @@ grow_more given place ms within = record { grows = λ k. at k (same_or_not k pla
   at k (inl e) = (ms, ap (list_at (with_more given place ms)) e ∙ (at_more given place ms within ∙ ap (λ (j : ℕ). list_at given j ++ ms) (sym e)))
   at k (inr ne) = ([], at_more_other given place k ms ne ∙ sym (append-nil (list_at given k)))
 
+-- a settled network has a list for each node of what it gave
 pub given_count : (nodes : List PlanNode) (net : SerialNet) (given : Lists) → IsSettledNet nodes net given → length given ≡ length nodes
 given_count nodes net given s = s.stands.stands.flows.given_count
 
@@ -169,6 +170,7 @@ first_stands nodes player ports count guards stands =
       grow = record { grows = λ k. (list_at given k, refl) };
     }
 
+-- one guard more that stands for no line, where the others stand for none
 pub guards_push : (guards : List Guard) (guard : Guard) → ((k : ℕ) (d : Guard) → k < length guards → Guards (get_or guards k d) []) → Guards guard [] → (k : ℕ) (d : Guard) → k < length (guards ++ guard ∷ []) → Guards (get_or (guards ++ guard ∷ []) k d) []
 guards_push [] guard all one zero d within = one
 guards_push [] guard all one (suc k) d within = absurd (omega arith)

@@ -39,6 +39,7 @@ no_cut (b ∷ text) none =
 
 -- ---- the source of a name
 
+-- a node is a source of this name
 abbrev pub names : List ℕ → PlanNode → Bool
 names name node = is_named node name
 
@@ -87,22 +88,25 @@ named_source (n ∷ nodes) name place e =
 
 -- ---- shapes
 
+-- there are as many shapes as nodes
 pub shapes_count : (nodes : List PlanNode) (shapes : List Shape) → HaveTypes nodes shapes → length shapes ≡ length nodes
 shapes_count [] [] h = refl
 shapes_count [] (s ∷ shapes) h = absurd h
 shapes_count (n ∷ nodes) [] h = absurd h
 shapes_count (n ∷ nodes) (s ∷ shapes) h = omega (arith, shapes_count nodes shapes h.1)
 
+-- one node more, with a shape of its types
 pub shapes_push : (nodes : List PlanNode) (shapes : List Shape) (n : PlanNode) (s : Shape) → HaveTypes nodes shapes → HasTypes s n.types.items → HaveTypes (nodes ++ n ∷ []) (shapes ++ s ∷ [])
 shapes_push [] [] n s h has = (has, tt)
 shapes_push [] (x ∷ shapes) n s h has = absurd h
 shapes_push (m ∷ nodes) [] n s h has = absurd h
 shapes_push (m ∷ nodes) (x ∷ shapes) n s h has = (h.0, shapes_push nodes shapes n s h.1 has)
 
--- shapes as the nodes of a plan have them
+-- the shapes of a plan's nodes, each by the types of its fields
 abbrev pub own_shapes : List PlanNode → List Shape
 own_shapes nodes = map (λ (n : PlanNode). Fields n.types) nodes
 
+-- each of these shapes is of its node's types
 pub own_types : (nodes : List PlanNode) → HaveTypes nodes (own_shapes nodes)
 own_types [] = tt
 own_types (n ∷ nodes) = (refl, own_types nodes)

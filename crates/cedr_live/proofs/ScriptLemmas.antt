@@ -27,7 +27,7 @@ use Rattle.cedr_live.proofs.ShownLemmas.{appends_none, appends_along, front_alon
 
 -- ---- one line
 
--- what a line of this number does, and then what the lines behind it do
+-- what a line of this number does, and then what the lines after it do
 abbrev stepped : ℕ → Accepted → Result (Option Accepted) LineFault → (Accepted → Played) → Played
 stepped number before (Ok None) rest = asked before (rest before)
 stepped number before (Ok (Some now)) rest = rest now
@@ -56,11 +56,12 @@ step_short nodes shapes before line question short is =
 pub step_says : (nodes : List PlanNode) (shapes : List Shape) (before : Accepted) (line : List ℕ) → length line ≤ LINE_LIMIT → is_question (without_return line) ≡ false → step_of nodes shapes before line ≡ accepting (with_line nodes shapes before (without_return line))
 step_says nodes shapes before line short is = step_short nodes shapes before line false short is
 
--- it was accepted, or has a fault
+-- it was accepted
 pub takes_line : (nodes : List PlanNode) (player : Player) (before : Accepted) (shown : Lists) (step : Result (Option Accepted) LineFault) (now : Result Accepted LineFault) (old : Option (List ℕ)) → step ≡ accepting now → TakesLine (Ok tt) nodes player shown now
     → TakesStep (Ok None) nodes player before shown step old old
 takes_line nodes player before shown step now old is taken = subst (λ (s : Result (Option Accepted) LineFault). TakesStep (Ok None) nodes player before shown s old old) (sym (is ∙ ap accepting taken.1)) (taken.2, refl)
 
+-- it has a fault, which is answered
 pub line_fault : (fault : LineFault) (nodes : List PlanNode) (player : Player) (before : Accepted) (shown : Lists) (step : Result (Option Accepted) LineFault) (now : Result Accepted LineFault) (old : Option (List ℕ)) → step ≡ accepting now → now ≡ Err fault
     → TakesStep (Ok (Some fault)) nodes player before shown step old old
 line_fault fault nodes player before shown step now old is fails = (is ∙ ap accepting fails, refl)
@@ -80,7 +81,7 @@ step_alike number before (Ok None) f g same = ap (asked before) (same before)
 step_alike number before (Ok (Some now)) f g same = same now
 step_alike number before (Err fault) f g same = refl
 
--- a line and then the lines behind it; over the limit it isn't the last part
+-- a line and then the lines after it; over the limit it isn't the last part
 parts_step : (over : Bool) (nodes : List PlanNode) (shapes : List Shape) (count : ℕ) (before : Accepted) (line : List ℕ) (lines : List (List ℕ)) (step : Result (Option Accepted) LineFault) → (over ≡ true → lines ≢ []) → step_of nodes shapes before line ≡ step
     → parts_played over nodes shapes count before (line ∷ lines) ≡ stepped (count + 1) before step (λ now. parts_played over nodes shapes (count + 1) now lines)
 parts_step false nodes shapes count before line lines step more is = behind_line nodes shapes count before line lines step is
@@ -118,7 +119,7 @@ played_large nodes shapes bytes long =
 
 -- ---- so many lines were played
 
--- These parts are left. What the `?` before them showed was written, and what those behind them show goes on from that.
+-- These parts are left. What the `?` before them showed was written, and what later ones show goes on from that.
 pub record IsPlayedTo (over : Bool) (nodes : List PlanNode) (shapes : List Shape) (count : ℕ) (parts : List (List ℕ)) (player : Player) (all : Played) (old new : Option (List ℕ)) : Type 0 where
   pub before : Accepted
   pub given : Lists
@@ -130,6 +131,7 @@ pub record IsPlayedTo (over : Bool) (nodes : List PlanNode) (shapes : List Shape
   pub shown : (asks : List Accepted) (more : List ℕ) → AreShown nodes given asks more → AreShown nodes [] (done ++ asks) (text ++ more)
   pub written : Appends old new text
 
+-- before the first line nothing was written, and all parts are left
 pub first_played : (over : Bool) (nodes : List PlanNode) (shapes : List Shape) (parts : List (List ℕ)) (player : Player) (old : Option (List ℕ)) → PlaysStand nodes player (no_lines nodes) [] → IsPlayedTo over nodes shapes 0 parts player (parts_played over nodes shapes 0 (no_lines nodes) parts) old old
 first_played over nodes shapes parts player old p = record {
   before = no_lines nodes;
@@ -260,6 +262,7 @@ played_none nodes all old outside = ([], record { count = 0; shown = refl }, fro
 
 -- ---- the whole script
 
+-- playing a script comes to what playing its lines came to
 pub plays_as : (result : Result (Option Refusal) OutsideFault) (nodes : List PlanNode) (shapes : List Shape) (bytes : List ℕ) (all : Played) (old new : Option (List ℕ)) → HaveTypes nodes shapes → all ≡ played nodes shapes bytes → PlaysAs result nodes all old new → Plays result nodes bytes old new
 plays_as (Ok fault) nodes shapes bytes all old new types is h = (
   h.0,

@@ -24,16 +24,19 @@ use Rattle.cedr_live.specs.Playing.{IsShownText, PlaysStand, Shows}
 
 -- ---- what is written
 
+-- where nothing was written, an empty text was
 pub appends_none : (old : Option (List ℕ)) → Appends old old []
 appends_none None = tt
 appends_none (Some xs) = sym (append-nil xs)
 
+-- where a text was written and then another one, both were, one after the other
 pub appends_along : (first old new : Option (List ℕ)) (s t : List ℕ) → Appends first old s → Appends old new t → Appends first new (s ++ t)
 appends_along None old new s t before then = tt
 appends_along (Some xs) None new s t before then = absurd before
 appends_along (Some xs) (Some ys) None s t before then = absurd then
 appends_along (Some xs) (Some ys) (Some zs) s t before then = then ∙ (ap (λ (bs : List ℕ). bs ++ t) before ∙ append_assoc xs s t)
 
+-- where a text was written and then a front of another one, a front of both was
 pub front_along : (first old new : Option (List ℕ)) (s t : List ℕ) → Appends first old s → AppendsFront old new t → AppendsFront first new (s ++ t)
 front_along first old new s t before then = record {
   count = length s + then.count;
@@ -50,6 +53,7 @@ front_all old new text all = subst (AppendsFront old new) (append-nil text) (fro
 
 -- ---- what is shown
 
+-- the messages so far of the node at a place are those of its accepted lines
 pub messages_at : (before : Accepted) (k : ℕ) → list_at (messages_so_far before) k ≡ messages_behind [] (lines_at before k)
 messages_at [] k = refl
 messages_at (lines ∷ before) zero = refl
@@ -80,7 +84,7 @@ shows_some nodes player before shown p =
     let answer = p.settled.stands.stands.answer in
     (_, is_shown nodes player before shown _ p (player.net.flow.answer.table, answer.table, refl))
 
--- behind it the lists go on from what was shown
+-- after it the lists go on from what was shown
 pub shown_on : (nodes : List PlanNode) (player : Player) (before : Accepted) (shown : Lists) (p : PlaysStand nodes player before shown) → PlaysStand nodes player before p.given
 shown_on nodes player before shown p = record {
   lines_count = p.lines_count;

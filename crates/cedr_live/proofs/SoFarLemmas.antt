@@ -180,6 +180,8 @@ module _ (plan : Plan) (before : Lists) (lines : Accepted) (given : Lists) (text
       (subst (λ (k : ℕ). IsTableOf (list_at given k) (ending_before (mark_at (reaches tables marks nodes) k) (table_at (query tables nodes) k))) here
       (output_table nodes sources tables marks shown.ports given is.nodes run going are_tables are_marks front after output whole middle out block memory))
 
+-- where all nodes are middle, what is shown at a `?` is the rows of the query over the histories so far, and
+-- how far it reaches
 pub middle_text : (plan : Plan) (before : Lists) (lines : Accepted) (given : Lists) (text : List ℕ) → IsPlan plan → AreMiddle (length plan.nodes.items) plan.nodes.items → AreLines lines → IsShown plan.nodes.items before lines given text
     → text ≡ text_so_far (rows_so_far plan.nodes.items lines) (reach_so_far plan.nodes.items lines)
 middle_text plan before lines given text is all are shown =
@@ -196,7 +198,7 @@ middle_text plan before lines given text is all are shown =
     text_of plan before lines given text is are shown s.before s.after s.node s.whole s.place middle (rows_so_far nodes lines)
     (going_table nodes (length nodes) (messages_so_far (source_lines nodes lines)) (histories_so_far nodes lines) (guarantees_so_far nodes lines) shown.ports given is.nodes run going tables marks all place within within)
 
--- ---- the lines behind a `?`
+-- ---- the lines that a `?` follows
 
 -- the law of what lines say
 abbrev pub Law : Type 0

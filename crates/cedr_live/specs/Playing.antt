@@ -105,6 +105,8 @@ step_of nodes shapes before line =
     else if is_question (without_return line) then Ok None
     else accepting (with_line nodes shapes before (without_return line))
 
+-- what came of a line, by its step: what a `?` shows was written, the lines were accepted with it, or it has
+-- that fault. Where playing broke off, a front of what a `?` shows was written, and at any other line nothing
 abbrev pub TakesStep : Result (Option LineFault) OutsideFault → List PlanNode → Player → Accepted → Lists → Result (Option Accepted) LineFault → Option (List ℕ) → Option (List ℕ) → Type 0
 TakesStep (Ok None) nodes player before shown (Ok None) old new = Shows (Ok tt) nodes player before shown old new
 TakesStep (Ok None) nodes player before shown (Ok (Some now)) old new = PlaysStand nodes player now shown × (new ≡ old)
@@ -116,8 +118,8 @@ TakesStep (Err outside) nodes player before shown (Err fault) old new = new ≡ 
 
 -- ---- all lines
 
--- the parts of a script between its line feeds, played behind so many lines: all of them, or those of the first bytes of a
--- script over the limit
+-- the parts of a script between its line feeds, played after so many lines: all of them, or those of the first bytes of
+-- a script over the limit
 abbrev pub parts_played : Bool → List PlanNode → List Shape → ℕ → Accepted → List (List ℕ) → Played
 parts_played false nodes shapes count before parts = played_behind nodes shapes count before parts
 parts_played true nodes shapes count before parts = record {
@@ -125,7 +127,7 @@ parts_played true nodes shapes count before parts = record {
   fault = Some (first_fault (played_behind nodes shapes count before (whole_lines parts)).fault (record { line = count + length (whole_lines parts) + 1; fault = limit_fault (unfinished_line parts) }));
 }
 
--- what all `?` show is written, and this is the fault; or a front of what the first `?` show
+-- what all `?` show was written, and this is the fault; or a front was written of what the first `?` show
 abbrev pub PlaysAs : Result (Option Refusal) OutsideFault → List PlanNode → Played → Option (List ℕ) → Option (List ℕ) → Type 0
 PlaysAs (Ok fault) nodes all old new = (text : List ℕ) × AreShown nodes [] all.asks text × (fault ≡ all.fault) × Appends old new text
 PlaysAs (Err outside) nodes all old new = (text : List ℕ) × AreShownFirst nodes all.asks text × AppendsFront old new text

@@ -22,7 +22,7 @@ pub record IsPlayedSoFar (nodes : List PlanNode) (bytes : List ℕ) (text : List
   pub types : HaveTypes nodes shapes
   pub shown : AreShownFirst nodes (played nodes shapes bytes).asks text
 
--- the script's fault, where all was written; or else a front of what its first `?` show was
+-- the script's fault, where all was written; or else a front was written of what its first `?` show
 abbrev pub Plays : Result (Option Refusal) OutsideFault → List PlanNode → List ℕ → Option (List ℕ) → Option (List ℕ) → Type 0
 Plays (Ok fault) nodes bytes old new = (text : List ℕ) × IsPlayed nodes bytes text fault × Appends old new text
 Plays (Err outside) nodes bytes old new = (text : List ℕ) × IsPlayedSoFar nodes bytes text × AppendsFront old new text

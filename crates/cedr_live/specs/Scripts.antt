@@ -1,5 +1,5 @@
--- The lines of a script, judged one after the other: each is `?`, or the name of a source, a comma and an event line, which
--- is judged behind the earlier lines of that source.
+-- The lines of a script, judged one after the other: each is `?`, or the name of a source, a comma and an event line,
+-- which is judged after the earlier lines of that source.
 use Rattle.std.specs.Prelude.{ℕ, ◌+◌, ◌==◌, ◌&&◌, Bool, List, [], ◌∷◌, length, map, slice_index_or, slice_set, take, codes, nat_lt, if◌then◌else◌, Option, None, Some, Result, Ok, Err}
 use Rattle.std.specs.Str.{bytes_eq}
 use Rattle.cedr_text.specs.declared.event_line.EventLine.{EventLine}
@@ -22,11 +22,12 @@ use Rattle.op_planned.specs.Ready.{is_source}
 
 -- ---- the parts of a line
 
--- what stands before the first comma, and what stands behind it, where there is one
+-- what stands before the first comma, with one byte more before it, and what stands after the comma
 abbrev pub with_byte : ℕ → Option (List ℕ × List ℕ) → Option (List ℕ × List ℕ)
 with_byte b None = None
 with_byte b (Some cut) = Some (b ∷ cut.0, cut.1)
 
+-- what stands before the first comma, and what stands after it, where there is one
 abbrev pub cut_at_comma : List ℕ → Option (List ℕ × List ℕ)
 cut_at_comma [] = None
 cut_at_comma (b ∷ bytes) = if b == comma then Some ([], bytes) else with_byte b (cut_at_comma bytes)
@@ -62,20 +63,22 @@ abbrev pub with_lines : Accepted → ℕ → Result (List EventLine) LineFault �
 with_lines before place (Ok now) = Ok (slice_set before place now)
 with_lines before place (Err fault) = Err fault
 
--- an event line of the source at a place, behind its earlier lines. Where nothing stands behind the comma there is none.
+-- an event line of the source at a place, after its earlier lines. Where nothing stands after the comma there is none.
 abbrev pub with_event_line : List Shape → Accepted → ℕ → List ℕ → Result Accepted LineFault
 with_event_line shapes before place [] = Err BadForm
 with_event_line shapes before place (b ∷ bytes) = with_lines before place (with_reading (lines_at before place) (reading (slice_index_or shapes place AnyText) (b ∷ bytes)))
 
+-- the same of the source that was found for a name, and a fault where there is none
 abbrev pub with_named : List Shape → Accepted → Option ℕ → List ℕ → Result Accepted LineFault
 with_named shapes before None bytes = Err BadForm
 with_named shapes before (Some place) bytes = with_event_line shapes before place bytes
 
+-- the same of a line that was cut at its first comma, and a fault where there is none
 abbrev pub with_cut : List PlanNode → List Shape → Accepted → Option (List ℕ × List ℕ) → Result Accepted LineFault
 with_cut nodes shapes before None = Err BadForm
 with_cut nodes shapes before (Some cut) = with_named shapes before (named_from 0 nodes cut.0) cut.1
 
--- a line that isn't `?`, behind the accepted ones; an empty line says nothing
+-- a line that isn't `?`, after the accepted ones; an empty line says nothing
 abbrev pub with_line : List PlanNode → List Shape → Accepted → List ℕ → Result Accepted LineFault
 with_line nodes shapes before [] = Ok before
 with_line nodes shapes before (b ∷ bytes) = with_cut nodes shapes before (cut_at_comma (b ∷ bytes))
@@ -88,20 +91,24 @@ pub record Played : Type 0 where
   pub asks : List Accepted
   pub fault : Option Refusal
 
+-- a `?` and then the rest: these lines were accepted until then
 abbrev pub asked : Accepted → Played → Played
 asked before rest = record { asks = before ∷ rest.asks; fault = rest.fault }
 
+-- a line with a fault: nothing after it counts
 abbrev pub stopped : ℕ → LineFault → Played
 stopped number fault = record { asks = []; fault = Some (record { line = number; fault = fault }) }
 
+-- a line that is accepted, and then the rest; or one with a fault
 abbrev pub play_on : ℕ → Result Accepted LineFault → (Accepted → Played) → Played
 play_on number (Ok now) rest = rest now
 play_on number (Err fault) rest = stopped number fault
 
+-- the line is `?`
 abbrev pub is_question : List ℕ → Bool
 is_question line = bytes_eq line (codes "?")
 
--- each line is judged behind those before it, of which so many were
+-- each line is judged after those before it, of which there were so many
 abbrev pub played_behind : List PlanNode → List Shape → ℕ → Accepted → List (List ℕ) → Played
 played_behind nodes shapes count before [] = record { asks = []; fault = None }
 played_behind nodes shapes count before (line ∷ lines) =
@@ -109,6 +116,7 @@ played_behind nodes shapes count before (line ∷ lines) =
     else if is_question (without_return line) then asked before (played_behind nodes shapes (count + 1) before lines)
     else play_on (count + 1) (with_line nodes shapes before (without_return line)) (λ now. played_behind nodes shapes (count + 1) now lines)
 
+-- the lines of a script from the first one on, before which none was accepted
 abbrev pub played_lines : List PlanNode → List Shape → List (List ℕ) → Played
 played_lines nodes shapes lines = played_behind nodes shapes 0 (no_lines nodes) lines
 

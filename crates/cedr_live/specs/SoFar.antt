@@ -12,10 +12,11 @@ use Rattle.op_planned.specs.Ready.{is_source}
 use Rattle.cedr_live.specs.Scripts.{Accepted, lines_at}
 use Rattle.cedr_live.specs.Shown.{reach_text}
 
--- the lines of each node are accepted, one behind the other
+-- the lines of each node are accepted, one after the other
 abbrev pub AreLines : Accepted → Type 0
 AreLines lines = (k : ℕ) → AreAccepted (lines_at lines k)
 
+-- the same of the accepted lines at each of some `?`
 abbrev pub AllAreLines : List Accepted → Type 0
 AllAreLines [] = Unit {0}
 AllAreLines (lines ∷ asks) = AreLines lines × AllAreLines asks
@@ -26,17 +27,19 @@ source_lines [] lines = []
 source_lines (n ∷ nodes) [] = if is_source n.kind then [] ∷ source_lines nodes [] else source_lines nodes []
 source_lines (n ∷ nodes) (l ∷ lines) = if is_source n.kind then l ∷ source_lines nodes lines else source_lines nodes lines
 
--- their canonical histories, and their greatest guarantees
+-- the canonical histories of the lines of the sources
 abbrev pub histories_so_far : List PlanNode → Accepted → Tables
 histories_so_far nodes lines = map history_of (source_lines nodes lines)
 
+-- the greatest guarantees of the lines of the sources
 abbrev pub guarantees_so_far : List PlanNode → Accepted → List ℕ
 guarantees_so_far nodes lines = map guarantee_of (source_lines nodes lines)
 
--- the rows of the query over these histories, and how far it reaches
+-- the rows of the query over these histories
 abbrev pub rows_so_far : List PlanNode → Accepted → List Row
 rows_so_far nodes lines = table_at (query (histories_so_far nodes lines) nodes) (output_place nodes)
 
+-- how far the query over these histories reaches, by these guarantees
 abbrev pub reach_so_far : List PlanNode → Accepted → ℕ
 reach_so_far nodes lines = mark_at (reaches (histories_so_far nodes lines) (guarantees_so_far nodes lines) nodes) (output_place nodes)
 

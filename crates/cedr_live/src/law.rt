@@ -12,9 +12,9 @@ ghost use Rattle.cedr_live.specs.SoFar.{AreLines, AllAreLines, rows_so_far, reac
 
 use cedr_text::reading_law;
 
-/// The law of what is shown: the lines that stand behind a `?` are accepted. Where each node of the plan has the middle
-/// level, the rows are those of the query over the canonical histories so far, and the reach is how far it reaches. Behind
-/// middle nodes a strong output shows those of these rows that end before the reach.
+/// The law of what is shown: the lines that a `?` follows are accepted. Where each node of the plan has the middle
+/// level, the rows are those of the query over the canonical histories so far, and the reach is how far it reaches.
+/// After middle nodes a strong output shows those of these rows that end before the reach.
 pub fn shown_rows()
     ensures accepted { (nodes : List PlanNode) (shapes : List Shape) (script : List ℕ) → AllAreLines (played nodes shapes script).asks }
     ensures middle { (plan : Plan) (before : Lists) (lines : Accepted) (given : Lists) (text : List ℕ) → IsPlan plan → AreMiddle (length plan.nodes.items) plan.nodes.items → AreLines lines → IsShown plan.nodes.items before lines given text → text ≡ text_so_far (rows_so_far plan.nodes.items lines) (reach_so_far plan.nodes.items lines) }

@@ -15,7 +15,7 @@ pub(crate) fn is_question(line: &[u8]) -> bool
     line == b"?".as_slice()
 }
 
-/// What stands before the first comma of a line, and what stands behind it.
+/// What stands before the first comma of a line, and what stands after it.
 pub(crate) fn cut_at_comma(line: &[u8]) -> Option<(&[u8], &[u8])>
     ensures { MatchOption result (cut_at_comma line.now ≡ None) (λ cut. cut_at_comma line.now ≡ Some (cut.0.now, cut.1.now)) }
 {

@@ -126,7 +126,7 @@ impl Player {
         ensures { IfOk result (λ player. PlaysStand plan.now.nodes.items player (no_lines plan.now.nodes.items) []) }
     {
         let guards = guards_of(alloc, plan.nodes.len())?;
-        let net = SerialNet::new(alloc, plan)?;
+        let net = SerialNet::of_table(alloc, plan)?;
         Ok(Player { guards, net })
     }
 

@@ -13,10 +13,11 @@ use cedr_plan::Plan;
 use cedr_text::{LineFault, Parts, Shape};
 use std::alloc::Global;
 
-/// Plays a script over a plan, and answers the script's fault where it has one: its first line that isn't accepted, and why.
-/// Each line is `?`, or the name of a source, a comma and an event line, which is judged behind the earlier lines of that
-/// source and fed to the plan's network, and the network settles. At each `?` before the first fault the rows of the output
-/// so far are written in canonical order, and behind them `. ` and the reach, in one `write_all`. No source ends.
+/// Plays a script over a plan, and answers the script's fault where it has one: its first line that isn't accepted, and
+/// why. Each line is `?`, or the name of a source, a comma and an event line, which is judged after the earlier lines
+/// of that source and fed to the plan's network, and the network settles. At each `?` before the first fault the rows
+/// of the output so far are written in canonical order, and after them `. ` and the reach, in one `write_all`. No
+/// source ends.
 ///
 /// Of a script over `FILE_LIMIT` bytes it looks at the first `FILE_LIMIT` ones, which decide. O(n log n) in the rows at each
 /// `?`, besides what the guards and the operators cost.

@@ -1,4 +1,5 @@
--- Lines that are accepted one behind the other: each event has the next id, is cut at once if at all, and none begins before a guarantee.
+-- Lines that are accepted one after the other: each event has the next id, is cut at once if at all, and none
+-- begins before a guarantee.
 use Rattle.std.proofs.Common.{◌≡◌, ◌==◌, ◌+◌, ◌-◌, ◌*◌, ◌<◌, ◌≤◌, ℕ, List, [], ◌∷◌, ◌++◌, Bool, true, false, cond, ltb, ◌&&◌, length, refl, ap, sym, ◌∙◌, subst, length-append, append_assoc, append-nil, arith, Option, None, Some, Ok}
 use Rattle.std.specs.Prelude.{All, is_some}
 use Rattle.std.proofs.lemmas.Bool.{le-ltb, lt-ltb, le-leb, eq-eqb, ne_eqb, or_parts}
@@ -34,12 +35,12 @@ one_line : (line : List ℕ) → has_byte 10 line ≡ false → AreLines (line +
 one_line line none more =
     ap (parts_of line_feed) (append_assoc line (10 ∷ []) more) ∙ slice_split_at (λ b. b == line_feed) line 10 more (lacks_feeds line none) refl
 
--- texts of whole lines, one behind the other
+-- texts of whole lines, one after the other
 more_lines : (text next : List ℕ) (lines after : List (List ℕ)) → AreLines text lines → AreLines next after → AreLines (text ++ next) (lines ++ after)
 more_lines text next lines after are follow more =
     ap (parts_of line_feed) (append_assoc text next more) ∙ are (next ++ more) ∙ ap (λ rest. lines ++ rest) (follow more) ∙ sym (append_assoc lines after (parts_of line_feed more))
 
--- behind the last line feed stands nothing
+-- nothing stands after the last line feed
 end_dropped : (lines : List (List ℕ)) → without_empty_end (lines ++ [] ∷ []) ≡ lines
 end_dropped [] = refl
 end_dropped ([] ∷ []) = refl
@@ -51,9 +52,10 @@ end_dropped ((b ∷ bs) ∷ next ∷ lines) = ap (λ rest. (b ∷ bs) ∷ rest) 
 pub lines_are : (text : List ℕ) (lines : List (List ℕ)) → AreLines text lines → raw_lines text ≡ lines
 lines_are text lines are = ap (λ bytes. without_empty_end (parts_of line_feed bytes)) (sym (append-nil text)) ∙ ap without_empty_end (are []) ∙ end_dropped lines
 
--- ---- lines that are accepted, one behind the other
+-- ---- lines that are accepted, one after the other
 
--- such a text's lines are accepted as these events, of which those with an id from `next` on are none; no guarantee is above `mark`
+-- such a text's lines are accepted as these events. None of these has an id from `next` on, and no guarantee
+-- is above `mark`
 pub record Stands (shape : Shape) (text : List ℕ) (next mark most : ℕ) : Type 0 where
   pub lines : List (List ℕ)
   pub events : List EventLine
@@ -100,7 +102,7 @@ few_more line lines most few = let c = length-append lines (line ∷ []) in omeg
 not_late : (sync mark : ℕ) → mark ≤ sync → late_fault sync mark ≡ None
 not_late sync mark from = ap (λ test. cond test (Some (BeforeGuarantee sync mark)) None) (le-ltb sync mark from)
 
--- an event that isn't among some lines is looked for in those behind them
+-- an event that isn't among some lines is looked for in those after them
 passed_over : (test : Bool) (row : Row) (before behind other : Option Row) → (before ≡ None → behind ≡ other) → cond test (Some row) before ≡ None → cond test (Some row) behind ≡ other
 passed_over true row before behind other same none = cc
 passed_over false row before behind other same none = same none
@@ -151,7 +153,7 @@ stands_still shape text next mark mark' most most' rises grows s = record {
   no_event = s.no_event;
 }
 
--- behind an insertion, whose row is as it was inserted
+-- after an insertion, whose row is as it was inserted
 pub record Inserted (shape : Shape) (text : List ℕ) (id mark most : ℕ) (row : Row) : Type 0 where
   pub stands : Stands shape text (id + 1) mark most
   pub event : event_of id stands.events ≡ Some row

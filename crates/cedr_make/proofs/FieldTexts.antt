@@ -47,7 +47,7 @@ number_plain n fits =
       short = let twenty = length-decimal-le 20 n (omega arith) (omega (arith, fits)) fits in omega (arith, twenty);
     }
 
--- a digit behind a letter
+-- so is a digit after a letter
 pub key_plain : (n : ℕ) → n < 10 → IsPlain (107 ∷ decimal n)
 key_plain n fits =
     let plain = number_plain n (omega arith) in
@@ -100,6 +100,7 @@ unsigned : (digits : List ℕ) → 0 < length digits → AllDigits 10 digits →
 unsigned [] some all = absurd (omega arith)
 unsigned (c ∷ cs) some all = let digit = digit_from_value c all.0 in let other = ne_eqb c 45 (λ e. omega (arith, e, digit.0)) in cc
 
+-- a number below 2^63 reads back as one of 64 bits with sign
 pub int_of : (n : ℕ) → n < 2 ^ 63 → int_value (decimal n) ≡ Some (pos n)
 int_of n fits =
     let read = decimal_is_IsNumeral n (omega (arith, fits)) in
@@ -139,10 +140,11 @@ lack_returns : (fields : List (List ℕ)) → ArePlain fields → Lack 13 fields
 lack_returns [] plain = tt
 lack_returns (field ∷ fields) plain = (plain.0.no_return, lack_returns fields plain.1)
 
--- so a line of plain fields has no line feed and no carriage return
+-- so a line of plain fields has no line feed
 pub no_feed : (fields : List (List ℕ)) → ArePlain fields → has_byte 10 (joined fields) ≡ false
 no_feed fields plain = none_joined 10 fields refl (lack_feeds fields plain)
 
+-- and no carriage return
 pub no_return : (fields : List (List ℕ)) → ArePlain fields → has_byte 13 (joined fields) ≡ false
 no_return fields plain = none_joined 13 fields refl (lack_returns fields plain)
 

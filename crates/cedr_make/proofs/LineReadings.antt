@@ -71,26 +71,31 @@ payload_is types key value are fits =
     ap (λ (ts : List FieldType). typed_payload ts (key ∷ decimal value ∷ [])) are
     ∙ ap (λ number. with_field (Some (Bytes key)) (with_field (option_map (λ n. Number n) number) (Ok (Some [])))) (int_of value fits)
 
--- the fields of each kind of line
+-- the fields of an insertion: its sign, the id, both times, the key and the value
 abbrev pub insertion_fields : ℕ → ℕ → ℕ → ℕ → ℕ → List (List ℕ)
 insertion_fields id begin end key value = (43 ∷ []) ∷ decimal id ∷ decimal begin ∷ decimal end ∷ (107 ∷ decimal key) ∷ decimal value ∷ []
 
+-- the fields of a retraction: its sign, the id and the new end
 abbrev pub retraction_fields : ℕ → ℕ → List (List ℕ)
 retraction_fields id end = (45 ∷ []) ∷ decimal id ∷ decimal end ∷ []
 
+-- the fields of a guarantee: its sign and the time
 abbrev pub guarantee_fields : ℕ → List (List ℕ)
 guarantee_fields time = (61 ∷ []) ∷ decimal time ∷ []
 
--- they are plain
+-- a sign is plain where it is none of the bytes that mean something in a line
 sign_plain : (sign : ℕ) → has_byte 10 (sign ∷ []) ≡ false → has_byte 13 (sign ∷ []) ≡ false → has_byte 34 (sign ∷ []) ≡ false → has_byte 44 (sign ∷ []) ≡ false → IsPlain (sign ∷ [])
 sign_plain sign feed return quote comma = record { no_feed = feed; no_return = return; no_quote = quote; no_comma = comma; short = omega arith }
 
+-- the fields of an insertion are plain, where its numbers are below 2^64 and its key is one digit
 pub insertion_plain : (id begin end key value : ℕ) → id < 2 ^ 64 → begin < 2 ^ 64 → end < 2 ^ 64 → key < 10 → value < 2 ^ 64 → ArePlain (insertion_fields id begin end key value)
 insertion_plain id begin end key value a b c d e = (sign_plain 43 refl refl refl refl, (number_plain id a, (number_plain begin b, (number_plain end c, (key_plain key d, (number_plain value e, tt))))))
 
+-- the fields of a retraction are plain, where its numbers are below 2^64
 pub retraction_plain : (id end : ℕ) → id < 2 ^ 64 → end < 2 ^ 64 → ArePlain (retraction_fields id end)
 retraction_plain id end a b = (sign_plain 45 refl refl refl refl, (number_plain id a, (number_plain end b, tt)))
 
+-- the fields of a guarantee are plain, where its time is below 2^64
 pub guarantee_plain : (time : ℕ) → time < 2 ^ 64 → ArePlain (guarantee_fields time)
 guarantee_plain time a = (sign_plain 61 refl refl refl refl, (number_plain time a, tt))
 
@@ -98,7 +103,8 @@ guarantee_plain time a = (sign_plain 61 refl refl refl refl, (number_plain time 
 abbrev pub made_row : ℕ → ℕ → ℕ → ℕ → Row
 made_row begin end key value = record { end = end; begin = begin; payload = Bytes (107 ∷ decimal key) ∷ Number (pos value) ∷ [] }
 
--- what each kind of line says
+-- the line of an insertion says its id and its row, where its numbers are in range and its end is finite and
+-- above its begin
 pub insertion_says : (types : Vec FieldType Global) (id begin end key value : ℕ) → types.items ≡ event_types → id < 2 ^ 64 → begin < end → end < FOREVER → key < 10 → value < 2 ^ 63
     → line_reading (Fields types) (joined (insertion_fields id begin end key value)) ≡ Ok (Some (Insert id (made_row begin end key value)))
 insertion_says types id begin end key value are id_fits lives finite key_fits value_fits =
@@ -112,12 +118,14 @@ insertion_says types id begin end key value are id_fits lives finite key_fits va
     (payload_is types (107 ∷ decimal key) value are value_fits)
     lives)
 
+-- the line of a retraction says its id and its new end, where the id has 64 bits and the end is finite
 pub retraction_says : (shape : Shape) (id end : ℕ) → id < 2 ^ 64 → end < FOREVER → line_reading shape (joined (retraction_fields id end)) ≡ Ok (Some (Retract id end))
 retraction_says shape id end id_fits finite =
     fields_say shape (45 ∷ []) (decimal id) (decimal end ∷ []) (retraction_plain id end id_fits (omega (arith, finite))) (omega arith) refl
     ∙ ap (λ x. as_some (retracted x (time_value (decimal end)))) (whole_of (2 ^ 64 - 1) id (omega (arith, id_fits)) id_fits)
     ∙ ap (λ x. as_some (retracted (Some id) x)) (time_of end finite)
 
+-- the line of a guarantee says its time, where that is finite
 pub guarantee_says : (shape : Shape) (time : ℕ) → time < FOREVER → line_reading shape (joined (guarantee_fields time)) ≡ Ok (Some (Promise time))
 guarantee_says shape time finite =
     fields_say shape (61 ∷ []) (decimal time) [] (guarantee_plain time (omega (arith, finite))) (omega arith) refl

@@ -42,7 +42,7 @@ retraction_line source i = joined (retraction_fields i (middle_of source i))
 abbrev guarantee_line : ℕ → List ℕ
 guarantee_line i = joined (guarantee_fields (10 * (i + 1)))
 
--- five fields and a line feed behind them
+-- five fields and a line feed after them
 fed_line : (a b c d e : List ℕ) → (a ++ 44 ∷ (b ++ 44 ∷ (c ++ 44 ∷ (d ++ 44 ∷ e)))) ++ 10 ∷ [] ≡ a ++ 44 ∷ (b ++ 44 ∷ (c ++ 44 ∷ ((d ++ 44 ∷ e) ++ 10 ∷ [])))
 fed_line a b c d e =
     append_assoc a (44 ∷ (b ++ 44 ∷ (c ++ 44 ∷ (d ++ 44 ∷ e)))) (10 ∷ [])
@@ -65,7 +65,7 @@ event_is : (text a a' b b' c : List ℕ) → a' ≡ a → b' ≡ b → ((text ++
 event_is text a a' b b' c a_is b_is =
     append_assoc (text ++ a') b' c ∙ append_assoc text a' (b' ++ c) ∙ ap (λ x. text ++ (x ++ (b' ++ c))) a_is ∙ ap (λ x. text ++ (a ++ (x ++ c))) b_is
 
--- an event's lines are accepted behind those of the events before it
+-- an event's lines are accepted after those of the events before it
 event_stands : (types : Vec FieldType Global) (text : List ℕ) (source i : ℕ) → types.items ≡ event_types → i < 100000
     → Stands (Fields types) text i (10 * i) (3 * i) → Stands (Fields types) (text ++ event_text source i) (i + 1) (10 * (i + 1)) (3 * i + 1 + 1 + 1)
 event_stands types text source i are few s =

@@ -1,5 +1,5 @@
--- The plan of the workload: two sources are joined by their keys, and the pairs of each key are counted and their values
--- summed.
+-- The plan of the workload: two sources are joined by their keys, and the pairs of each key are counted and
+-- the values of their left sides summed.
 use Rattle.std.specs.Prelude.{ℕ, List, [], ◌∷◌, codes, true}
 use Rattle.cedr_base.specs.declared.field.FieldType.{FieldType}
 use Rattle.cedr_base.specs.declared.field.FieldType.TheVariants as field_type
@@ -17,7 +17,7 @@ event_types = field_type.Bytes ∷ field_type.Number ∷ []
 abbrev pub pair_types : List FieldType
 pair_types = field_type.Bytes ∷ field_type.Number ∷ field_type.Bytes ∷ field_type.Number ∷ []
 
--- a key, how many pairs it has, and the sum of their values
+-- a key, how many pairs it has, and the sum of the values of their left sides
 abbrev pub total_types : List FieldType
 total_types = field_type.Bytes ∷ field_type.Number ∷ field_type.Number ∷ []
 
@@ -33,12 +33,15 @@ node name kind inputs types = record { name = name; kind = kind; inputs = inputs
 abbrev pub source_node : List ℕ → Node
 source_node name = node name (source name) [] event_types
 
+-- the source `a`, the left side of the join
 abbrev pub left_source : Node
 left_source = source_node (codes "a")
 
+-- the source `b`, the right side of the join
 abbrev pub right_source : Node
 right_source = source_node (codes "b")
 
+-- the join of the two sources where their keys are the same
 abbrev pub pairs_node : Node
 pairs_node = node (codes "j") (join same_keys) (0 ∷ 1 ∷ []) pair_types
 
@@ -46,8 +49,10 @@ pairs_node = node (codes "j") (join same_keys) (0 ∷ 1 ∷ []) pair_types
 abbrev pub totals_node : Node
 totals_node = node (codes "g") (group (0 ∷ []) true (1 ∷ [])) (2 ∷ []) total_types
 
+-- the output: the totals of each key
 abbrev pub out_node : Node
 out_node = node (codes "out") output (3 ∷ []) total_types
 
+-- the plan: its five nodes, with 64 messages on an edge at most
 abbrev pub built_in : Drawn
 built_in = record { nodes = left_source ∷ right_source ∷ pairs_node ∷ totals_node ∷ out_node ∷ []; edge = 64 }

@@ -10,6 +10,7 @@ chance k = ((k * 40503 + 12345) % 65536) / 16
 abbrev pub seed : ℕ → ℕ → ℕ
 seed source i = 8 * i + 4 * source
 
+-- when an event begins: from ten times its number on, and less than 50 later
 abbrev pub begin_of : ℕ → ℕ → ℕ
 begin_of source i = 10 * i + chance (seed source i) % 50
 
@@ -21,6 +22,7 @@ length_of source i = 1 + chance (seed source i + 1) % 100
 abbrev pub key_of : ℕ → ℕ → ℕ
 key_of source i = chance (seed source i + 2) % 2
 
+-- the value of an event, below 1,000
 abbrev pub value_of : ℕ → ℕ → ℕ
 value_of source i = chance (seed source i + 3) % 1000
 
@@ -28,14 +30,15 @@ value_of source i = chance (seed source i + 3) % 1000
 abbrev pub payload_text : ℕ → ℕ → List ℕ
 payload_text source i = codes ",k" ++ (decimal (key_of source i) ++ comma ∷ decimal (value_of source i))
 
+-- the line of an event's insertion, with the event's number as its id
 abbrev pub insertion_text : ℕ → ℕ → List ℕ
 insertion_text source i = codes "+," ++ (decimal i ++ comma ∷ (decimal (begin_of source i) ++ comma ∷ (decimal (begin_of source i + length_of source i) ++ (payload_text source i ++ line_feed ∷ []))))
 
--- behind each fifth event: half of its length is left of it
+-- after each fifth event: half of its length is left of it
 abbrev pub retraction_text : ℕ → ℕ → List ℕ
 retraction_text source i = if nat_eq (i % 5) 4 then codes "-," ++ (decimal i ++ comma ∷ (decimal (begin_of source i + length_of source i / 2) ++ line_feed ∷ [])) else []
 
--- behind each sixteenth event: none of the next ones begins before this time
+-- after each sixteenth event: none of the next ones begins before this time
 abbrev pub guarantee_text : ℕ → List ℕ
 guarantee_text i = if nat_eq (i % 16) 15 then codes "=," ++ (decimal (10 * (i + 1)) ++ line_feed ∷ []) else []
 

@@ -40,7 +40,7 @@ fn numbers_of(source: u64, i: u64) -> EventNumbers
     }
 }
 
-/// A key and a value, each behind a comma.
+/// A key and a value, each after a comma.
 fn push_payload(
     source: u64,
     i: u64,
@@ -104,7 +104,7 @@ fn push_retraction(
     Ok(())
 }
 
-/// Behind each sixteenth event stands a guarantee.
+/// After each sixteenth event stands a guarantee.
 fn push_guarantee(i: u64, out: &mut Vec<u8>) -> Result<(), OutOfMemory>
     requires { i < 100000 }
     ensures { OnOk result (out.new.items ≡ out.old.items ++ guarantee_text i) }
@@ -130,9 +130,9 @@ fn push_event(source: u64, i: u64, out: &mut Vec<u8>) -> Result<(), OutOfMemory>
     push_guarantee(i, out)
 }
 
-/// The event file of a source of `n` events: of the plan's source `a` for 0, and of `b` for 1. Each event is an insertion;
-/// each fifth one is then cut to half of its length, and behind each sixteenth one stands a guarantee. O(n), with some 30
-/// bytes for each event.
+/// The event file of a source of `n` events: of the plan's source `a` for 0, and of `b` for 1. Each event is an
+/// insertion. Each fifth one is then cut to half of its length, and after each sixteenth one stands a guarantee. O(n),
+/// with some 30 bytes for each event.
 pub fn made_bytes(alloc: Global, n: u64, source: usize) -> Result<Vec<u8>, OutOfMemory>
     requires least { 1 ≤ n }
     requires most { n ≤ 100000 }

@@ -24,7 +24,7 @@ const PAIR: [FieldType; 4] = [
     FieldType::Number,
 ];
 
-/// A key, how many pairs it has, and the sum of their values.
+/// A key, how many pairs it has, and the sum of the values of their left sides.
 const TOTALS: [FieldType; 3] = [FieldType::Bytes, FieldType::Number, FieldType::Number];
 
 fn make_node(
@@ -106,8 +106,8 @@ fn make_nodes(alloc: Global) -> Result<Vec<PlanNode>, OutOfMemory>
     Ok(nodes)
 }
 
-/// The plan of the workload, which reads the files `a` and `b`, its two sources. They are joined by their keys, and for
-/// each key it is told how many pairs there are and what the values of `a` in them are together. Each level is middle,
+/// The plan of the workload, which reads the files `a` and `b`, its two sources. They are joined by their keys. For
+/// each key the answer has how many pairs there are, and the sum of the values of `a` in them. Each level is middle,
 /// and an edge holds 64 messages. O(1).
 pub fn made_plan(alloc: Global) -> Result<Plan, OutOfMemory>
     ensures made { IfOk result (λ plan. drawn plan ≡ built_in) }

@@ -9,17 +9,20 @@ use Rattle.cedr_laws.specs.Lists.{Lists, list_at, with_more}
 use Rattle.cedr_runs.specs.Runs.{lists_at}
 use Rattle.cedr_net.specs.Edges.{received, sent_on, readers_on, readers_from, waits_on, waits_on_all, all_wait, IsPort, ArePorts, AreSized}
 
+-- where messages come on the ports of a node, there are as many lists of what waits as before
 pub received_length : (place : ℕ) (ms : List Message) (inputs : List ℕ) (queues : Lists) → length inputs ≡ length queues → length (received place ms inputs queues) ≡ length queues
 received_length place ms [] queues len = refl
 received_length place ms (i ∷ inputs) [] len = refl
 received_length place ms (i ∷ inputs) (q ∷ queues) len = ap (λ k. suc k) (received_length place ms inputs queues (omega arith))
 
+-- of sized lists there are as many as nodes
 pub sized_length : (reads : List (List ℕ)) (waiting : List Lists) → AreSized reads waiting → length waiting ≡ length reads
 sized_length [] [] h = refl
 sized_length [] (q ∷ waiting) h = absurd h
 sized_length (r ∷ reads) [] h = absurd h
 sized_length (r ∷ reads) (q ∷ waiting) h = ap (λ k. suc k) (sized_length reads waiting h.1)
 
+-- and at each place as many as the node there has ports
 pub sized_at : (reads : List (List ℕ)) (waiting : List Lists) → AreSized reads waiting → (k : ℕ) → length (get_or reads k []) ≡ length (get_or waiting k [])
 sized_at [] [] h k = refl
 sized_at [] (q ∷ waiting) h k = absurd h
@@ -27,6 +30,7 @@ sized_at (r ∷ reads) [] h k = absurd h
 sized_at (r ∷ reads) (q ∷ waiting) h zero = h.0
 sized_at (r ∷ reads) (q ∷ waiting) h (suc k) = sized_at reads waiting h.1 k
 
+-- the first elements of a list, as many as it has, are the list
 pub take_whole : {X : Type 0} (xs : List X) (n : ℕ) → n ≡ length xs → take n xs ≡ xs
 take_whole xs n e = ap (λ (k : ℕ). take k xs) e ∙ take_all_of xs where
   take_all_of : {X : Type 0} (xs : List X) → take (length xs) xs ≡ xs
@@ -52,7 +56,7 @@ none_more : (q : List Message) (b : Bool) → cond b (q ++ []) q ≡ q
 none_more q true = append-nil q
 none_more q false = refl
 
--- more messages wait behind the first ones
+-- more messages wait after the first ones
 received_append : (place : ℕ) (ms more : List Message) (inputs : List ℕ) (queues : Lists) → received place more inputs (received place ms inputs queues) ≡ received place (ms ++ more) inputs queues
 received_append place ms more [] queues = refl
 received_append place ms more (i ∷ inputs) [] = refl
@@ -75,19 +79,21 @@ sent_nothing place [] (q ∷ waiting) h = absurd h
 sent_nothing place (r ∷ reads) [] h = absurd h
 sent_nothing place (r ∷ reads) (q ∷ waiting) h = let a = received_nothing place r q h.0 in let b = sent_nothing place reads waiting h.1 in cc
 
+-- lists stay sized where a node's messages are sent to the ports that read it
 pub sized_sent_all : (place : ℕ) (ms : List Message) (reads : List (List ℕ)) (waiting : List Lists) → AreSized reads waiting → AreSized reads (sent_on place ms reads waiting)
 sized_sent_all place ms [] [] h = h
 sized_sent_all place ms [] (q ∷ waiting) h = absurd h
 sized_sent_all place ms (r ∷ reads) [] h = absurd h
 sized_sent_all place ms (r ∷ reads) (q ∷ waiting) h = (h.0 ∙ sym (received_length place ms r q h.0), sized_sent_all place ms reads waiting h.1)
 
+-- a message that waits on the ports of two lists waits on those of the first, and then on those of the second
 pub waits_append : (waiting : List Lists) (xs ys : List (ℕ × ℕ)) (m : Message) → waits_on_all waiting (xs ++ ys) m ≡ waits_on_all (waits_on_all waiting xs m) ys m
 waits_append waiting [] ys m = refl
 waits_append waiting (x ∷ xs) ys m = waits_append (waits_on waiting x m) xs ys m
 
 -- a message waits on each port of one node that reads another one
 module _ (place : ℕ) (m : Message) (front back : List Lists) where
-  -- what is to be shown of the ports behind the first ones
+  -- what is to be shown of the ports after the first ones
   abbrev OnPorts : Lists → List ℕ → Lists → Type 0
   OnPorts done inputs queues = waits_on_all (front ++ (done ++ queues) ∷ back) (readers_on place (length front) (length done) inputs) m ≡ front ++ (done ++ received place (m ∷ []) inputs queues) ∷ back
 
@@ -152,6 +158,7 @@ one_port_more place at k (suc port) (i ∷ inputs) within =
     ap (λ (rs : List (ℕ × ℕ)). cond (nat_eq i place) ((at, k) ∷ []) [] ++ rs) (one_port_more place at (k + 1) port inputs (omega arith) ∙ ap (λ (n : ℕ). readers_on place at (k + 1) (take port inputs) ++ cond (nat_eq (get_or inputs port 0) place) ((at, n) ∷ []) []) here)
     ∙ sym (append_assoc (cond (nat_eq i place) ((at, k) ∷ []) []) (readers_on place at (k + 1) (take port inputs)) (cond (nat_eq (get_or inputs port 0) place) ((at, k + suc port) ∷ []) []))
 
+-- one port more of a node: it is one of the ports that read a place exactly where it reads it
 pub readers_one : (place at port : ℕ) (inputs : List ℕ) → port < length inputs
     → readers_on place at 0 (take (port + 1) inputs) ≡ readers_on place at 0 (take port inputs) ++ cond (nat_eq (get_or inputs port 0) place) ((at, port) ∷ []) []
 readers_one place at port inputs within =
@@ -171,6 +178,7 @@ one_node_more place at (suc k) (r ∷ reads) within =
     ap (λ (rs : List (ℕ × ℕ)). readers_on place at 0 r ++ rs) (one_node_more place (at + 1) k reads (omega arith) ∙ ap (λ (n : ℕ). readers_from place (at + 1) (take k reads) ++ readers_on place n 0 (get_or reads k [])) here)
     ∙ sym (append_assoc (readers_on place at 0 r) (readers_from place (at + 1) (take k reads)) (readers_on place (at + suc k) 0 (get_or reads k [])))
 
+-- one node more: its ports that read a place come after those of the nodes before it
 pub readers_more : (place k : ℕ) (reads : List (List ℕ)) → k < length reads
     → readers_from place 0 (take (k + 1) reads) ≡ readers_from place 0 (take k reads) ++ readers_on place k 0 (get_or reads k [])
 readers_more place k reads within =
@@ -179,7 +187,7 @@ readers_more place k reads within =
     ap (λ (n : ℕ). readers_from place 0 (take n reads)) next
     ∙ (one_node_more place 0 k reads within ∙ ap (λ (n : ℕ). readers_from place 0 (take k reads) ++ readers_on place n 0 (get_or reads k [])) here)
 
--- ports stay when a message more waits on one of them
+-- a port stays one when a message more waits on a port
 port_stays : (waiting : List Lists) (r s : ℕ × ℕ) (m : Message) → IsPort waiting r → IsPort waiting s → IsPort (waits_on waiting r m) s
 port_stays waiting r s m is port =
     let wide : length (waits_on waiting r m) ≡ length waiting = length-set waiting r.0 (with_more (lists_at waiting r.0) r.1 (m ∷ [])) in (
@@ -198,20 +206,23 @@ port_stays waiting r s m is port =
           let here : length (lists_at (waits_on waiting r m) s.0) ≡ length (lists_at waiting s.0) = ap length (get_or-set_other waiting r.0 s.0 (with_more (lists_at waiting r.0) r.1 (m ∷ [])) [] e) in
           omega (arith, here, port.1)
 
+-- some ports stay ports when a message more waits on a port
 pub ports_stay : (waiting : List Lists) (r : ℕ × ℕ) (m : Message) (rs : List (ℕ × ℕ)) → IsPort waiting r → ArePorts waiting rs → ArePorts (waits_on waiting r m) rs
 ports_stay waiting r m [] is are = tt
 ports_stay waiting r m (s ∷ rs) is are = (port_stays waiting r s m is are.0, ports_stay waiting r m rs is are.1)
 
+-- some ports stay ports when a message more waits on each of others
 pub all_stay : (rs ss : List (ℕ × ℕ)) (waiting : List Lists) (m : Message) → ArePorts waiting rs → ArePorts waiting ss → ArePorts (waits_on_all waiting rs m) ss
 all_stay [] ss waiting m are others = others
 all_stay (r ∷ rs) ss waiting m are others = all_stay rs ss (waits_on waiting r m) m (ports_stay waiting r m rs are.0 are.1) (ports_stay waiting r m ss are.0 others)
 
--- one of some ports is one, and so are the first and the last of them
+-- one of some ports is one
 pub port_at : (waiting : List Lists) (rs : List (ℕ × ℕ)) (k : ℕ) (d : ℕ × ℕ) → ArePorts waiting rs → k < length rs → IsPort waiting (get_or rs k d)
 port_at waiting [] k d are within = absurd (omega arith)
 port_at waiting (r ∷ rs) zero d are within = are.0
 port_at waiting (r ∷ rs) (suc k) d are within = port_at waiting rs k d are.1 (omega arith)
 
+-- of some ports the first ones are ports, and so are the others
 pub ports_split : (waiting : List Lists) (rs ss : List (ℕ × ℕ)) → ArePorts waiting (rs ++ ss) → ArePorts waiting rs × ArePorts waiting ss
 ports_split waiting [] ss are = (tt, are)
 ports_split waiting (r ∷ rs) ss are = let rest = ports_split waiting rs ss are.1 in ((are.0, rest.0), rest.1)
@@ -222,6 +233,7 @@ one_wait_more waiting [] k d m within = absurd (omega arith)
 one_wait_more waiting (r ∷ rs) zero d m within = refl
 one_wait_more waiting (r ∷ rs) (suc k) d m within = one_wait_more (waits_on waiting r m) rs k d m (omega arith)
 
+-- one port more: a message waits on the first ports, and then on that one
 pub waits_one : (waiting : List Lists) (rs : List (ℕ × ℕ)) (k : ℕ) (d : ℕ × ℕ) (m : Message) → k < length rs → waits_on_all waiting (take (k + 1) rs) m ≡ waits_on (waits_on_all waiting (take k rs) m) (get_or rs k d) m
 waits_one waiting rs k d m within =
     let next : k + 1 ≡ suc k = omega arith in

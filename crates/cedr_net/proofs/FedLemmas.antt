@@ -78,6 +78,7 @@ fed_none nodes net came ports stands count all = record {
   came_are = λ k d inside is. none_came came (length nodes) all k d (omega (arith, count, inside));
 }
 
+-- one place more to which nothing came, where nothing came to the others
 pub came_push : (came : List Came) (c : Came) → ((k : ℕ) (d : Came) → k < length came → StandsFor (get_or came k d) []) → StandsFor c [] → (k : ℕ) (d : Came) → k < length (came ++ c ∷ []) → StandsFor (get_or (came ++ c ∷ []) k d) []
 came_push [] c all one zero d inside = one
 came_push [] c all one (suc k) d inside = absurd (omega arith)

@@ -50,6 +50,7 @@ pub record Split (nodes : List PlanNode) (k : ℕ) : Type 0 where
   pub whole : nodes ≡ before ++ node ∷ after
   pub place : length before ≡ k
 
+-- at each place of a plan stands a node, with the nodes before it and those after it
 pub split : (nodes : List PlanNode) (k : ℕ) → k < length nodes → Split nodes k
 split [] k within = absurd (omega arith)
 split (n ∷ nodes) zero within = record { before = []; node = n; after = nodes; whole = refl; place = refl }
@@ -81,6 +82,8 @@ one_joined given place i ms l q within false h e = e ∙ sym (at_more_other give
   eq_true : (a b : ℕ) → a ≡ b → nat_eq a b ≡ true
   eq_true a b s = eq-eqb a b s
 
+-- once a node sent messages, what was taken and what waits on the ports of a node are still the lists of the
+-- nodes that it reads, with these messages more
 pub joined_received : (given : Lists) (place : ℕ) (ms : List Message) (inputs : List ℕ) (ls qs : Lists) → place < length given → length ls ≡ length qs → joined ls qs ≡ map (list_at given) inputs → joined ls (received place ms inputs qs) ≡ map (list_at (with_more given place ms)) inputs
 joined_received given place ms [] [] [] within len e = refl
 joined_received given place ms [] [] (q ∷ qs) within len e = absurd (omega arith)
@@ -119,6 +122,7 @@ joined_at given (i ∷ inputs) (l ∷ ls) (q ∷ qs) (suc k) e len within = join
   rest_of [] = []
   rest_of (x ∷ xs) = xs
 
+-- two places are the same, or they aren't
 pub same_or_not : (k place : ℕ) → (k ≡ place) ⊎ (k ≢ place)
 same_or_not k place = elim (cases_lt k place) [
   | inl h ↦ inr (λ e. absurd (omega arith))
@@ -128,7 +132,7 @@ same_or_not k place = elim (cases_lt k place) [
   ]
 ]
 
--- messages of a node are sent, and are behind what it gave
+-- messages of a node are sent, and come after what it gave
 module _ (nodes : List PlanNode) (reads : List (List ℕ)) (waiting waiting' : List Lists) (works works' : List Work) (ports ports' : List Lists) (given : Lists) (place : ℕ) (piece : List Message) (h : Flows nodes reads waiting works ports given) (within : place < length nodes)
     (sized : AreSized reads waiting') (works_count : length works' ≡ length nodes) (ports_count : length ports' ≡ length nodes)
     (widths : (k : ℕ) → length (lists_at ports' k) ≡ length (lists_at waiting' k))
@@ -318,6 +322,7 @@ module _ (nodes : List PlanNode) (reads : List (List ℕ)) (waiting : List Lists
       (sized_set reads waiting place (set (lists_at waiting place) port more) h.sized queues_length) (length-set works place w ∙ h.works_count) (length-set ports place (with_more (lists_at ports place) port (m ∷ [])) ∙ h.ports_count)
       (λ k. width_now k (same_or_not k place)) (λ k. edge_now k (same_or_not k place)) (λ before' after' n' d whole'. work_now before' after' n' d whole' (same_or_not (length before') place)) gave_legal
 
+-- for each node of a plan there are lists of what waits on its ports
 pub waits_within : (nodes : List PlanNode) (reads : List (List ℕ)) (waiting : List Lists) (works : List Work) (ports : List Lists) (given : Lists) (place : ℕ) → Flows nodes reads waiting works ports given → place < length nodes → place < length waiting
 waits_within nodes reads waiting works ports given place h within = omega (arith, within, sized_length reads waiting h.sized, ap (λ (rs : List (List ℕ)). length rs) h.reads_are, length-map nodes (λ (x : PlanNode). x.inputs.items))
 

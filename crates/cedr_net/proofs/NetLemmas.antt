@@ -40,7 +40,7 @@ module _ (nodes : List PlanNode) (old : Flow) (ports : List Lists) (given : List
   ports_in : place < length ports
   ports_in = omega (arith, h.flows.ports_count, within)
 
-  -- the piece is legal behind what the node gave
+  -- the piece is legal after what the node gave
   pub piece_legal : IsLegalBehind (list_at given place) piece
   piece_legal = legal_rest [] (list_at given place) piece (subst IsLegal (at_more given place piece given_in) ((moves (sent_on place piece (reads_of nodes) waiting') refl).flows.legal place))
 
@@ -58,7 +58,7 @@ module _ (nodes : List PlanNode) (old : Flow) (ports : List Lists) (given : List
       at (inr ne) = ap (λ (ls : Lists). length ls) (get_or-set_other ports place (output_place nodes) (with_more (lists_at ports place) port (m ∷ [])) [] ne)
 
     turn_is : MovesOn nodes (reads_of nodes) old.waiting.items new.waiting.items works' ports given place port m piece
-        → IsAnswerOf new.answer.changes.items new.answer.table (list_at (with_more given place piece) (output_place nodes))
+        → IsAnswerOf new.answer (list_at (with_more given place piece) (output_place nodes))
         → new.reach ≡ mark_of (list_at (lists_at (with_taken ports place port m) (output_place nodes)) 0) → IsTurn nodes old new ports given place piece
     turn_is mo answer reach = record {
       port = port;
@@ -86,13 +86,13 @@ module _ (nodes : List PlanNode) (old : Flow) (ports : List Lists) (given : List
     other_turn different sent same_answer same_reach =
         let apart : output_place nodes ≢ place = λ e. absurd (let k = eq-eqb place old.output (sym e ∙ sym h.output) in cc) in
         turn_is (moves new.waiting.items (sent ∙ (ap (λ (rs : List (ℕ × ℕ)). all_wait waiting' rs piece) (h.readers place within) ∙ all_sent_on)))
-        (subst (λ (a : Answer). IsAnswerOf a.changes.items a.table (list_at (with_more given place piece) (output_place nodes))) (sym same_answer)
-        (subst (λ (ms : List Message). IsAnswerOf old.answer.changes.items old.answer.table ms) (sym (at_more_other given place (output_place nodes) piece apart)) h.answer))
+        (subst (λ (a : Answer). IsAnswerOf a (list_at (with_more given place piece) (output_place nodes))) (sym same_answer)
+        (subst (λ (ms : List Message). IsAnswerOf old.answer ms) (sym (at_more_other given place (output_place nodes) piece apart)) h.answer))
         (same_reach ∙ (h.reach ∙ ap (λ (ls : Lists). mark_of (list_at ls 0)) (sym (get_or-set_other ports place (output_place nodes) (with_more (lists_at ports place) port (m ∷ [])) [] apart))))
 
     -- the output gave a piece, which is noted
     output_turn : nat_eq place old.output ≡ true → new.waiting.items ≡ waiting' → new.reach ≡ max old.reach (mark_of (m ∷ []))
-        → ((g : List Message) → IsAnswerOf old.answer.changes.items old.answer.table g → IsLegalBehind g piece → IsAnswerOf new.answer.changes.items new.answer.table (g ++ piece)) → IsTurn nodes old new ports given place piece
+        → ((g : List Message) → IsAnswerOf old.answer g → IsLegalBehind g piece → IsAnswerOf new.answer (g ++ piece)) → IsTurn nodes old new ports given place piece
     output_turn is kept risen noted =
         let same : output_place nodes ≡ place = sym (eqb-true place old.output is ∙ h.output) in
         let nobody : readers_from place 0 (reads_of nodes) ≡ [] = ap (λ (k : ℕ). readers_from k 0 (reads_of nodes)) (sym same) ∙ h.unread in
@@ -103,15 +103,15 @@ module _ (nodes : List PlanNode) (old : Flow) (ports : List Lists) (given : List
         let only : port ≡ 0 = let p = pulled.within in let w = h.flows.widths place in omega arith in
         let first : list_at (with_more (lists_at ports place) port (m ∷ [])) 0 ≡ list_at (lists_at ports place) 0 ++ m ∷ [] =
         ap (λ (k : ℕ). list_at (with_more (lists_at ports place) k (m ∷ [])) 0) only ∙ at_more ls 0 (m ∷ []) (omega arith) in
-        let answer_is : IsAnswerOf old.answer.changes.items old.answer.table (list_at given place) = subst (λ (k : ℕ). IsAnswerOf old.answer.changes.items old.answer.table (list_at given k)) same h.answer in
+        let answer_is : IsAnswerOf old.answer (list_at given place) = subst (λ (k : ℕ). IsAnswerOf old.answer (list_at given k)) same h.answer in
         turn_is (moves new.waiting.items (kept ∙ (sym (no_readers waiting' piece) ∙ (ap (λ (rs : List (ℕ × ℕ)). all_wait waiting' rs piece) (sym nobody) ∙ all_sent_on))))
-        (subst (λ (ms : List Message). IsAnswerOf new.answer.changes.items new.answer.table ms) (sym (ap (list_at (with_more given place piece)) same ∙ at_more given place piece given_in)) (noted (list_at given place) answer_is piece_legal))
+        (subst (λ (ms : List Message). IsAnswerOf new.answer ms) (sym (ap (list_at (with_more given place piece)) same ∙ at_more given place piece given_in)) (noted (list_at given place) answer_is piece_legal))
         (risen ∙ (ap (λ (t : ℕ). max t (mark_of (m ∷ []))) (h.reach ∙ ap (λ (k : ℕ). mark_of (list_at (lists_at ports k) 0)) same)
         ∙ (sym (mark-append (list_at ls 0) (m ∷ [])) ∙ ap mark_of (sym (ap (λ (xs : Lists). list_at xs 0) here ∙ first)))))
 
     -- whichever it was
     pub turn_done : (nat_eq place old.output ≡ false → (new.waiting.items ≡ all_wait waiting' (get_or old.readers.items place []) piece) × (new.answer ≡ old.answer) × (new.reach ≡ old.reach))
-        → (nat_eq place old.output ≡ true → (new.waiting.items ≡ waiting') × (new.reach ≡ max old.reach (mark_of (m ∷ []))) × ((g : List Message) → IsAnswerOf old.answer.changes.items old.answer.table g → IsLegalBehind g piece → IsAnswerOf new.answer.changes.items new.answer.table (g ++ piece)))
+        → (nat_eq place old.output ≡ true → (new.waiting.items ≡ waiting') × (new.reach ≡ max old.reach (mark_of (m ∷ []))) × ((g : List Message) → IsAnswerOf old.answer g → IsLegalBehind g piece → IsAnswerOf new.answer (g ++ piece)))
         → IsTurn nodes old new ports given place piece
     turn_done other noted = at (nat_eq place old.output) refl where
       at : (b : Bool) → nat_eq place old.output ≡ b → IsTurn nodes old new ports given place piece
@@ -141,8 +141,8 @@ flow_fed nodes old new ports given place m h within source may sent same_readers
       output_within = h.output_within;
       unread = h.unread;
       one_port = h.one_port;
-      answer = subst (λ (a : Answer). IsAnswerOf a.changes.items a.table (list_at (with_more given place (m ∷ [])) (output_place nodes))) (sym same_answer)
-          (subst (λ (ms : List Message). IsAnswerOf old.answer.changes.items old.answer.table ms) (sym (at_more_other given place (output_place nodes) (m ∷ []) apart)) h.answer);
+      answer = subst (λ (a : Answer). IsAnswerOf a (list_at (with_more given place (m ∷ [])) (output_place nodes))) (sym same_answer)
+          (subst (λ (ms : List Message). IsAnswerOf old.answer ms) (sym (at_more_other given place (output_place nodes) (m ∷ []) apart)) h.answer);
       reach = same_reach ∙ h.reach;
     }
 

@@ -34,6 +34,7 @@ use Rattle.cedr_plan.specs.declared.plan.NodeKind.{NodeKind}
 use Rattle.cedr_plan.specs.declared.plan.NodeKind.TheVariants as kind
 use Rattle.cedr_runs.proofs.PlanNodes.{node_stands}
 
+-- nodes to which nothing came, and one more
 pub new_push : (nodes : List PlanNode) (works : List Work) (n : PlanNode) (w : Work) → AllNew nodes works → WorksAt w n (no_ports n) [] → AllNew (nodes ++ n ∷ []) (works ++ w ∷ [])
 new_push [] [] n w h k = (k, tt)
 new_push [] (v ∷ works) n w h k = absurd h
@@ -50,6 +51,7 @@ new_sized : (nodes : List PlanNode) → AreSized (map (λ (n : PlanNode). n.inpu
 new_sized [] = tt
 new_sized (n ∷ nodes) = (sym (length-replicate {A = List Message} (length n.inputs.items) []), new_sized nodes)
 
+-- of lists without a message none has one
 pub no_list : (n k : ℕ) → list_at (replicate n []) k ≡ []
 no_list zero k = refl
 no_list (suc n) zero = refl
@@ -74,6 +76,7 @@ new_work [] after n (w ∷ works) d h = h.0
 new_work (b ∷ before) after n [] d h = absurd h
 new_work (b ∷ before) after n (w ∷ works) d h = new_work before after n works d h.1
 
+-- the nodes of a plan to which nothing came stand for lists without a message, and nothing waits
 pub new_flows : (nodes : List PlanNode) (works : List Work) → AreNodes [] (map node_of nodes) → AllNew nodes works → Flows nodes (reads_of nodes) (map no_ports nodes) works (map no_ports nodes) (replicate (length nodes) [])
 new_flows nodes works are new = record {
   are = are;
@@ -138,6 +141,7 @@ all_apart plan is before (n ∷ nodes) whole are = (
   all_apart plan is (before ++ n ∷ []) nodes (whole ∙ sym (append_assoc before (n ∷ []) nodes)) (subst (λ (e : List Node). AreNodes e (map node_of nodes)) (sym (map-append node_of before (n ∷ []))) are.1),
 )
 
+-- no port reads the output of a plan
 pub output_unread : (plan : Plan) → IsPlan plan → readers_from (output_place plan.nodes.items) 0 (reads_of plan.nodes.items) ≡ []
 output_unread plan is = none_from (output_place plan.nodes.items) 0 plan.nodes.items (all_apart plan is [] plan.nodes.items refl is.nodes)
 
@@ -147,6 +151,7 @@ ports_here : (before after : List PlanNode) (n : PlanNode) → lists_at (map no_
 ports_here [] after n = refl
 ports_here (b ∷ before) after n = ports_here before after n
 
+-- a kind that is that of an output is `Output`
 pub output_kind : (k : NodeKind) → is_output k ≡ true → k ≡ kind.Output
 output_kind (kind.Source file) e = cc
 output_kind (kind.Select tests) e = cc
@@ -163,6 +168,7 @@ output_kind (kind.Sequence scope tests) e = cc
 output_kind (kind.Unless scope hold tests) e = cc
 output_kind kind.Output e = refl
 
+-- the output of a plan has one port
 pub output_has_one : (plan : Plan) → IsPlan plan → length (lists_at (map no_ports plan.nodes.items) (output_place plan.nodes.items)) ≡ 1
 output_has_one plan is =
     let s = split plan.nodes.items (output_place plan.nodes.items) (place_within plan is) in
@@ -182,7 +188,7 @@ nothing_at (n ∷ nodes) (suc k) j = nothing_at nodes k j
 
 -- a flow whose parts are those of a plan to which nothing came
 pub new_flow : (plan : Plan) (flow : Flow) → IsPlan plan → length flow.readers.items ≡ length plan.nodes.items → ((k : ℕ) → k < length plan.nodes.items → get_or flow.readers.items k [] ≡ readers_from k 0 (reads_of plan.nodes.items))
-    → flow.waiting.items ≡ map no_ports plan.nodes.items → AllNew plan.nodes.items flow.works.items → flow.output ≡ output_place plan.nodes.items → IsAnswerOf flow.answer.changes.items flow.answer.table [] → flow.reach ≡ 0
+    → flow.waiting.items ≡ map no_ports plan.nodes.items → AllNew plan.nodes.items flow.works.items → flow.output ≡ output_place plan.nodes.items → IsAnswerOf flow.answer [] → flow.reach ≡ 0
     → FlowStands plan.nodes.items flow (map no_ports plan.nodes.items) (replicate (length plan.nodes.items) [])
 new_flow plan flow is count readers waiting works output answer reach =
     let nodes = plan.nodes.items in
@@ -194,7 +200,7 @@ new_flow plan flow is count readers waiting works output answer reach =
       output_within = place_within plan is;
       unread = output_unread plan is;
       one_port = output_has_one plan is;
-      answer = subst (λ (ms : List Message). IsAnswerOf flow.answer.changes.items flow.answer.table ms) (sym (no_list (length nodes) (output_place nodes))) answer;
+      answer = subst (λ (ms : List Message). IsAnswerOf flow.answer ms) (sym (no_list (length nodes) (output_place nodes))) answer;
       reach = reach ∙ ap mark_of (sym (nothing_at nodes (output_place nodes) 0));
     }
 
@@ -207,6 +213,7 @@ pub record NewUpTo (nodes : List PlanNode) (place : ℕ) (readers : List (List (
   pub waiting_are : waiting ≡ map no_ports (take place nodes)
   pub works_are : AllNew (take place nodes) works
 
+-- at first there are none
 pub none_new : (nodes : List PlanNode) (readers : List (List (ℕ × ℕ))) (waiting : List Lists) (works : List Work) → readers ≡ [] → waiting ≡ [] → works ≡ [] → NewUpTo nodes 0 readers waiting works
 none_new nodes readers waiting works no_readers no_waiting no_works = record {
   readers_count = ap (λ (rs : List (List (ℕ × ℕ))). length rs) no_readers;
@@ -241,7 +248,7 @@ new_on nodes place readers waiting works r q w n h within here reads ports work 
 
 -- where all are there
 pub new_whole : (plan : Plan) (flow : Flow) → IsPlan plan → (place : ℕ) → place ≡ length plan.nodes.items → NewUpTo plan.nodes.items place flow.readers.items flow.waiting.items flow.works.items
-    → flow.output ≡ output_place plan.nodes.items → IsAnswerOf flow.answer.changes.items flow.answer.table [] → flow.reach ≡ 0 → FlowStands plan.nodes.items flow (map no_ports plan.nodes.items) (replicate (length plan.nodes.items) [])
+    → flow.output ≡ output_place plan.nodes.items → IsAnswerOf flow.answer [] → flow.reach ≡ 0 → FlowStands plan.nodes.items flow (map no_ports plan.nodes.items) (replicate (length plan.nodes.items) [])
 new_whole plan flow is place end h output answer reach =
     let all : take place plan.nodes.items ≡ plan.nodes.items = take_all place plan.nodes.items (omega arith) in
     new_flow plan flow is (h.readers_count ∙ end) (λ k inside. h.readers_are k (omega arith)) (h.waiting_are ∙ ap (map no_ports) all) (subst (λ (ns : List PlanNode). AllNew ns flow.works.items) all h.works_are) output answer reach

@@ -20,12 +20,15 @@ fewer [] port m more front = absurd (let e = ap (λ (ms : List Message). length 
 fewer (q ∷ qs) zero m more front = let e = ap (λ (ms : List Message). length ms) front in omega (arith, e, sum_by-cons (λ (x : List Message). length x) q qs, sum_by-cons (λ (x : List Message). length x) more qs)
 fewer (q ∷ qs) (suc port) m more front = omega (arith, fewer qs port m more front, sum_by-cons (λ (x : List Message). length x) q qs, sum_by-cons (λ (x : List Message). length x) q (set qs port more))
 
+-- after a turn of a node fewer messages wait on its ports
 pub turn_fewer : (nodes : List PlanNode) (old new : Flow) (ports : List Lists) (given : Lists) (place : ℕ) (piece : List Message) → IsTurn nodes old new ports given place piece → waiting_count (lists_at new.waiting.items place) < waiting_count (lists_at old.waiting.items place)
 turn_fewer nodes old new ports given place piece t = omega (arith, ap waiting_count t.own, fewer (lists_at old.waiting.items place) t.port t.message t.more t.front)
 
+-- lists go on from themselves
 pub grow_none : (given : Lists) → AllGrow given given
 grow_none given = record { grows = λ k. ([], sym (append-nil (list_at given k))) }
 
+-- lists that go on from others that go on from first ones go on from the first ones
 pub grow_along : (a b c : Lists) → AllGrow a b → AllGrow b c → AllGrow a c
 grow_along a b c h j = record {
   grows = λ k. let x = h.grows k in let y = j.grows k in (x.0 ++ y.0, y.1 ∙ (ap (λ (ms : List Message). ms ++ y.0) x.1 ∙ append_assoc (list_at a k) x.0 y.0));
@@ -60,6 +63,7 @@ way_on nodes first old new given place piece within w t = record {
   earlier = λ k before. t.earlier k before ∙ w.earlier k before;
 }
 
+-- a network that took no turn is on its way
 pub way_first : (nodes : List PlanNode) (flow : Flow) (ports : List Lists) (given : Lists) (place : ℕ) → FlowStands nodes flow ports given → IsOnTheWay nodes flow flow given place
 way_first nodes flow ports given place h = record { ports = ports; given' = given; stands = h; sources = λ k source. refl; grow = grow_none given; earlier = λ k before. refl }
 
@@ -70,6 +74,7 @@ drained nodes first old new given place w stands same none = record {
   empty = subst (λ (ws : List Lists). NothingWaits (lists_at ws place)) (sym same) none;
 }
 
+-- a network that took no turn is settled at the first 0 places
 pub settled_first : (nodes : List PlanNode) (flow : Flow) (ports : List Lists) (given : Lists) → FlowStands nodes flow ports given → IsSettledUpTo nodes flow given 0
 settled_first nodes flow ports given h = record { ports = ports; given' = given; stands = h; sources = λ k source. refl; grow = grow_none given; empty = λ k within. absurd (omega arith) }
 

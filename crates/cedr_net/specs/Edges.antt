@@ -26,10 +26,11 @@ abbrev pub readers_from : ℕ → ℕ → List (List ℕ) → List (ℕ × ℕ)
 readers_from place at [] = []
 readers_from place at (inputs ∷ reads) = readers_on place at 0 inputs ++ readers_from place (at + 1) reads
 
--- a message more waits on a port, and on each of some ports
+-- a message more waits on a port
 abbrev pub waits_on : List Lists → ℕ × ℕ → Message → List Lists
 waits_on waiting reader m = slice_set waiting reader.0 (with_more (lists_at waiting reader.0) reader.1 (m ∷ []))
 
+-- a message more waits on each of some ports
 abbrev pub waits_on_all : List Lists → List (ℕ × ℕ) → Message → List Lists
 waits_on_all waiting [] m = waiting
 waits_on_all waiting (r ∷ rs) m = waits_on_all (waits_on waiting r m) rs m
@@ -43,6 +44,7 @@ all_wait waiting readers (m ∷ ms) = all_wait (waits_on_all waiting readers m) 
 abbrev pub IsPort : List Lists → ℕ × ℕ → Type 0
 IsPort waiting reader = (reader.0 < length waiting) × (reader.1 < length (lists_at waiting reader.0))
 
+-- there are such ports
 abbrev pub ArePorts : List Lists → List (ℕ × ℕ) → Type 0
 ArePorts waiting [] = Unit {0}
 ArePorts waiting (r ∷ rs) = IsPort waiting r × ArePorts waiting rs

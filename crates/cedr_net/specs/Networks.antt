@@ -1,22 +1,21 @@
 -- A network, and the lists that went over it.
 use Rattle.std.specs.Prelude.{ℕ, ◌≡◌, ◌<◌, List, [], ◌∷◌, ◌++◌, length, slice_index_or, slice_set, Bool, true, false}
-use Rattle.cedr_base.specs.declared.row.Row.{Row}
-use Rattle.cedr_base.specs.declared.change.Change.{Change}
 use Rattle.cedr_base.specs.declared.change.Message.{Message}
 use Rattle.cedr_base.specs.Messages.{changes_of, mark_of, IsTableOf}
 use Rattle.cedr_laws.specs.Lists.{Lists, list_at, with_more}
 use Rattle.cedr_plan.specs.declared.plan.PlanNode.{PlanNode}
 use Rattle.cedr_query.specs.Queries.{output_place}
 use Rattle.cedr_runs.specs.Runs.{lists_at}
+use Rattle.cedr_net.specs.declared.answer.Answer.{Answer}
 use Rattle.cedr_net.specs.declared.flow.Flow.{Flow}
 use Rattle.cedr_net.specs.declared.net.SerialNet.{SerialNet}
 use Rattle.cedr_net.specs.Edges.{readers_from, NothingWaits}
 use Rattle.cedr_net.specs.Flows.{reads_of, Flows, IsSourceAt, PortAt, with_taken}
 
--- the changes of a list, and its table
-pub record IsAnswerOf (changes : List Change) (rows : List Row) (given : List Message) : Type 0 where
-  pub changes_are : changes ≡ changes_of given
-  pub table : IsTableOf given rows
+-- the table of a list and, where changes are kept, these
+pub record IsAnswerOf (answer : Answer) (given : List Message) : Type 0 where
+  pub changes_are : answer.keeps ≡ true → answer.changes.items ≡ changes_of given
+  pub table : IsTableOf given answer.table
 
 -- a network stands for the lists that were taken on the ports of each node of a plan and the list that each node gave:
 -- its edges are those of the plan, and its answer and its reach are those of the output
@@ -28,14 +27,18 @@ pub record FlowStands (nodes : List PlanNode) (flow : Flow) (ports : List Lists)
   pub output_within : output_place nodes < length nodes
   pub unread : readers_from (output_place nodes) 0 (reads_of nodes) ≡ []
   pub one_port : length (lists_at ports (output_place nodes)) ≡ 1
-  pub answer : IsAnswerOf flow.answer.changes.items flow.answer.table (list_at given (output_place nodes))
+  pub answer : IsAnswerOf flow.answer (list_at given (output_place nodes))
   pub reach : flow.reach ≡ mark_of (list_at (lists_at ports (output_place nodes)) 0)
 
 -- memory ran out in a call
 abbrev pub is_spent : SerialNet → Bool
 is_spent net = net.spent
 
--- and it is usable
+-- the changes that the output gave are kept
+abbrev pub keeps_changes : SerialNet → Bool
+keeps_changes net = net.flow.answer.keeps
+
+-- a network stands for such lists, and it is usable
 pub record NetStands (nodes : List PlanNode) (net : SerialNet) (ports : List Lists) (given : Lists) : Type 0 where
   pub usable : is_spent net ≡ false
   pub stands : FlowStands nodes net.flow ports given
@@ -103,18 +106,20 @@ pub record IsSettled (nodes : List PlanNode) (new : SerialNet) (given : Lists) :
 abbrev pub HasPort : SerialNet → ℕ → ℕ → Type 0
 HasPort net place port = PortAt net.flow.works.items place port
 
--- where the lists stand behind a turn of the node at a place
+-- where the lists stand after a turn of the node at a place
 pub record TurnsTo (nodes : List PlanNode) (old new : SerialNet) (ports : List Lists) (given : Lists) (place : ℕ) (ports' : List Lists) (given' : Lists) : Type 0 where
   pub moved : Bool
   pub turn : IsNetTurn nodes old new ports given place moved
   pub taken : moved ≡ true → (piece : List Message) × (t : IsTurn nodes old.flow new.flow ports given place piece) × (ports' ≡ with_taken ports place t.port t.message) × (given' ≡ with_more given place piece)
   pub idle : moved ≡ false → (ports' ≡ ports) × (given' ≡ given)
 
--- the nodes at these places were turned, one after the other; no source gave anything
+-- the nodes at these places were turned, one after the other
 abbrev pub TurnsAlong : List PlanNode → SerialNet → SerialNet → List Lists → Lists → List ℕ → List Lists → Lists → Type 0
 TurnsAlong nodes old new ports given [] ports' given' = (new ≡ old) × (ports' ≡ ports) × (given' ≡ given)
 TurnsAlong nodes old new ports given (place ∷ places) ports' given' = (next : SerialNet) × (ports₁ : List Lists) × (given₁ : Lists) × TurnsTo nodes old next ports given place ports₁ given₁ × TurnsAlong nodes next new ports₁ given₁ places ports' given'
 
+-- the nodes at these places were turned, one after the other: the network stands for the lists then, and no
+-- source gave anything
 pub record IsScheduled (nodes : List PlanNode) (old new : SerialNet) (ports : List Lists) (given : Lists) (places : List ℕ) : Type 0 where
   pub ports' : List Lists
   pub given' : Lists

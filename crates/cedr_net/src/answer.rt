@@ -1,4 +1,4 @@
-ghost use Rattle.std.specs.Prelude.{◌≡◌, ◌++◌, ◌∷◌, [], List, OnOk};
+ghost use Rattle.std.specs.Prelude.{◌≡◌, ◌++◌, ◌∷◌, [], List, true, OnOk};
 ghost use Rattle.cedr_base.specs.declared.change.Message.{Message};
 ghost use Rattle.cedr_base.specs.declared.change.Message.TheVariants as message;
 ghost use Rattle.cedr_base.specs.Changes.{MayFollow};
@@ -10,17 +10,19 @@ use cedr_base::{Change, Message, OutOfMemory};
 use cedr_table::{Table, TableFault};
 use std::alloc::Global;
 
-/// The changes that came of an output, and their table.
+/// The table of the changes that came of an output and, where they are kept, these changes.
 #[derive(Drop)]
 pub(crate) struct Answer {
+    pub(crate) keeps: bool,
+    /// None where they aren't kept.
     pub(crate) changes: Vec<Change>,
     pub(crate) table: Table,
 }
 
 /// Applies a change that may follow in a table.
-fn apply_one(table: &mut Table, change: &Change) -> Result<(), OutOfMemory>
-    requires { MayFollow table.old [] change.now }
-    ensures { OnOk result (IsMoved change.now table.old table.new) }
+fn apply_one(table: &mut Table, change: Change) -> Result<(), OutOfMemory>
+    requires { MayFollow table.old [] change }
+    ensures { OnOk result (IsMoved change table.old table.new) }
 {
     match table.apply(change) {
         Ok(()) => Ok(()),
@@ -31,27 +33,43 @@ fn apply_one(table: &mut Table, change: &Change) -> Result<(), OutOfMemory>
 
 impl Answer {
     /// Nothing came.
-    pub(crate) fn new(alloc: Global) -> Answer
-        ensures { IsAnswerOf result.changes.items result.table [] }
+    pub(crate) fn new(alloc: Global, keeps: bool) -> Answer
+        ensures answer { IsAnswerOf result [] }
+        ensures keeps { result.keeps ≡ keeps }
     {
         Answer {
+            keeps,
             changes: Vec::new(alloc),
             table: Table::new(alloc),
         }
     }
 
-    fn note_change(&mut self, change: Change) -> Result<(), OutOfMemory>
-        requires { (given : List Message) × IsAnswerOf self.old.changes.items self.old.table given × MayCome given (message.Change change) }
-        ensures { OnOk result ((given : List Message) → IsAnswerOf self.old.changes.items self.old.table given → MayCome given (message.Change change) → IsAnswerOf self.new.changes.items self.new.table (given ++ message.Change change ∷ [])) }
+    /// Keeps a copy of a change, where changes are kept.
+    fn keep(&mut self, change: &Change) -> Result<(), OutOfMemory>
+        ensures kept { OnOk result (self.old.keeps ≡ true → self.new.changes.items ≡ self.old.changes.items ++ change.now ∷ []) }
+        ensures others { (self.new.keeps ≡ self.old.keeps) × (self.new.table ≡ self.old.table) }
     {
-        apply_one(&mut self.table, &change)?;
-        self.changes.push(change)?;
+        if self.keeps {
+            let copied = change.copy(*self.changes.allocator())?;
+            self.changes.push(copied)?;
+        }
+        Ok(())
+    }
+
+    fn note_change(&mut self, change: Change) -> Result<(), OutOfMemory>
+        requires { (given : List Message) × IsAnswerOf self.old given × MayCome given (message.Change change) }
+        ensures noted { OnOk result ((given : List Message) → IsAnswerOf self.old given → MayCome given (message.Change change) → IsAnswerOf self.new (given ++ message.Change change ∷ [])) }
+        ensures keeps { self.new.keeps ≡ self.old.keeps }
+    {
+        self.keep(&change)?;
+        apply_one(&mut self.table, change)?;
         Ok(())
     }
 
     fn note(&mut self, message: Message) -> Result<(), OutOfMemory>
-        requires { (given : List Message) × IsAnswerOf self.old.changes.items self.old.table given × MayCome given message }
-        ensures { OnOk result ((given : List Message) → IsAnswerOf self.old.changes.items self.old.table given → MayCome given message → IsAnswerOf self.new.changes.items self.new.table (given ++ message ∷ [])) }
+        requires { (given : List Message) × IsAnswerOf self.old given × MayCome given message }
+        ensures noted { OnOk result ((given : List Message) → IsAnswerOf self.old given → MayCome given message → IsAnswerOf self.new (given ++ message ∷ [])) }
+        ensures keeps { self.new.keeps ≡ self.old.keeps }
     {
         match message {
             Message::Change(change) => self.note_change(change),
@@ -63,8 +81,9 @@ impl Answer {
 
     /// A piece came of the output.
     pub(crate) fn note_all(&mut self, piece: Vec<Message>) -> Result<(), OutOfMemory>
-        requires { (given : List Message) × IsAnswerOf self.old.changes.items self.old.table given × IsLegalBehind given piece.items }
-        ensures { OnOk result ((given : List Message) → IsAnswerOf self.old.changes.items self.old.table given → IsLegalBehind given piece.items → IsAnswerOf self.new.changes.items self.new.table (given ++ piece.items)) }
+        requires { (given : List Message) × IsAnswerOf self.old given × IsLegalBehind given piece.items }
+        ensures noted { OnOk result ((given : List Message) → IsAnswerOf self.old given → IsLegalBehind given piece.items → IsAnswerOf self.new (given ++ piece.items)) }
+        ensures keeps { self.new.keeps ≡ self.old.keeps }
     {
         for message in piece {
             self.note(message)?;

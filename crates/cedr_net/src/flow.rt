@@ -46,7 +46,7 @@ fn mark_in(message: &Message) -> Time
     }
 }
 
-/// The node at a place takes a message, and its piece is told.
+/// The node at a place takes a message, and the piece that it gives for it is answered.
 fn take_at(
     alloc: Global,
     works: &mut Vec<Work>,
@@ -79,10 +79,11 @@ fn pass_on(
 }
 
 impl Flow {
-    /// The nodes of a plan, to which nothing came.
-    pub(crate) fn new(alloc: Global, plan: &Plan) -> Result<Flow, OutOfMemory>
+    /// The nodes of a plan, to which nothing came, and whether the output's changes are kept.
+    pub(crate) fn new(alloc: Global, plan: &Plan, keeps: bool) -> Result<Flow, OutOfMemory>
         requires { IsPlan plan.now }
-        ensures { IfOk result (λ flow. FlowStands plan.now.nodes.items flow (map no_ports plan.now.nodes.items) (replicate (length plan.now.nodes.items) [])) }
+        ensures stands { IfOk result (λ flow. FlowStands plan.now.nodes.items flow (map no_ports plan.now.nodes.items) (replicate (length plan.now.nodes.items) [])) }
+        ensures keeps { IfOk result (λ flow. flow.answer.keeps ≡ keeps) }
     {
         let nodes = plan.nodes.as_slice();
         let mut readers = Vec::new(alloc);
@@ -99,7 +100,7 @@ impl Flow {
             waiting,
             works,
             output: find_output(nodes),
-            answer: Answer::new(alloc),
+            answer: Answer::new(alloc, keeps),
             reach: 0,
         })
     }
@@ -112,7 +113,8 @@ impl Flow {
         message: Message,
     ) -> Result<(), OutOfMemory>
         requires { (nodes : List PlanNode) × (ports : List Lists) × (given : Lists) × FlowStands nodes self.old ports given × (place < length nodes) }
-        ensures { OnOk result ((nodes : List PlanNode) (ports : List Lists) (given : Lists) → FlowStands nodes self.old ports given → place < length nodes → IsSourceAt nodes place → MayCome (list_at given place) message → FlowStands nodes self.new ports (with_more given place (message ∷ []))) }
+        ensures fed { OnOk result ((nodes : List PlanNode) (ports : List Lists) (given : Lists) → FlowStands nodes self.old ports given → place < length nodes → IsSourceAt nodes place → MayCome (list_at given place) message → FlowStands nodes self.new ports (with_more given place (message ∷ []))) }
+        ensures keeps { self.new.answer.keeps ≡ self.old.answer.keeps }
     {
         let mut sent = Vec::new(alloc);
         sent.push(message)?;
@@ -136,9 +138,10 @@ impl Flow {
     ) -> Result<(), OutOfMemory>
         requires place { place < length self.old.readers.items }
         requires ports { ArePorts self.old.waiting.items (slice_index_or self.old.readers.items place []) }
-        requires noted { nat_eq place self.old.output ≡ true → (given : List Message) × IsAnswerOf self.old.answer.changes.items self.old.answer.table given × IsLegalBehind given piece.items }
+        requires noted { nat_eq place self.old.output ≡ true → (given : List Message) × IsAnswerOf self.old.answer given × IsLegalBehind given piece.items }
         ensures sent { OnOk result (nat_eq place self.old.output ≡ false → (self.new.waiting.items ≡ all_wait self.old.waiting.items (slice_index_or self.old.readers.items place []) piece.items) × (self.new.answer ≡ self.old.answer) × (self.new.reach ≡ self.old.reach)) }
-        ensures noted { OnOk result (nat_eq place self.old.output ≡ true → (self.new.waiting.items ≡ self.old.waiting.items) × (self.new.reach ≡ max self.old.reach mark) × ((given : List Message) → IsAnswerOf self.old.answer.changes.items self.old.answer.table given → IsLegalBehind given piece.items → IsAnswerOf self.new.answer.changes.items self.new.answer.table (given ++ piece.items))) }
+        ensures noted { OnOk result (nat_eq place self.old.output ≡ true → (self.new.waiting.items ≡ self.old.waiting.items) × (self.new.reach ≡ max self.old.reach mark) × ((given : List Message) → IsAnswerOf self.old.answer given → IsLegalBehind given piece.items → IsAnswerOf self.new.answer (given ++ piece.items))) }
+        ensures keeps { self.new.answer.keeps ≡ self.old.answer.keeps }
         ensures others { OnOk result ((self.new.readers.items ≡ self.old.readers.items) × (self.new.works.items ≡ self.old.works.items) × (self.new.output ≡ self.old.output)) }
     {
         if place == self.output {
@@ -160,6 +163,7 @@ impl Flow {
         requires { (nodes : List PlanNode) × (ports : List Lists) × (given : Lists) × FlowStands nodes self.old ports given × (place < length nodes) }
         ensures turned { IfOk result (λ moved. moved ≡ true → (piece : List Message) × ((nodes : List PlanNode) (ports : List Lists) (given : Lists) → FlowStands nodes self.old ports given → place < length nodes → IsTurn nodes self.old self.new ports given place piece)) }
         ensures idle { IfOk result (λ moved. moved ≡ false → NothingWaits (lists_at self.old.waiting.items place) × (self.new.waiting.items ≡ self.old.waiting.items) × ((nodes : List PlanNode) (ports : List Lists) (given : Lists) → FlowStands nodes self.old ports given → FlowStands nodes self.new ports given)) }
+        ensures keeps { self.new.answer.keeps ≡ self.old.answer.keeps }
     {
         match pull_at(&mut self.waiting, place) {
             None => Ok(false),
@@ -175,7 +179,8 @@ impl Flow {
     /// The node at a place takes all that waits on its ports.
     pub(crate) fn drain(&mut self, alloc: Global, place: usize) -> Result<(), OutOfMemory>
         requires { (nodes : List PlanNode) × (ports : List Lists) × (given : Lists) × FlowStands nodes self.old ports given × (place < length nodes) }
-        ensures { OnOk result ((nodes : List PlanNode) (ports : List Lists) (given : Lists) → FlowStands nodes self.old ports given → place < length nodes → IsDrained nodes self.old self.new given place) }
+        ensures drained { OnOk result ((nodes : List PlanNode) (ports : List Lists) (given : Lists) → FlowStands nodes self.old ports given → place < length nodes → IsDrained nodes self.old self.new given place) }
+        ensures keeps { self.new.answer.keeps ≡ self.old.answer.keeps }
     {
         while self.turn(alloc, place)? {}
         Ok(())
@@ -185,7 +190,8 @@ impl Flow {
     /// taken for good.
     pub(crate) fn settle(&mut self, alloc: Global) -> Result<(), OutOfMemory>
         requires { (nodes : List PlanNode) × (ports : List Lists) × (given : Lists) × FlowStands nodes self.old ports given }
-        ensures { OnOk result ((nodes : List PlanNode) (ports : List Lists) (given : Lists) → FlowStands nodes self.old ports given → IsSettledUpTo nodes self.new given (length nodes)) }
+        ensures settled { OnOk result ((nodes : List PlanNode) (ports : List Lists) (given : Lists) → FlowStands nodes self.old ports given → IsSettledUpTo nodes self.new given (length nodes)) }
+        ensures keeps { self.new.answer.keeps ≡ self.old.answer.keeps }
     {
         for place in 0..self.works.len() {
             self.drain(alloc, place)?;

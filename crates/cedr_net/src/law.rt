@@ -12,9 +12,10 @@ ghost use Rattle.cedr_net.specs.declared.net.SerialNet.{SerialNet};
 ghost use Rattle.cedr_net.specs.Edges.{NothingWaits};
 ghost use Rattle.cedr_net.specs.Networks.{NetStands, HasPort, waiting_at};
 
-/// The law of a network's lists: whatever was fed and turned they are a partial run of its plan, and a run where nothing
-/// waits. Once each source has ended besides, the table of what the output gave is that of the query with what each port
-/// forgot left out, and where no memory is finite that of the query. There is a list for each port of each node.
+/// The law of a network's lists: whatever was fed and turned, they are a partial run of its plan, and where nothing
+/// waits they are a run. Once each source has ended besides, the table of what the output gave is that of the query
+/// with what each port forgot left out, and where no memory is finite that of the query. There is a list for each port
+/// of each node.
 pub fn network_runs()
     ensures widths { (nodes : List PlanNode) (net : SerialNet) (ports : List Lists) (given : Lists) → NetStands nodes net ports given → (before after : List PlanNode) (n : PlanNode) → nodes ≡ before ++ n ∷ after → length (lists_at ports (length before)) ≡ length n.inputs.items }
     ensures ports { (nodes : List PlanNode) (net : SerialNet) (ports : List Lists) (given : Lists) → NetStands nodes net ports given → (place port : ℕ) → place < length nodes → port < length (lists_at ports place) → HasPort net place port }

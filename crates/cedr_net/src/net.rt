@@ -9,7 +9,7 @@ ghost use Rattle.cedr_query.specs.Queries.{output_place};
 ghost use Rattle.cedr_runs.specs.Runs.{lists_at};
 ghost use Rattle.cedr_net.specs.declared.net.NetFault.TheVariants.{OutOfMemory as NoMemory, Spent};
 ghost use Rattle.cedr_net.specs.Flows.{IsSourceAt, no_ports};
-ghost use Rattle.cedr_net.specs.Networks.{is_spent, NetStands, HasPort, IsNetTurn, IsSettled, IsScheduled};
+ghost use Rattle.cedr_net.specs.Networks.{is_spent, keeps_changes, NetStands, HasPort, IsNetTurn, IsSettled, IsScheduled};
 
 use crate::flow::Flow;
 use crate::work::{ended_at, forgotten_at};
@@ -23,7 +23,7 @@ use thiserror::Error;
 /// Why a network gives no answer.
 #[derive(Clone, Copy, Debug, PartialEq, Eq, Error)]
 pub enum NetFault {
-    /// Memory ran out. Each later call is refused as spent.
+    /// Memory ran out. Each later call that takes a message or runs a node is refused as spent.
     #[error("out of memory")]
     OutOfMemory,
     /// Memory ran out in an earlier call, so what the network stands for isn't known any more.
@@ -43,16 +43,28 @@ pub struct SerialNet {
 }
 
 impl SerialNet {
-    /// The network of a plan, to which nothing came. O(n * n) in the plan's nodes.
+    /// The network of a plan, to which nothing came. It keeps each change that the output gives. O(n * n) in the plan's
+    /// nodes.
     pub fn new(alloc: Global, plan: &Plan) -> Result<SerialNet, OutOfMemory>
         requires { IsPlan plan.now }
-        ensures { IfOk result (λ net. NetStands plan.now.nodes.items net (map no_ports plan.now.nodes.items) (replicate (length plan.now.nodes.items) [])) }
+        ensures stands { IfOk result (λ net. NetStands plan.now.nodes.items net (map no_ports plan.now.nodes.items) (replicate (length plan.now.nodes.items) [])) }
+        ensures keeps { IfOk result (λ net. keeps_changes net ≡ true) }
     {
-        let flow = Flow::new(alloc, plan)?;
+        let flow = Flow::new(alloc, plan, true)?;
         Ok(SerialNet { flow, spent: false })
     }
 
-    /// A message of a source, which may come behind those before it, waits on each port that reads it. It is copied for
+    /// The same, but of what the output gives it keeps the table alone: what is held then doesn't grow with the number of
+    /// changes.
+    pub fn of_table(alloc: Global, plan: &Plan) -> Result<SerialNet, OutOfMemory>
+        requires { IsPlan plan.now }
+        ensures { IfOk result (λ net. NetStands plan.now.nodes.items net (map no_ports plan.now.nodes.items) (replicate (length plan.now.nodes.items) [])) }
+    {
+        let flow = Flow::new(alloc, plan, false)?;
+        Ok(SerialNet { flow, spent: false })
+    }
+
+    /// A message of a source, which may come after those before it, waits on each port that reads it. It is copied for
     /// each such port but the last one.
     pub fn feed(&mut self, alloc: Global, node: usize, message: Message) -> Result<(), NetFault>
         requires { is_spent self.old ≡ false → (nodes : List PlanNode) × (ports : List Lists) × (given : Lists) × NetStands nodes self.old ports given × (node < length nodes) × IsSourceAt nodes node × MayCome (list_at given node) message }
@@ -60,6 +72,7 @@ impl SerialNet {
         ensures spent { IsErrOf result Spent ↔ (is_spent self.old ≡ true) }
         ensures spends { IsErrOf result NoMemory → is_spent self.new ≡ true }
         ensures stays_spent { is_spent self.old ≡ true → is_spent self.new ≡ true }
+        ensures keeps { keeps_changes self.new ≡ keeps_changes self.old }
     {
         if self.spent {
             return Err(NetFault::Spent);
@@ -81,6 +94,7 @@ impl SerialNet {
         ensures spent { IsErrOf result Spent ↔ (is_spent self.old ≡ true) }
         ensures spends { IsErrOf result NoMemory → is_spent self.new ≡ true }
         ensures stays_spent { is_spent self.old ≡ true → is_spent self.new ≡ true }
+        ensures keeps { keeps_changes self.new ≡ keeps_changes self.old }
     {
         if self.spent {
             return Err(NetFault::Spent);
@@ -102,6 +116,7 @@ impl SerialNet {
         ensures spent { IsErrOf result Spent ↔ (is_spent self.old ≡ true) }
         ensures spends { IsErrOf result NoMemory → is_spent self.new ≡ true }
         ensures stays_spent { is_spent self.old ≡ true → is_spent self.new ≡ true }
+        ensures keeps { keeps_changes self.new ≡ keeps_changes self.old }
     {
         if self.spent {
             return Err(NetFault::Spent);
@@ -122,6 +137,7 @@ impl SerialNet {
         ensures spent { IsErrOf result Spent ↔ (is_spent self.old ≡ true) }
         ensures spends { IsErrOf result NoMemory → is_spent self.new ≡ true }
         ensures stays_spent { is_spent self.old ≡ true → is_spent self.new ≡ true }
+        ensures keeps { keeps_changes self.new ≡ keeps_changes self.old }
     {
         if self.spent {
             return Err(NetFault::Spent);
@@ -141,9 +157,9 @@ impl SerialNet {
         &self.flow.answer.table
     }
 
-    /// The changes that the output gave, in order. It takes no memory.
+    /// The changes that the output gave, in order, where the network keeps them, and else nothing. It takes no memory.
     pub fn changes(&self) -> &[Change]
-        ensures { (nodes : List PlanNode) (ports : List Lists) (given : Lists) → NetStands nodes self.now ports given → result.now ≡ changes_of (list_at given (output_place nodes)) }
+        ensures { (nodes : List PlanNode) (ports : List Lists) (given : Lists) → NetStands nodes self.now ports given → keeps_changes self.now ≡ true → result.now ≡ changes_of (list_at given (output_place nodes)) }
     {
         self.flow.answer.changes.as_slice()
     }

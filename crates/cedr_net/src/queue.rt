@@ -31,7 +31,7 @@ impl Queue {
         }
     }
 
-    /// The message waits behind the others.
+    /// The message waits after the others.
     fn push(&mut self, message: Message) -> Result<(), OutOfMemory>
         ensures { OnOk result (self.new ≡ self.old ++ message ∷ []) }
     {
@@ -89,7 +89,7 @@ impl Queues {
         Ok(Queues { ports: queues })
     }
 
-    /// The message waits on a port behind those that do. O(1).
+    /// The message waits on a port, after those that wait there. O(1).
     pub(crate) fn push(&mut self, port: usize, message: Message) -> Result<(), OutOfMemory>
         requires { port < length self.old }
         ensures { OnOk result (self.new ≡ with_more self.old port (message ∷ [])) }
@@ -97,7 +97,7 @@ impl Queues {
         push_on(&mut self.ports, port, message)
     }
 
-    /// Takes the first message of the first port on which one waits. O(1).
+    /// Takes the first message of the first port on which one waits. O(n) in the ports.
     pub(crate) fn pull(&mut self) -> Option<(usize, Message)>
         ensures some { IfSome result (λ pulled. IsPulled self.old self.new pulled.0 pulled.1) }
         ensures none { IfNone result (NothingWaits self.old × (self.new ≡ self.old)) }

@@ -90,7 +90,7 @@ fn feed(alloc: Global, fed: &mut Fed, place: usize, told: Told) -> Result<bool, 
     if !fed.came[place].may_come(&message) {
         return Ok(false);
     }
-    fed.came[place].note(&message)?;
+    fed.came[place].note(alloc, &message)?;
     fed.net.feed(alloc, place, message)?;
     Ok(true)
 }

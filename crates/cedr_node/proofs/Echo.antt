@@ -49,6 +49,8 @@ head_is a b xs ys h = cc
 head_of : (a b : List Message) (xs ys : Lists) → a ∷ xs ≡ b ∷ ys → a ≡ b
 head_of a b xs ys h = cc
 
+-- where the only port passed on just what was given, it did so too after a message other than Broken
+-- whose changes were given as they are, with the new mark and the end
 pub echo_single : (ports : List Port) (lists : Lists) (port : ℕ) (m : Message) (d : Port) (given gain passed : List Message) (marks : List ℕ) (sent sent' waiting : ℕ) → AllStand ports lists → port < length lists → MayCome (list_at lists port) m → is_broken m ≡ false
     → passes_of (levels_of ports) lists ≡ given ∷ [] → sent ≡ mark_of given → waiting ≡ waiting_of (with_more lists port (m ∷ []))
     → passed ≡ passed_of (get_or ports port d).aligner.level (list_at lists port) m

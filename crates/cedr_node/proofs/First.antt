@@ -12,12 +12,14 @@ use Rattle.cedr_node.specs.declared.port.Port.{Port}
 use Rattle.cedr_node.specs.Standing.{PortStands, AllStand, levels_of, waiting_of, StandsBetween}
 use Rattle.cedr_drive.specs.Driving.{Drives}
 
+-- where ports stand for their lists and one more does for its own, all of them do
 pub all-push : (ps : List Port) (ls : Lists) (p : Port) (l : List Message) → AllStand ps ls → PortStands p l → AllStand (ps ++ p ∷ []) (ls ++ l ∷ [])
 all-push [] [] p l h s = (s, tt)
 all-push [] (k ∷ ls) p l h s = absurd h
 all-push (q ∷ ps) [] p l h s = absurd h
 all-push (q ∷ ps) (k ∷ ls) p l h s = (h.0, all-push ps ls p l h.1 s)
 
+-- a list of copies with one copy more ends with that one
 pub replicate-push : {X : Type 0} (n : ℕ) (x : X) → replicate (n + 1) x ≡ replicate n x ++ x ∷ []
 replicate-push zero x = refl
 replicate-push (suc n) x = ap (λ (k : ℕ). replicate k x) (let e : suc n + 1 ≡ suc (n + 1) = omega arith in e) ∙ ap (λ xs. x ∷ xs) (replicate-push n x)
@@ -43,6 +45,7 @@ one zero b h = cc
 one (suc zero) b h = refl
 one (suc (suc n)) b h = cc
 
+-- an operator with its ports, to which nothing came, stands between empty lists
 pub first_stands : (meaning : Meaning) (stands : Tables → List ℕ → Type 0) (ports : List Port) (marks : List ℕ) (sent : ℕ) (vs : List Level)
     → length vs ≡ meaning.ports → levels_of ports ≡ vs → AllStand ports (replicate (length vs) []) → Drives meaning stands marks sent (replicate meaning.ports []) []
     → (meaning.echoes ≡ true → (tables : Tables) (ms : List ℕ) → stands tables ms → ms ≡ meaning.bound tables ms ∷ [])

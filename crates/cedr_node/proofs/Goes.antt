@@ -60,7 +60,7 @@ module _ (meaning : Meaning) (levels : List Level) where
             (subst (λ (xs : List Message). IsRight meaning levels (with_more lists port (m ∷ [])) (xs ++ piece) piece) (sym h.given_is) right));
       }
 
--- the end behind what was given
+-- the end after what was given
 record IsEnded (given : List Message) (rows : List Row) (t : ℕ) (over : Bool) (g : List Message) : Type 0 where
   legal : IsLegal g
   table : IsTableOf g rows

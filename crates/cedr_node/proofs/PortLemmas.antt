@@ -10,6 +10,7 @@ use Rattle.cedr_align.specs.Aligner.{listed, IsTaken}
 use Rattle.cedr_node.specs.declared.port.Port.{Port}
 use Rattle.cedr_node.specs.Standing.{PortStands, IsPortTaken}
 
+-- a port takes a message where its aligner does, and what that forgot is noted
 pub port_taken : (old new : Port) (ms : List Message) (m : Message) (before after : List Message) (fate : Fate) → PortStands old ms → IsTaken old.aligner new.aligner ms m before after fate
     → new.forgotten.items ≡ old.forgotten.items ++ listed fate → IsPortTaken old new ms m before after
 port_taken old new ms m before after fate stands taken noted = record {

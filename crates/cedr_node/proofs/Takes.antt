@@ -19,6 +19,7 @@ use Rattle.cedr_node.proofs.PortLists.{all_at, passes_length, passes_at, broken_
 use Rattle.cedr_node.proofs.Echo.{echo_single}
 use Rattle.cedr_node.proofs.Goes.{goes, breaks_off, passes_now, holds_now}
 
+-- the rest of a list that is legal after others is legal after those and its first messages
 pub legal-split : (before xs ys : List Message) → IsLegalBehind before (xs ++ ys) → IsLegalBehind (before ++ xs) ys
 legal-split before [] ys h = subst (λ (bs : List Message). IsLegalBehind bs ys) (sym (append-nil before)) h
 legal-split before (x ∷ xs) ys h = subst (λ (bs : List Message). IsLegalBehind bs ys) (append_assoc before (x ∷ []) xs) (legal-split (before ++ x ∷ []) xs ys h.1)
@@ -27,6 +28,7 @@ closing_low : (b : Bool) → cond {A = ℕ} b 1 0 ≤ 1
 closing_low true = omega arith
 closing_low false = omega arith
 
+-- a message that may come closes at most as many lists as may go on
 pub count_fits : (b : Bool) (w : ℕ) (lists : Lists) (port : ℕ) (m : Message) → MayTake lists port m → w ≡ waiting_of lists → b ≡ is_closing m → cond b 1 0 < w + 1
 count_fits b w lists port m may w_is b_is = let e = ap (λ (c : Bool). cond {A = ℕ} c 1 0) b_is in omega (arith, waiting_set port lists m may.port_is may.comes.0)
 

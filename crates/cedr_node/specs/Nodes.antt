@@ -26,10 +26,11 @@ meaning_in node = chosen_meaning node.works.driver.op
 abbrev pub held_in : Node → Tables
 held_in node = chosen_held node.works.driver.op
 
--- the levels of its ports, and how many there are
+-- the levels of its ports
 abbrev pub levels_in : Node → List Level
 levels_in node = levels_of node.works.ports.items
 
+-- how many ports it has
 abbrev pub port_count : Node → ℕ
 port_count node = length node.works.ports.items
 

@@ -18,22 +18,25 @@ pub record PortStands (p : Port) (ms : List Message) : Type 0 where
   pub aligns : Aligns p.aligner ms
   pub forgotten_is : p.forgotten.items ≡ forgot p.aligner.level.memory ms
 
+-- each port stands for the list that it took
 abbrev pub AllStand : List Port → Lists → Type 0
 AllStand [] [] = Unit {0}
 AllStand [] (l ∷ ls) = ⊥
 AllStand (p ∷ ps) [] = ⊥
 AllStand (p ∷ ps) (l ∷ ls) = PortStands p l × AllStand ps ls
 
+-- the levels of ports
 abbrev pub levels_of : List Port → List Level
 levels_of ps = map (λ (p : Port). p.aligner.level) ps
 
--- what breaks a list; what closes one
+-- a message breaks a list: it is Broken
 abbrev pub is_broken : Message → Bool
 is_broken (message.Change c) = false
 is_broken (message.Mark t) = false
 is_broken message.End = false
 is_broken message.Broken = true
 
+-- a message closes a list: it is End or Broken
 abbrev pub is_closing : Message → Bool
 is_closing (message.Change c) = false
 is_closing (message.Mark t) = false
@@ -45,10 +48,11 @@ abbrev pub waiting_of : Lists → ℕ
 waiting_of [] = 0
 waiting_of (l ∷ ls) = cond (is_over l) 0 1 + waiting_of ls
 
--- the end, or a break, where no port waits
+-- the end, where no port waits
 abbrev pub ending : ℕ → List Message
 ending waiting = if nat_eq waiting 0 then message.End ∷ [] else []
 
+-- a break, where no port waits
 abbrev pub breaking : ℕ → List Message
 breaking waiting = if nat_eq waiting 0 then message.Broken ∷ [] else []
 

@@ -150,15 +150,15 @@ impl<O: Operator> Aligned<O> {
         if self.broken {
             return push_broken(self.waiting, out);
         }
-        self.driver.take(alloc, port, passed.as_slice(), out)?;
+        self.driver.take(alloc, port, passed, out)?;
         push_end(self.waiting, out)
     }
 
-    /// Takes a message on a port that may come behind those before it there, and appends what is given for it: the
+    /// Takes a message on a port that may come after those before it there, and appends what is given for it: the
     /// repairs of the result, a mark where the bound rose, and `End` with the last of the ports. Once a port broke one
-    /// `Broken` is given, with the last of the ports, and nothing else. Afterwards the operator holds only rows that it may
-    /// hold at its ports' fronts, unless a port broke. Where memory runs out nothing is appended, and what it stands for
-    /// isn't known any more.
+    /// `Broken` is given, with the last of the ports, and nothing else. Afterwards the operator holds only rows that it
+    /// may hold at its ports' fronts, unless a port broke. Where memory runs out nothing is appended, and what it
+    /// stands for isn't known any more.
     pub(crate) fn take(
         &mut self,
         alloc: Global,

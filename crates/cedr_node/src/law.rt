@@ -12,7 +12,7 @@ ghost use Rattle.cedr_node.specs.Nodes.{made_of, is_spent, port_count, NodeStand
 ghost use Rattle.op_planned.specs.Meanings.{meaning_of, port_levels};
 ghost use Rattle.op_planned.specs.Ready.{is_source, IsReady};
 
-/// The law of the nodes of plans: a node that an accepted plan has behind others, and that is no source, meets what
+/// The law of the nodes of plans: a node that an accepted plan has after others, and that is no source, meets what
 /// [`crate::Node::new`] asks of it.
 pub fn accepted_nodes()
     ensures ready { (earlier : List DrawnNode) (node : PlanNode) → IsNode earlier (node_of node) → is_source node.kind ≡ false → IsReady node.kind (length node.inputs.items) }

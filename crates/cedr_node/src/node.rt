@@ -61,12 +61,12 @@ impl Node {
         })
     }
 
-    /// Takes a message on a port that may come behind those before it there, and appends what the node gives for it:
+    /// Takes a message on a port that may come after those before it there, and appends what the node gives for it:
     /// the repairs of its result, a mark where the bound rose, and `End` with the last of its ports. Once a port broke
-    /// it gives one `Broken`, with the last of its ports, and nothing else. Afterwards its operator holds only rows that
-    /// may still matter at its ports' fronts, unless a port broke: what it forgets takes O(log n) for each row, and where
-    /// none is due a look at one row for each port. Where memory runs out nothing is appended, and each later call is
-    /// refused as [`NodeFault::Spent`].
+    /// it gives one `Broken`, with the last of its ports, and nothing else. Afterwards its operator holds only rows
+    /// that may still matter at its ports' fronts, unless a port broke: what it forgets takes O(log n) for each row,
+    /// and where none is due a look at one row for each port. Where memory runs out nothing is appended, and each later
+    /// call is refused as [`NodeFault::Spent`].
     pub fn take(
         &mut self,
         alloc: Global,

@@ -30,7 +30,7 @@ impl Port {
         }
     }
 
-    /// Takes a message that may come behind those before it, and appends what it passes on. Where memory runs out the
+    /// Takes a message that may come after those before it, and appends what it passes on. Where memory runs out the
     /// port is only to be dropped.
     pub(crate) fn take(
         &mut self,

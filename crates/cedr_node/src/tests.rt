@@ -84,7 +84,7 @@ fn feed(
     if port >= fed.came.len() || !fed.came[port].may_come(&message) {
         return Ok(None);
     }
-    fed.came[port].note(&message)?;
+    fed.came[port].note(alloc, &message)?;
     let mut out = Vec::new(alloc);
     match fed.node.take(alloc, port, message, &mut out) {
         Ok(()) => Ok(Some(out)),

@@ -6,10 +6,12 @@ use Rattle.cedr_outlet.specs.Outgoing.{Outgoing}
 use Rattle.cedr_outlet.specs.Outlets.{NonePending, SomePending, AllTotal, total_of, Kept, Rested, Put, Tried}
 use Rattle.cedr_outlet.proofs.RoundLemmas.{at_set_or, or_left, or_right, same_at, map_length}
 
+-- one edge more: where both flags say that nothing is pending, nothing is for the edges up to this one
 pub waits_step : (os : List Outgoing) (waits b : Bool) (i : ℕ) (y : Outgoing) → (waits ≡ false → NonePending os i) → (b ≡ false → y.pending ≡ []) → (waits || b) ≡ false → NonePending (set os i y) (i + 1)
 waits_step os waits b i y so now none k d less in_set =
     at_set_or (λ (o : Outgoing). o.pending ≡ []) os i k y d (omega (arith, in_set, length-set os i y)) (λ (e : k ≡ i). now (or_right waits b none)) (λ (n : k ≢ i). so (or_left waits b none) k d (omega arith) (omega (arith, in_set, length-set os i y)))
 
+-- one edge more: where a flag says that something is pending, something is for an edge up to this one
 pub some_step : (os : List Outgoing) (waits b : Bool) (i : ℕ) (y : Outgoing) → i < length os → (waits ≡ true → SomePending os i) → (b ≡ true → y.pending ≢ []) → (waits || b) ≡ true → SomePending (set os i y) (i + 1)
 some_step os true b i y less so now e =
     let s = so refl in
@@ -22,10 +24,11 @@ some_step os false b i y less so now e =
 pub totals_stay : (given : List Message) (old new : List Outgoing) → map total_of new ≡ map total_of old → AllTotal given old → AllTotal given new
 totals_stay given old new e all k d less = same_at total_of new old k d e ∙ all k d (omega (arith, less, map_length total_of new old e))
 
--- the total with more pending behind it
+-- the total, with more that is pending at its end
 pub longer_total : (o y : Outgoing) (given more : List Message) → y.sent ≡ o.sent → y.pending ≡ o.pending ++ more → total_of o ≡ given → total_of y ≡ given ++ more
 longer_total o y given more sent waiting is = (λ k. sent k ++ waiting k) ∙ (sym (append_assoc o.sent o.pending more) ∙ ap (λ (l : List Message). l ++ more) is)
 
+-- a list of messages, each as it is, is the same list
 pub map_itself : (ms : List Message) → map (λ (m : Message). m) ms ≡ ms
 map_itself [] = refl
 map_itself (m ∷ ms) = ap (λ (l : List Message). m ∷ l) (map_itself ms)

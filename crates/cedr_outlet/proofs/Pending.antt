@@ -21,7 +21,7 @@ may_last : (l : Last) (xs : List Message) → is_over xs ≡ false → IsLegal x
 may_last last.End xs goes h = may_end xs goes h
 may_last last.Broken xs goes h = may_break xs goes h
 
--- a last message may come behind what isn't over
+-- a last message may come after what isn't over
 pub may_close : (o : Option Last) (l : Last) (sent firm : List Message) → is_over (sent ++ (firm ++ last_of o)) ≡ false → IsLegal (sent ++ (firm ++ last_of o)) → IsLegal (sent ++ (firm ++ last_message l ∷ []))
 may_close (Some k) l sent firm goes h = absurd (true≢false (sym (last_over k sent firm) ∙ goes))
 may_close None l sent firm goes h =
@@ -33,7 +33,7 @@ closed_pending : (o : Option Last) (l : Last) (sent firm : List Message) → is_
 closed_pending (Some k) l sent firm goes = absurd (true≢false (sym (last_over k sent firm) ∙ goes))
 closed_pending None l sent firm goes = ap (λ (ms : List Message). ms ++ last_message l ∷ []) (sym (append-nil firm))
 
--- and then it is pending behind what was
+-- and then it is pending after what was
 pub closed_view : (o : Option Last) (l : Last) (inside now : Outgoing) (firm : List Message) → inside ≡ now → inside.pending ≡ firm ++ last_of o → is_over (total_of now) ≡ false
     → record inside { pending = firm ++ last_message l ∷ [] } ≡ record now { pending = now.pending ++ last_message l ∷ [] }
 closed_view o l inside now firm same is goes =
@@ -41,7 +41,7 @@ closed_view o l inside now firm same is goes =
     let w : firm ++ last_message l ∷ [] ≡ inside.pending ++ last_message l ∷ [] = closed_pending o l inside.sent firm goes' ∙ ap (λ (ms : List Message). ms ++ last_message l ∷ []) (sym is) in
     ap (λ (ms : List Message). record inside { pending = ms }) w ∙ ap (λ (x : Outgoing). record x { pending = x.pending ++ last_message l ∷ [] }) same
 
--- behind a last message nothing may be set down
+-- after a last message nothing may be set down
 pub commits_none : (o : Option Last) (now : Outgoing) (firm : List Message) → is_some o ≡ true → now.pending ≡ firm ++ last_of o → IsLegal (total_of now ++ now.staged) → now ≡ record now { pending = now.pending ++ now.staged; staged = [] }
 commits_none None now firm e is legal = absurd (true≢false (sym e))
 commits_none (Some l) now firm e is legal =
@@ -55,6 +55,7 @@ pub take_first : (firm : ℕ) (items : List Message) (m : Message) (rest : List 
 take_first zero items m rest some is = absurd (some refl)
 take_first (suc n) items m rest some is = let e : suc n - 1 ≡ n = omega arith in ap (λ (l : List Message). take (suc n) l) is ∙ ap (λ (k : ℕ). m ∷ take k rest) (sym e)
 
+-- once the first of what is pending is taken out, what is set down after it stays
 pub drop_first : (firm : ℕ) (items : List Message) (m : Message) (rest : List Message) → firm ≢ 0 → items ≡ m ∷ rest → drop (firm - 1) rest ≡ drop firm items
 drop_first zero items m rest some is = absurd (some refl)
 drop_first (suc n) items m rest some is = let e : suc n - 1 ≡ n = omega arith in ap (λ (k : ℕ). drop k rest) e ∙ sym (ap (λ (l : List Message). drop (suc n) l) is)

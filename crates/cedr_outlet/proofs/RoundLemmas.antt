@@ -10,10 +10,12 @@ at_set_or {X} P xs i k y d less here there =
     ⊎_elim (λ (e : k ≡ i). subst P (sym (subst (λ (j : ℕ). get_or (set xs i y) j d ≡ y) (sym e) (get_or-set_same xs i y d (subst (λ (j : ℕ). j < length xs) e less)))) (here e))
     (λ (n : k ≢ i). subst P (sym (get_or-set_other xs i k y d n)) (there n)) (cases_eq k i)
 
+-- where neither of two is so, the first isn't
 pub or_left : (a b : Bool) → (a || b) ≡ false → a ≡ false
 or_left true b e = e
 or_left false b e = refl
 
+-- where neither of two is so, the second isn't
 pub or_right : (a b : Bool) → (a || b) ≡ false → b ≡ false
 or_right true true e = e
 or_right true false e = refl
@@ -25,17 +27,21 @@ map_back f xs i o y less there same =
     let here : f y ≡ f (get_or xs i y) = same ∙ ap f (there ∙ get_or_default xs i o y less) in
     map-set f xs i y ∙ (ap (λ t. set (map f xs) i t) here ∙ (sym (map-set f xs i (get_or xs i y)) ∙ ap (λ l. map f l) (set-get_or xs i y)))
 
+-- lists that are alike under f have the same length
 pub map_length : {X Y : Type 0} (f : X → Y) (xs ys : List X) → map f xs ≡ map f ys → length xs ≡ length ys
 map_length f xs ys e = sym (length-map xs f) ∙ (ap (λ l. length l) e ∙ length-map ys f)
 
+-- at each place of a list under f stands the element there under f
 pub map_at : {X Y : Type 0} (f : X → Y) (xs : List X) (k : ℕ) (d : X) → get_or (map f xs) k (f d) ≡ f (get_or xs k d)
 map_at f [] k d = refl
 map_at f (x ∷ xs) zero d = refl
 map_at f (x ∷ xs) (suc k) d = map_at f xs k d
 
+-- lists that are alike under f are so at each place
 pub same_at : {X Y : Type 0} (f : X → Y) (xs ys : List X) (k : ℕ) (d : X) → map f xs ≡ map f ys → f (get_or xs k d) ≡ f (get_or ys k d)
 same_at f xs ys k d e = sym (map_at f xs k d) ∙ (ap (λ l. get_or l k (f d)) e ∙ map_at f ys k d)
 
+-- lists of one length that are alike under f at each place are alike under f
 pub map_ext : {X Y : Type 0} (f : X → Y) (old new : List X) → length new ≡ length old → ((k : ℕ) (d : X) → k < length old → f (get_or new k d) ≡ f (get_or old k d)) → map f new ≡ map f old
 map_ext f [] [] len h = refl
 map_ext f [] (n ∷ ns) len h = absurd (omega (arith, len))
@@ -44,15 +50,18 @@ map_ext f (o ∷ os) (n ∷ ns) len h =
     let rest : map f ns ≡ map f os = map_ext f os ns (omega (arith, len)) (λ k d less. h (suc k) d (omega arith)) in
     λ j. h 0 o (omega arith) j ∷ rest j
 
+-- where each element has Q, none is swept yet
 pub swept_begins : {X : Type 0} (P Q : X → Type 0) (xs : List X) → ((k : ℕ) (d : X) → k < length xs → Q (get_or xs k d)) → Swept P Q xs 0
 swept_begins P Q xs all = record { done = λ k d less. absurd (omega arith); rest = λ k d le in_xs. all k d in_xs }
 
+-- one element more is swept once one that has P stands at its place
 pub swept_step : {X : Type 0} (P Q : X → Type 0) (xs : List X) (i : ℕ) (y : X) → P y → Swept P Q xs i → Swept P Q (set xs i y) (i + 1)
 swept_step P Q xs i y is so = record {
   done = λ k d less in_set. at_set_or P xs i k y d (omega (arith, in_set, length-set xs i y)) (λ (e : k ≡ i). is) (λ (n : k ≢ i). so.done k d (omega arith) (omega (arith, in_set, length-set xs i y)));
   rest = λ k d le in_set. subst Q (sym (get_or-set_other xs i k y d (λ e. omega arith))) (so.rest k d (omega arith) (omega (arith, in_set, length-set xs i y)));
 }
 
+-- once all are swept, each element has P
 pub swept_ends : {X : Type 0} (P Q : X → Type 0) (xs : List X) (i : ℕ) → length xs ≤ i → Swept P Q xs i → (k : ℕ) (d : X) → k < length xs → P (get_or xs k d)
 swept_ends P Q xs i all so k d less = so.done k d (omega arith) less
 

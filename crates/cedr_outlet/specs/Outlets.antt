@@ -12,9 +12,11 @@ use Rattle.cedr_outlet.specs.Rounds.{Swept, Round}
 abbrev pub total_of : Outgoing → List Message
 total_of o = o.sent ++ o.pending
 
+-- which edge an out edge is, by the table of its queue
 abbrev pub edge_of : Outgoing → TableId
 edge_of o = o.edge
 
+-- what was sent over an out edge
 abbrev pub sent_of : Outgoing → List Message
 sent_of o = o.sent
 
@@ -51,10 +53,11 @@ pub record Tried (o n : Outgoing) : Type 0 where
 abbrev pub PutSoFar : List Outgoing → List Outgoing → Bool → ℕ → Type 0
 PutSoFar old new moved i = Round Tried Rested Put old new moved i
 
--- nothing is pending for the first i of the edges; something is pending for one of them
+-- nothing is pending for the first i of the edges
 abbrev pub NonePending : List Outgoing → ℕ → Type 0
 NonePending os i = (k : ℕ) (d : Outgoing) → k < i → k < length os → (slice_index_or os k d).pending ≡ []
 
+-- something is pending for one of the first i edges
 abbrev pub SomePending : List Outgoing → ℕ → Type 0
 SomePending os i = (k : ℕ) × (k < i) × (k < length os) × ((d : Outgoing) → (slice_index_or os k d).pending ≢ [])
 
@@ -70,10 +73,11 @@ AllStaged piece os = All (λ (o : Outgoing). o.staged ≡ piece) os
 abbrev pub StagedUpTo : List Message → List Message → List Outgoing → ℕ → Type 0
 StagedUpTo piece before os i = Swept (λ (o : Outgoing). o.staged ≡ piece) (λ (o : Outgoing). o.staged ≡ before) os i
 
--- each edge has its End or Broken; some edge has none
+-- each edge has its End or Broken
 abbrev pub AllOver : List Outgoing → Type 0
 AllOver os = All (λ (o : Outgoing). is_over o.sent ≡ true) os
 
+-- some edge has neither its End nor Broken
 abbrev pub SomeOpen : List Outgoing → Type 0
 SomeOpen os = (k : ℕ) × (k < length os) × ((d : Outgoing) → is_over (slice_index_or os k d).sent ≡ false)
 
@@ -89,9 +93,10 @@ SomeFull old new = (k : ℕ) × (k < length old) × ((d : Outgoing) → ((slice_
 abbrev pub sent_count : List Outgoing → ℕ
 sent_count os = sum_by (λ (o : Outgoing). length o.sent) os
 
--- what the out edge of an end is
+-- the edge of an end
 abbrev pub end_edge : OutEnd → TableId
 end_edge e = e.edge
 
+-- what was sent over the edge of an end
 abbrev pub end_sent : OutEnd → List Message
 end_sent e = e.sent

@@ -158,7 +158,7 @@ pub(crate) fn count_sent(list: &Vec<Outlet>) -> u64
     count
 }
 
-/// The edges, behind none, where there is room for them. What is pending or set down is dropped.
+/// The edges, in a list that is empty and has room for them. What is pending or set down is dropped.
 pub(crate) fn edges_of(list: Vec<Outlet>, spare: Vec<EdgeOut>) -> Vec<EdgeOut>
     requires none { (spare.items ≡ []) × (vec_len spare ≡ 0) }
     requires room { length list.items ≤ vec_capacity spare }

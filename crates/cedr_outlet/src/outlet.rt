@@ -23,7 +23,7 @@ pub struct Outlet {
     queue: VecDeque<Message>,
     /// How many messages of the queue are pending. The others are only set down.
     firm: usize,
-    /// The message that is pending behind them. It takes no memory.
+    /// The message that is pending after them. It takes no memory.
     last: Option<Last>,
 }
 
@@ -53,7 +53,7 @@ impl Outlet {
         }
     }
 
-    /// Sets a message down behind the others. An error leaves all as it was.
+    /// Sets a message down after the others. An error leaves all as it was.
     pub fn stage(&mut self, message: Message) -> Result<(), OutOfMemory>
         ensures bare { bare self.new ≡ bare self.old }
         ensures total { total_of self.new ≡ total_of self.old }
@@ -69,13 +69,13 @@ impl Outlet {
         requires { IsLegal (total_of self.old ++ self.old.staged) }
         ensures { self.new ≡ record self.old { pending = self.old.pending ++ self.old.staged; staged = [] } }
     {
-        // Behind a last message nothing may come, so then nothing is set down.
+        // After a last message nothing may come, so then nothing is set down.
         if self.last.is_none() {
             self.firm = self.queue.len();
         }
     }
 
-    /// The last message is pending behind the others. It takes no memory.
+    /// The last message is pending after the others. It takes no memory.
     pub fn close(&mut self, last: Last)
         requires { is_over (total_of self.old) ≡ false }
         ensures { self.new ≡ record self.old { pending = self.old.pending ++ last_message last ∷ [] } }

@@ -89,7 +89,7 @@ impl Outlets {
         stage_all(alloc, &mut self.list, piece)
     }
 
-    /// What is set down at the edges, at each the same, is pending behind what was. It takes no memory.
+    /// What is set down at the edges, at each the same, is pending after what was. It takes no memory.
     pub fn commit(&mut self)
         requires { (given piece : List Sent) × AllTotal given self.old × AllStaged piece self.old × IsLegal (given ++ piece) }
         ensures bare { map bare self.new ≡ map bare self.old }
@@ -98,7 +98,7 @@ impl Outlets {
         commit_each(&mut self.list)
     }
 
-    /// A last message is pending at each edge, behind what was. It takes no memory.
+    /// A last message is pending at each edge, after what was. It takes no memory.
     pub fn close(&mut self, last: Last)
         requires { (given : List Sent) × AllTotal given self.old × (is_over given ≡ false) }
         ensures bare { map bare self.new ≡ map bare self.old }

@@ -1,4 +1,4 @@
--- The first fault of a node, and of two lists of tests, one behind the other.
+-- The first fault of a node, and of two lists of tests, one after the other.
 use Rattle.std.proofs.Common.{◌≡◌, Bool, true, false, List, [], ◌∷◌, ◌++◌, Some, None, refl, ap, sym}
 use Rattle.std.specs.Option.{option_map_or}
 use Rattle.serde_json.specs.Data.{Data}

@@ -96,6 +96,7 @@ level_there d bounds h =
     level_by (is_text d) (is_word (codes "strong") d) (bound_at (codes "block") d) (bound_at (codes "memory") d)
     (bound_found (get (codes "block") d) parts.0) (bound_found (get (codes "memory") d) parts.1) over.1
 
+-- the middle level keeps the rules of a level
 pub middle_level : IsLevel middle
 middle_level = record { block = omega arith; memory = tt; block_within_memory = refl }
 
@@ -108,6 +109,8 @@ level_in : (ports : Bool) (o : Option Data) → (ports && option_map_or has_bad_
 level_in true o bounds bad = level_found o bounds bad
 level_in false o bounds bad = middle_level
 
+-- a node's level without a fault keeps the rules of a level; without ports, or where none is given, it is the
+-- middle one
 pub level_at_ports : (ports : Bool) (d : Data) → (ports && has (codes "level") has_bad_bound d) ≡ false → (ports && has (codes "level") (λ level. is_unknown_level level || has_block_over_memory (level_of level)) d) ≡ false
     → IsLevel (if ports then option_map_or level_of (get (codes "level") d) middle else middle)
 level_at_ports ports d = level_in ports (get (codes "level") d)

@@ -30,7 +30,7 @@ node_known earlier d (Some o) h = node_is o earlier d (no_fault (row_of o) earli
 node_sound : (earlier : List Node) (d : Data) → node_fault earlier d ≡ None → IsNode earlier (node_of_value earlier d)
 node_sound earlier d h = node_known earlier d (operator_at d) h
 
--- the nodes stand behind the earlier ones, one for each value
+-- the nodes stand after the earlier ones, one for each value
 pub record AreNodesOf (earlier : List Node) (ds : List Data) (nodes : List Node) : Type 0 where
   pub more : List Node
   pub behind : nodes ≡ earlier ++ more

@@ -3,10 +3,12 @@ use Rattle.std.proofs.Common.{◌≡◌, ℕ, suc, ◌+◌, ◌≤◌, Bool, tru
 use Rattle.std.specs.List.{list_any, filter_map, cons_option, position, prefix_len}
 use Rattle.std.proofs.lemmas.Bool.{ltb-false}
 
+-- a test whose opposite is false is true
 pub not_false : (b : Bool) → not b ≡ false → b ≡ true
 not_false true h = refl
 not_false false h = sym h
 
+-- where it is false that there is a value, there is none
 pub none_there : {X : Type 0} (o : Option X) → is_some o ≡ false → o ≡ None
 none_there None h = refl
 none_there (Some x) h = absurd (true≢false h)

@@ -7,11 +7,12 @@ use Rattle.cedr_text.specs.Parts.{comma, line_feed}
 use Rattle.cedr_plan.specs.Drawn.{Node}
 use Rattle.cedr_plan.specs.Rules.{row_of_node}
 
+-- a field type as `check` writes it: `int` or `text`
 abbrev pub type_text : FieldType → List ℕ
 type_text field_type.Number = codes "int"
 type_text field_type.Bytes = codes "text"
 
--- each type stands behind a comma
+-- each type stands after a comma
 abbrev pub types_text : List FieldType → List ℕ
 types_text types = flat_map (λ type. comma ∷ type_text type) types
 
@@ -19,5 +20,6 @@ types_text types = flat_map (λ type. comma ∷ type_text type) types
 abbrev pub node_text : Node → List ℕ
 node_text node = node.name ++ comma ∷ ((row_of_node node).word ++ (types_text node.types ++ line_feed ∷ []))
 
+-- the lines of the nodes, in the plan's order
 abbrev pub check_text : List Node → List ℕ
 check_text nodes = flat_map node_text nodes

@@ -25,6 +25,8 @@ pub data Kind : Type 0 where
   unless : ℕ → ℕ → List Test → Kind
   output : Kind
 
+-- a node: its name, what it does, the places of the nodes that feed its ports, their level, and the types of
+-- its result's fields
 pub record Node : Type 0 where
   pub name : List ℕ
   pub kind : Kind
@@ -32,10 +34,12 @@ pub record Node : Type 0 where
   pub level : Level
   pub types : List FieldType
 
+-- a plan: its nodes, and how many messages an edge holds
 pub record Drawn : Type 0 where
   pub nodes : List Node
   pub edge : ℕ
 
+-- what a `NodeKind` says that a node does
 abbrev pub kind_of : NodeKind → Kind
 kind_of (kind.Source file) = source file
 kind_of (kind.Select tests) = select tests
@@ -52,12 +56,15 @@ kind_of (kind.Sequence scope tests) = sequence scope tests
 kind_of (kind.Unless scope hold tests) = unless scope hold tests
 kind_of kind.Output = output
 
+-- a `PlanNode` as a node, without where it lies in memory
 abbrev pub node_of : PlanNode → Node
 node_of node = record { name = node.name; kind = kind_of node.kind; inputs = node.inputs.items; level = node.level; types = node.types.items }
 
+-- a `Plan` as lists, without where it lies in memory
 abbrev pub drawn : Plan → Drawn
 drawn plan = record { nodes = map node_of plan.nodes.items; edge = plan.edge }
 
+-- the node is an output
 abbrev pub is_output : Node → Bool
 is_output node = is_output_kind node.kind where
   is_output_kind : Kind → Bool

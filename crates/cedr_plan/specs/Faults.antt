@@ -5,6 +5,7 @@ use Rattle.cedr_expr.specs.declared.fault.TypeFault.TheVariants as types
 use Rattle.cedr_plan.specs.declared.fault.PlanKind.{PlanKind}
 use Rattle.cedr_plan.specs.declared.fault.PlanKind.TheVariants as fault
 
+-- the number of a fault, from 1 to 14
 abbrev pub number_of : PlanKind → ℕ
 number_of fault.TooLong = 1
 number_of fault.BadJson = 2

@@ -10,6 +10,7 @@ abbrev pub list_of : Items → List Data
 list_of no_items = []
 list_of (item d ds) = d ∷ list_of ds
 
+-- the values of an array, and nothing where the value is no array
 abbrev pub as_list : Data → Option (List Data)
 as_list d = option_map list_of (as_array d)
 
@@ -17,9 +18,11 @@ as_list d = option_map list_of (as_array d)
 abbrev pub as_whole : Data → Option ℕ
 as_whole d = option_and_then as_u64 (as_number d)
 
+-- the value is a number
 abbrev pub is_number : Data → Bool
 is_number d = is_some (as_number d)
 
+-- the value is a text
 abbrev pub is_text : Data → Bool
 is_text d = is_some (as_str d)
 

@@ -5,9 +5,11 @@ use Rattle.serde_json.specs.Data.{Data}
 use Rattle.serde_json.specs.Find.{get}
 use Rattle.cedr_plan.specs.Json.{as_whole, is_number, is_text, is_word, is_whole_within, has}
 
+-- the strong level: block and memory are without limit
 abbrev pub strong : Level
 strong = record { block = None; memory = None }
 
+-- the middle level: no block, and a memory without limit
 abbrev pub middle : Level
 middle = record { block = Some 0; memory = None }
 
@@ -19,6 +21,7 @@ is_bound d = is_number d || is_word (codes "inf") d
 abbrev pub is_level : Data → Bool
 is_level d = is_text d || (has (codes "block") is_bound d && has (codes "memory") is_bound d)
 
+-- a number that isn't whole or isn't from 0 to 2^40
 abbrev pub is_bad_bound : Data → Bool
 is_bad_bound d = is_number d && not (is_whole_within 0 (2 ^ 40) d)
 
@@ -34,6 +37,8 @@ is_unknown_level d = is_text d && not (is_word (codes "strong") d || is_word (co
 abbrev pub bound_at : List ℕ → Data → Option ℕ
 bound_at key d = option_and_then as_whole (get key d)
 
+-- the level that a value is: the strong one by its name, the middle one by any other text, or else its two
+-- bounds
 abbrev pub level_of : Data → Level
 level_of d = if is_text d then (if is_word (codes "strong") d then strong else middle)
     else record { block = bound_at (codes "block") d; memory = bound_at (codes "memory") d }
@@ -44,5 +49,6 @@ is_over block None = false
 is_over None (Some memory) = true
 is_over (Some block) (Some memory) = nat_lt memory block
 
+-- the level's block is over its memory
 abbrev pub has_block_over_memory : Level → Bool
 has_block_over_memory level = is_over level.block level.memory

@@ -1,4 +1,4 @@
--- What a call that reads a node tells by its error.
+-- What a call that reads a node says by its error.
 use Rattle.std.specs.Prelude.{◌≡◌, List, [], ◌∷◌, Option, Some}
 use Rattle.std.specs.List.{list_any}
 use Rattle.cedr_base.specs.declared.field.FieldType.{FieldType}

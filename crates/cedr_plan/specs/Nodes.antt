@@ -1,4 +1,4 @@
--- What one node of a plan has to be behind earlier ones: a predicate for each fault, the first fault, and the
+-- What one node of a plan has to be after earlier ones: a predicate for each fault, the first fault, and the
 -- node that an accepted one is.
 --
 -- Each predicate has an answer for every value. Where an earlier fault holds too, that one counts.
@@ -36,12 +36,15 @@ use Rattle.cedr_plan.specs.declared.operator.Outcome.TheVariants as outcome
 abbrev pub is_name_byte : ℕ → Bool
 is_name_byte byte = is_ascii_alphanumeric byte || (byte == 95)
 
+-- a name: 1 to 64 such bytes
 abbrev pub is_name : List ℕ → Bool
 is_name text = nat_le 1 (length text) && nat_le (length text) 64 && list_all is_name_byte text
 
+-- the value is a text that is a name
 abbrev pub is_name_value : Data → Bool
 is_name_value d = option_map_or is_name (as_str d) false
 
+-- the operator that the member `op` names
 abbrev pub operator_at : Data → Option Operator
 operator_at d = option_and_then operator_of (option_and_then as_str (get (codes "op") d))
 
@@ -53,23 +56,29 @@ text_at key d = unwrap_or (option_and_then as_str (get key d)) []
 abbrev pub number_at : List ℕ → Data → ℕ
 number_at key d = unwrap_or (option_and_then as_whole (get key d)) 0
 
+-- the member's truth value, and false where there is none
 abbrev pub truth_at : List ℕ → Data → Bool
 truth_at key d = unwrap_or (option_and_then as_bool (get key d)) false
 
+-- the whole numbers of the array that the member is
 abbrev pub columns_at : List ℕ → Data → List ℕ
 columns_at key d = filter_map as_whole (values_of (get key d))
 
+-- the tests of the array that `where` is
 abbrev pub tests_at : Data → List Test
 tests_at d = filter_map test_of (values_of (get (codes "where") d))
 
+-- the field type of a word
 abbrev pub type_of_word : List ℕ → Option FieldType
 type_of_word word = if bytes_eq word (codes "int") then Some field_type.Number
     else if bytes_eq word (codes "text") then Some field_type.Bytes
     else None
 
+-- the field type that a value names
 abbrev pub as_type : Data → Option FieldType
 as_type d = option_and_then type_of_word (as_str d)
 
+-- the field types of the array that `fields` is
 abbrev pub types_at : Data → List FieldType
 types_at d = filter_map as_type (values_of (get (codes "fields") d))
 
@@ -81,11 +90,13 @@ has_ports row = nat_lt 0 row.most
 abbrev pub input_values : Row → Data → List Data
 input_values row d = if has_ports row then values_of (get (codes "from") d) else []
 
+-- the level of the node's ports: the middle one where `level` isn't there or the operator has no ports
 abbrev pub level_at : Row → Data → Level
 level_at row d = if has_ports row then option_map_or level_of (get (codes "level") d) middle else middle
 
 -- ---- the inputs
 
+-- the node has this name
 abbrev pub is_named : List ℕ → Node → Bool
 is_named name node = bytes_eq node.name name
 
@@ -93,6 +104,7 @@ is_named name node = bytes_eq node.name name
 abbrev pub place_of : List Node → Data → Option ℕ
 place_of earlier d = option_and_then (λ name. position (is_named name) earlier) (as_str d)
 
+-- the places of the earlier nodes that `from` names, in port order
 abbrev pub inputs_at : List Node → Row → Data → List ℕ
 inputs_at earlier row d = filter_map (place_of earlier) (input_values row d)
 
@@ -104,6 +116,7 @@ types_of earlier place = option_map_or (λ (node : Node). node.types) (slice_get
 abbrev pub ports_at : List Node → Row → Data → List (List FieldType)
 ports_at earlier row d = map (types_of earlier) (inputs_at earlier row d)
 
+-- the field types of the first port, and none where there is no port
 abbrev pub first_port : List (List FieldType) → List FieldType
 first_port [] = []
 first_port (types ∷ ports) = types
@@ -114,6 +127,7 @@ all_ports ports = flat_map (λ types. types) ports
 
 -- ---- the result
 
+-- the type of the count, where rows are counted
 abbrev pub count_types : Bool → List FieldType
 count_types true = field_type.Number ∷ []
 count_types false = []
@@ -140,7 +154,7 @@ result_width outcome.Kept d types = length (columns_at (codes "keep") d)
 result_width outcome.Joined d types = length types
 result_width outcome.Grouped d types = length (columns_at (codes "keys") d) + (length (count_types (truth_at (codes "count") d)) + length (columns_at (codes "sum") d))
 
--- the types of a node's fields by its row, behind the earlier nodes
+-- the types of a node's fields by its row, after the earlier nodes
 abbrev pub types_under : Row → List Node → Data → List FieldType
 types_under row earlier d = result_types row.outcome d (first_port (ports_at earlier row d)) (all_ports (ports_at earlier row d))
 
@@ -156,6 +170,7 @@ has_form form.Sums d = is_list is_number d
 has_form form.Truth d = is_some (as_bool d)
 has_form form.Number d = is_number d
 
+-- the member isn't there or isn't in its form
 abbrev pub lacks_member : Data → Member → Bool
 lacks_member d m = not (has (key_of m) (has_form (form_of m)) d)
 
@@ -219,6 +234,7 @@ has_unknown_input earlier row d = list_any (is_unknown earlier) (input_values ro
 unfoldable pub is_too_wide : List Node → Row → Data → Bool
 is_too_wide earlier row d = nat_lt 16 (result_width row.outcome d (types_under row earlier d))
 
+-- the member names a column that is past the end of these types
 abbrev pub is_bad_column : List FieldType → Data → Member → Bool
 is_bad_column types d member.File = false
 is_bad_column types d member.Fields = false
@@ -237,14 +253,17 @@ is_bad_column types d member.Hold = false
 unfoldable pub has_bad_column : List Node → Row → Data → Bool
 has_bad_column earlier row d = list_any (is_bad_column (all_ports (ports_at earlier row d)) d) row.members
 
+-- the column is there and holds texts
 abbrev pub is_text_column : List FieldType → ℕ → Bool
 is_text_column types column = option_map_or (same_type field_type.Bytes) (slice_get types column) false
 
+-- two lists of field types are the same
 abbrev pub same_types : List FieldType → List FieldType → Bool
 same_types [] [] = true
 same_types (x ∷ xs) (y ∷ ys) = same_type x y && same_types xs ys
 same_types xs ys = false
 
+-- the member has a test whose two sides differ in type, or sums a column of texts
 abbrev pub has_two_types : List FieldType → Data → Member → Bool
 has_two_types types d member.File = false
 has_two_types types d member.Fields = false
@@ -259,7 +278,7 @@ has_two_types types d member.Every = false
 has_two_types types d member.Scope = false
 has_two_types types d member.Hold = false
 
--- the ports of a node whose inputs have equal types haven't
+-- the node needs the same types on all ports, and its ports have different ones
 abbrev pub has_unlike_ports : Outcome → List (List FieldType) → Bool
 has_unlike_ports outcome.Declared ports = false
 has_unlike_ports outcome.First ports = false
@@ -274,6 +293,7 @@ has_type_difference earlier row d = has_unlike_ports row.outcome (ports_at earli
 
 -- ---- the node
 
+-- what a node of this operator does, by its members
 abbrev pub kind_from : Operator → Data → Kind
 kind_from operator.Source d = source (text_at (codes "file") d)
 kind_from operator.Select d = select (tests_at d)
@@ -290,7 +310,7 @@ kind_from operator.Sequence d = sequence (number_at (codes "scope") d) (tests_at
 kind_from operator.Unless d = unless (number_at (codes "scope") d) (number_at (codes "hold") d) (tests_at d)
 kind_from operator.Output d = output
 
--- the node of an operator that a value says, behind the earlier ones
+-- the node of an operator that a value says, after the earlier ones
 abbrev pub node_from : Operator → List Node → Data → Node
 node_from operator earlier d = record {
   name = text_at (codes "name") d;
@@ -332,7 +352,7 @@ fault_under row earlier d = first_fault (early_faults row earlier d ++ late_faul
 abbrev pub fault_without_operator : Data → PlanKind
 fault_without_operator d = if has (codes "name") is_name_value d && has (codes "op") is_text d then fault.UnknownOp else fault.MissingPart
 
--- a value's first fault behind these nodes
+-- a value's first fault after these nodes
 abbrev pub node_fault : List Node → Data → Option PlanKind
 node_fault earlier d = option_map_or (λ operator. fault_under (row_of operator) earlier d) (operator_at d) (Some (fault_without_operator d))
 

@@ -19,9 +19,11 @@ pub record Row : Type 0 where
   pub members : List Member
   pub outcome : Outcome
 
+-- an operator's row, of these parts
 abbrev pub row : List ℕ → ℕ → ℕ → List Member → Outcome → Row
 row word least most members result = record { word = word; least = least; most = most; members = members; outcome = result }
 
+-- the row of each operator
 abbrev pub row_of : Operator → Row
 row_of operator.Source = row (codes "source") 0 0 (member.File ∷ member.Fields ∷ []) outcome.Declared
 row_of operator.Select = row (codes "select") 1 1 (member.Where ∷ []) outcome.First
@@ -38,6 +40,7 @@ row_of operator.Sequence = row (codes "sequence") 2 4 (member.Scope ∷ member.W
 row_of operator.Unless = row (codes "unless") 2 2 (member.Scope ∷ member.Hold ∷ member.Where ∷ []) outcome.First
 row_of operator.Output = row (codes "output") 1 1 [] outcome.First
 
+-- all operators
 abbrev pub operators : List Operator
 operators = operator.Source ∷ operator.Select ∷ operator.Project ∷ operator.Union ∷ operator.Join ∷ operator.Window ∷ operator.Shift
     ∷ operator.Hop ∷ operator.Starts ∷ operator.Ends ∷ operator.Group ∷ operator.Sequence ∷ operator.Unless ∷ operator.Output ∷ []
@@ -61,6 +64,7 @@ key_of member.Every = codes "every"
 key_of member.Scope = codes "scope"
 key_of member.Hold = codes "hold"
 
+-- what each member has to be
 abbrev pub form_of : Member → Form
 form_of member.File = form.Text
 form_of member.Fields = form.Types

@@ -20,6 +20,7 @@ pub record Refusal : Type 0 where
   pub kind : PlanKind
   pub node : ℕ
 
+-- a refusal: this fault, of the node of this number
 abbrev pub refused : {T : Type 0} → PlanKind → ℕ → Result T Refusal
 refused kind node = Err (record { kind = kind; node = node })
 
@@ -44,15 +45,19 @@ unfoldable pub lacks_part : Data → Bool
 lacks_part d = not (is_some (as_object d)) || (not (has (codes "version") is_version d) || (not (has (codes "nodes") (λ nodes. is_some (as_array nodes)) d)
     || has (codes "edge") (λ edge. not (is_number edge)) d))
 
+-- the values of the array that `nodes` is
 abbrev pub node_values : Data → List Data
 node_values d = values_of (get (codes "nodes") d)
 
+-- the document has over 64 nodes
 unfoldable pub has_too_many_nodes : Data → Bool
 has_too_many_nodes d = nat_lt 64 (length (node_values d))
 
+-- `edge` is there and isn't a whole number from 1 to 1,024
 unfoldable pub has_bad_edge : Data → Bool
 has_bad_edge d = has (codes "edge") (λ edge. not (is_whole_within 1 1024 edge)) d
 
+-- the first fault of the document, in the order of the numbers
 abbrev pub document_fault : Data → Option PlanKind
 document_fault d = first_fault ((lacks_part d, kind.MissingPart) ∷ (has_too_many_nodes d, kind.TooMany) ∷ (has_bad_edge d, kind.BadNumber) ∷ [])
 
@@ -62,7 +67,7 @@ edge_of d = option_map_or (λ edge. unwrap_or (as_whole edge) 64) (get (codes "e
 
 -- ---- the nodes
 
--- the nodes that the values are behind the earlier ones, or the first fault
+-- the earlier nodes, and after them those that the values are, or the first fault
 abbrev pub nodes_from : List Node → List Data → Result (List Node) Refusal
 nodes_from earlier [] = Ok earlier
 nodes_from earlier (d ∷ ds) = unless_fault (node_fault earlier d) (length earlier + 1) (nodes_from (earlier ++ node_of_value earlier d ∷ []) ds)
@@ -82,15 +87,18 @@ abbrev pub plan_with : ℕ → List Node → Result Drawn Refusal
 plan_with edge nodes = unless_node kind.NotOneOutput (excess_output (outputs_from 1 nodes))
     (unless_node kind.Unused (first_unused 0 nodes) (Ok (record { nodes = nodes; edge = edge })))
 
+-- the plan of the nodes that were read, or the fault that was found in them
 abbrev pub plan_of_nodes : ℕ → Result (List Node) Refusal → Result Drawn Refusal
 plan_of_nodes edge (Ok nodes) = plan_with edge nodes
 plan_of_nodes edge (Err refusal) = Err refusal
 
 -- ---- the bytes
 
+-- the plan that a JSON value describes, or its first fault: the document's before those of its nodes
 abbrev pub plan_of_value : Data → Result Drawn Refusal
 plan_of_value d = unless_fault (document_fault d) 0 (plan_of_nodes (edge_of d) (nodes_from [] (node_values d)))
 
+-- the plan that the JSON value describes, or the fault that the bytes aren't JSON
 abbrev pub plan_of_json : Option Data → Result Drawn Refusal
 plan_of_json None = refused kind.BadJson 0
 plan_of_json (Some d) = plan_of_value d
@@ -99,6 +107,7 @@ plan_of_json (Some d) = plan_of_value d
 abbrev pub json_of : List ℕ → Option Data
 json_of bytes = if is_utf8 bytes then read bytes else None
 
+-- the most bytes that a plan may have
 abbrev pub longest : ℕ
 longest = 1048576
 
@@ -111,5 +120,6 @@ abbrev pub IsFaultIn : {T : Type 0} → Result T Refusal → PlanFault → Type 
 IsFaultIn found (fault.Refused kind node) = found ≡ refused kind node
 IsFaultIn found fault.OutOfMemory = Unit {0}
 
+-- the fault is the first one of these bytes. Want of memory says nothing of it
 abbrev pub IsFaultOf : List ℕ → PlanFault → Type 0
 IsFaultOf bytes fault = IsFaultIn (plan_of bytes) fault

@@ -15,6 +15,7 @@ use Rattle.cedr_plan.specs.declared.operator.Operator.{Operator}
 use Rattle.cedr_plan.specs.declared.operator.Operator.TheVariants as operator
 use Rattle.cedr_plan.specs.declared.plan.Plan.{Plan}
 
+-- the operator of what a node does
 abbrev pub operator_of_kind : Kind → Operator
 operator_of_kind (source file) = operator.Source
 operator_of_kind (select tests) = operator.Select
@@ -31,6 +32,7 @@ operator_of_kind (sequence scope tests) = operator.Sequence
 operator_of_kind (unless scope hold tests) = operator.Unless
 operator_of_kind output = operator.Output
 
+-- the row of a node's operator
 abbrev pub row_of_node : Node → Row
 row_of_node node = row_of (operator_of_kind node.kind)
 
@@ -42,9 +44,11 @@ port_types earlier node = map (types_of earlier) node.inputs
 abbrev pub IsInput : List Node → ℕ → Type 0
 IsInput earlier place = (place < length earlier) × IfSome (slice_get earlier place) (λ node. is_output node ≡ false)
 
+-- a bound of a level is at most 2^40, or without limit
 abbrev pub IsBound : Option ℕ → Type 0
 IsBound bound = IfSome bound (λ limit. limit ≤ 2 ^ 40)
 
+-- the rules of a level: both bounds are in range, and the block isn't over the memory
 pub record IsLevel (level : Level) : Type 0 where
   pub block : IsBound level.block
   pub memory : IsBound level.memory
@@ -67,6 +71,7 @@ numbers_of (sequence scope tests) = scope ∷ []
 numbers_of (unless scope hold tests) = scope ∷ hold ∷ []
 numbers_of output = []
 
+-- a number that a node is given is from 1 to 2^40
 abbrev pub IsNumber : ℕ → Type 0
 IsNumber number = (1 ≤ number) × (number ≤ 2 ^ 40)
 
@@ -74,9 +79,11 @@ IsNumber number = (1 ≤ number) × (number ≤ 2 ^ 40)
 abbrev pub AreTests : List (List FieldType) → List Test → Type 0
 AreTests ports tests = (length tests ≤ 16) × (type_fault_of tests (all_ports ports) [] ≡ None)
 
+-- each of the columns is there
 abbrev pub AreColumns : List (List FieldType) → List ℕ → Type 0
 AreColumns ports columns = keep_fault_of columns (all_ports ports) ≡ None
 
+-- each of the columns is there and holds numbers
 abbrev pub AreSums : List (List FieldType) → List ℕ → Type 0
 AreSums ports sums = All (λ column. slice_get (all_ports ports) column ≡ Some field_type.Number) sums
 
@@ -119,7 +126,7 @@ abbrev pub HasSourceLevel : Kind → Level → Type 0
 HasSourceLevel (source file) level = level ≡ middle
 HasSourceLevel other level = Unit {0}
 
--- a node stands behind earlier ones
+-- a node may stand after the earlier ones
 pub record IsNode (earlier : List Node) (node : Node) : Type 0 where
   pub name : is_name node.name ≡ true
   pub new_name : list_any (is_named node.name) earlier ≡ false
@@ -133,7 +140,7 @@ pub record IsNode (earlier : List Node) (node : Node) : Type 0 where
   pub types : HasTypes node.kind (port_types earlier node) node.types
   pub width : length node.types ≤ 16
 
--- each of the nodes stands behind those before it
+-- each of the nodes may stand after the earlier ones and those before it
 abbrev pub AreNodes : List Node → List Node → Type 0
 AreNodes earlier [] = Unit {0}
 AreNodes earlier (node ∷ nodes) = IsNode earlier node × AreNodes (earlier ++ node ∷ []) nodes
@@ -142,8 +149,8 @@ AreNodes earlier (node ∷ nodes) = IsNode earlier node × AreNodes (earlier ++ 
 abbrev pub is_read : ℕ → List Node → Bool
 is_read place nodes = list_any (λ (node : Node). list_any (λ input. input == place) node.inputs) nodes
 
--- the number, from 1, of the first node that is no output and that no later node reads; the place of the first
--- of these nodes is told
+-- the number, from 1, of the first node that is no output and that no later node reads. The first one of the
+-- list stands at this place in the plan
 abbrev pub first_unused : ℕ → List Node → Option ℕ
 first_unused place [] = None
 first_unused place (node ∷ nodes) = if is_output node || is_read place nodes then first_unused (place + 1) nodes else Some (place + 1)
@@ -157,5 +164,6 @@ pub record IsSound (plan : Drawn) : Type 0 where
   pub one_output : count_by is_output plan.nodes ≡ 1
   pub used : first_unused 0 plan.nodes ≡ None
 
+-- the plan keeps the rules
 abbrev pub IsPlan : Plan → Type 0
 IsPlan plan = IsSound (drawn plan)

@@ -10,6 +10,7 @@ use Rattle.serde_json.specs.Data.{Data}
 use Rattle.serde_json.specs.Find.{get, as_str, as_number, as_i64}
 use Rattle.cedr_plan.specs.Json.{as_list, as_whole, is_number, is_text, has}
 
+-- the comparison of a word
 abbrev pub op_of : List ℕ → Option Op
 op_of word = if bytes_eq word (codes "=") then Some op.Eq
     else if bytes_eq word (codes "!=") then Some op.Ne
@@ -38,6 +39,7 @@ abbrev pub is_bad_side : Data → Bool
 is_bad_side d = if is_some (get (codes "column") d) then has (codes "column") (λ column. not (is_some (as_whole column))) d
     else has (codes "int") (λ number. not (is_some (as_signed number))) d
 
+-- the right side that a value is, if it is one
 abbrev pub side_of : Data → Option Operand
 side_of d = if is_some (get (codes "column") d) then option_map operand.Column (option_and_then as_whole (get (codes "column") d))
     else if is_some (get (codes "int") d) then option_map operand.Number (option_and_then as_signed (get (codes "int") d))
@@ -48,6 +50,7 @@ abbrev pub are_test : List Data → Bool
 are_test (left ∷ op ∷ right ∷ []) = is_number left && is_some (as_op op) && is_side right
 are_test values = false
 
+-- the value has a test's form: an array of three such values
 abbrev pub is_test : Data → Bool
 is_test d = option_map_or are_test (as_list d) false
 
@@ -56,9 +59,11 @@ abbrev pub have_bad_number : List Data → Bool
 have_bad_number (left ∷ op ∷ right ∷ []) = not (is_some (as_whole left)) || is_bad_side right
 have_bad_number values = false
 
+-- the value is a test with such a number
 abbrev pub is_bad_test : Data → Bool
 is_bad_test d = option_map_or have_bad_number (as_list d) false
 
+-- the test of these parts, where all three are there
 abbrev pub test_from : Option ℕ → Option Op → Option Operand → Option Test
 test_from (Some left) (Some op) (Some right) = Some (record { left = left; op = op; right = right })
 test_from left op right = None
@@ -68,5 +73,6 @@ abbrev pub test_of_values : List Data → Option Test
 test_of_values (left ∷ op ∷ right ∷ []) = test_from (as_whole left) (as_op op) (side_of right)
 test_of_values values = None
 
+-- the test that a value is, if it is one
 abbrev pub test_of : Data → Option Test
 test_of d = option_and_then test_of_values (as_list d)

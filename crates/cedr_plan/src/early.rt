@@ -44,7 +44,7 @@ pub(crate) fn fault_without_operator(node: &Value) -> PlanKind
     }
 }
 
-/// The first fault of a node that doesn't hang on the types of fields.
+/// The first fault of a node that doesn't depend on the types of fields.
 pub(crate) fn early_fault(
     earlier: &[PlanNode],
     operator: Operator,

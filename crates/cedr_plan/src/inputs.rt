@@ -31,7 +31,7 @@ pub(crate) fn input_values(operator: Operator, node: &Value) -> &[Value]
     }
 }
 
-/// The level of the node's ports, which is the middle one where none is told.
+/// The level of the node's ports, which is the middle one where none is given.
 pub(crate) fn level_at(operator: Operator, node: &Value) -> Level
     ensures { result ≡ level_at (row_of operator) (view node.now) }
 {

@@ -14,7 +14,7 @@ const STRONG: Level = Level {
     memory: None,
 };
 
-/// The level of a port where none is told.
+/// The level of a port where none is given.
 pub(crate) const MIDDLE: Level = Level {
     block: Some(0),
     memory: None,

@@ -20,7 +20,7 @@ use std::alloc::Global;
 
 const WIDEST: usize = 16;
 
-/// The node that the value is behind the earlier ones, or its first fault.
+/// The node that the value is after the earlier ones, or its first fault.
 pub(crate) fn read_node(
     alloc: Global,
     earlier: &[PlanNode],
@@ -39,7 +39,7 @@ pub(crate) fn read_node(
     build_node(alloc, earlier, operator, node)
 }
 
-/// The node, or its first fault that hangs on the types of fields.
+/// The node, or its first fault that depends on the types of fields.
 #[tactic(auto, unfolding(crate::specs::Nodes::is_too_wide, crate::specs::Nodes::has_bad_column, crate::specs::Nodes::has_type_difference))]
 fn build_node(
     alloc: Global,

@@ -58,7 +58,7 @@ pub struct PlanNode {
     pub types: Vec<FieldType>,
 }
 
-/// The nodes of a query, each behind those that it reads, and how many messages an edge between two of them
+/// The nodes of a query, each after those that it reads, and how many messages an edge between two of them
 /// holds.
 #[derive(Drop)]
 pub struct Plan {

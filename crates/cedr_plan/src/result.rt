@@ -117,7 +117,7 @@ fn group_width(alloc: Global, node: &Value) -> Result<usize, OutOfMemory>
     Ok(keys + (count + sums))
 }
 
-/// Whether the ports of a node whose inputs have equal types haven't.
+/// Whether a node needs the same types on all ports, and its ports have different ones.
 pub(crate) fn has_unlike_ports(outcome: Outcome, earlier: &[PlanNode], inputs: &[usize]) -> bool
     ensures { result ≡ has_unlike_ports outcome (map (types_of (map node_of earlier.now)) inputs.now) }
 {

@@ -27,6 +27,7 @@ follows_behind old before (c ∷ cs) (suc i) d legal within = rw append_assoc at
 pub next_follows : (old now : List Row) (cs : List Change) (i : ℕ) (d : Change) → AreLegal old [] cs → i < length cs → Leads old (take i cs) now → MayFollow now [] (get_or cs i d)
 next_follows old now cs i d legal within leads = follows_led old now (take i cs) (get_or cs i d) leads (follows_behind old [] cs i d legal within)
 
+-- an empty list of changes leads from a table to itself
 pub leads_nowhere : (old : List Row) → Leads old [] old
 leads_nowhere old = record { sums = record { each = λ r. refl } }
 

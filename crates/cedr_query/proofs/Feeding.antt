@@ -27,6 +27,7 @@ nothing_there zero k = refl
 nothing_there (suc n) zero = refl
 nothing_there (suc n) (suc k) = nothing_there n k
 
+-- a table with a row more is the old one with the delta of an addition of that row
 pub added_moves : (row : Row) (rows : List Row) → IsMoved (Add row) rows (rows ++ row ∷ [])
 added_moves row rows = record { sums = record { each = λ r. omega (arith, count_of-append r (rows ++ row ∷ []) []) } }
 
@@ -103,6 +104,7 @@ module _ (meaning : Meaning) (stands : Tables → List ℕ → Type 0) (laws : O
 abbrev pub with_first : Tables → ℕ → ℕ → List Row → Tables
 with_first tables port i rows = with_table tables port (table_at tables port ++ take i rows)
 
+-- with none of the rows more the tables are as they were
 pub with_none : (tables : Tables) (port : ℕ) (rows : List Row) → with_first tables port 0 rows ≡ tables
 with_none tables port rows = ap (λ (t : List Row). set tables port t) (append-nil (table_at tables port)) ∙ set-get_or tables port []
 
@@ -117,6 +119,7 @@ with_next tables port i rows x port_is within is =
     ∙ (append_assoc (table_at tables port) (take i rows) (x ∷ []) ∙ ap (λ (t : List Row). table_at tables port ++ t) next)
     )
 
+-- once all rows of a table came, the port has its old rows and then all of these
 pub with_last : (tables : Tables) (port i : ℕ) (rows : List Row) → length rows ≤ i → with_first tables port i rows ≡ with_table tables port (table_at tables port ++ rows)
 with_last tables port i rows past = ap (λ (t : List Row). set tables port (table_at tables port ++ t)) (take_all i rows past)
 
@@ -138,6 +141,7 @@ pub record FedTo (tables : Tables) (inputs : List ℕ) (port : ℕ) (fed : Table
   pub before : (k : ℕ) → k < port → SameRows (table_at tables (get_or inputs k 0)) (table_at fed k)
   pub behind : (k : ℕ) → port ≤ k → table_at fed k ≡ []
 
+-- at first nothing has come on any port
 pub fed_none : (tables : Tables) (inputs : List ℕ) (n : ℕ) → FedTo tables inputs 0 (replicate n [])
 fed_none tables inputs n = record { before = λ k h. absurd (omega arith); behind = λ k h. nothing_there n k }
 
@@ -163,12 +167,14 @@ same_at_each [] (u ∷ us) long same = absurd (omega arith)
 same_at_each (t ∷ ts) [] long same = absurd (omega arith)
 same_at_each (t ∷ ts) (u ∷ us) long same = (same 0 (omega arith), same_at_each ts us (omega arith) (λ k h. same (suc k) (omega arith)))
 
+-- where tables are the same bags as others, the others are the same bags as these
 pub same_tables_back : (ts us : Tables) → SameTables ts us → SameTables us ts
 same_tables_back [] [] same = tt
 same_tables_back [] (u ∷ us) same = absurd same
 same_tables_back (t ∷ ts) [] same = absurd same
 same_tables_back (t ∷ ts) (u ∷ us) same = (same_back t u same.0, same_tables_back ts us same.1)
 
+-- where tables are the same bags as others, and those as third ones, the first are the same bags as the third
 pub same_tables_along : (ts us vs : Tables) → SameTables ts us → SameTables us vs → SameTables ts vs
 same_tables_along [] [] vs one other = other
 same_tables_along [] (u ∷ us) vs one other = absurd one
@@ -190,6 +196,7 @@ works_alike meaning stands ts us made laws same works = record {
   rows = works.rows;
 }
 
+-- a state that was fed all tables that are read works for tables that are the same bags as these
 pub works_fed : (meaning : Meaning) (stands : Tables → List ℕ → Type 0) (tables : Tables) (inputs : List ℕ) (port : ℕ) (fed others : Tables) (made : List Row) → OperatorLaws meaning stands → length inputs ≡ meaning.ports
     → length inputs ≤ port → FedTo tables inputs port fed → Works meaning stands fed made → SameTables (map (table_at tables) inputs) others → Works meaning stands others made
 works_fed meaning stands tables inputs port fed others made laws ports past was works same =
@@ -214,6 +221,7 @@ rise_from_none (suc n) (m ∷ ms) long = (omega arith, rise_from_none n ms (omeg
 pub stands_at : (meaning : Meaning) (stands : Tables → List ℕ → Type 0) (tables : Tables) (marks : List ℕ) (made : List Row) → OperatorLaws meaning stands → Works meaning stands tables made → length marks ≡ meaning.ports → stands tables marks
 stands_at meaning stands tables marks made laws works long = laws.rising tables (replicate meaning.ports 0) marks works.stands_for (rise_from_none meaning.ports marks long)
 
+-- tables are the same bags as themselves
 pub same_tables_itself : (ts : Tables) → SameTables ts ts
 same_tables_itself [] = tt
 same_tables_itself (t ∷ ts) = (same_itself t, same_tables_itself ts)

@@ -25,6 +25,7 @@ pub one_node_more : {X : Type 0} (make : List PlanNode → List X → PlanNode �
     → each_node make [] [] (take (i + 1) nodes) ≡ each_node make [] [] (take i nodes) ++ make (take i nodes) (each_node make [] [] (take i nodes)) (get_or nodes i d) ∷ []
 one_node_more make nodes i d within = ap (each_node make [] []) (take_more nodes i d within) ∙ more_behind make [] [] (take i nodes) (get_or nodes i d)
 
+-- tables that are the same bags stay so with one more of each, where these two are the same bag
 pub same_tables_push : (ts us : Tables) (t u : List Row) → SameTables ts us → SameRows t u → SameTables (ts ++ t ∷ []) (us ++ u ∷ [])
 same_tables_push [] [] t u same last = (last, tt)
 same_tables_push [] (y ∷ us) t u same last = absurd same
@@ -37,9 +38,11 @@ rows_push [] t are has (suc k) = are k
 rows_push (x ∷ ts) t are has zero = are 0
 rows_push (x ∷ ts) t are has (suc k) = rows_push ts t (λ j. are (suc j)) has k
 
+-- tables with rows only have rows only with one more such table
 pub are_rows_push : (ts : Tables) (t : List Row) → HaveRows ts → AreRows t → HaveRows (ts ++ t ∷ [])
 are_rows_push ts t are has = record { each = rows_push ts t are.each has }
 
+-- where there is no table, each has rows only
 pub no_rows : HaveRows []
 no_rows = record { each = λ k. record { each = λ r there. absurd (omega arith) } }
 
@@ -49,7 +52,7 @@ node_behind earlier (n ∷ nodes) zero d are within = subst (λ (e : List Node).
 node_behind earlier (n ∷ nodes) (suc i) d are within =
     subst (λ (e : List Node). IsNode e (node_of (get_or nodes i d))) (append_assoc earlier (node_of n ∷ []) (map node_of (take i nodes))) (node_behind (earlier ++ node_of n ∷ []) nodes i d are.1 (omega arith))
 
--- each node of a plan stands behind those before it
+-- each node of a plan may follow those before it
 pub node_is : (nodes : List PlanNode) (i : ℕ) (d : PlanNode) → AreNodes [] (map node_of nodes) → i < length nodes → IsNode (map node_of (take i nodes)) (node_of (get_or nodes i d))
 node_is nodes i d are within = node_behind [] nodes i d are within
 

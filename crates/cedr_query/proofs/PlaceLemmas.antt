@@ -17,6 +17,7 @@ use Rattle.op_planned.specs.Ready.{is_source}
 abbrev is_the_output : PlanNode → Bool
 is_the_output node = is_output node.kind
 
+-- a node is drawn as an output exactly where its kind is that of an output
 pub output_alike : (k : NodeKind) (node : Node) → is_drawn_output (record node { kind = kind_of k }) ≡ is_output k
 output_alike (kind.Source file) node = refl
 output_alike (kind.Select tests) node = refl

@@ -9,6 +9,7 @@ use Rattle.cedr_table.specs.Operators.{Tables, table_at, mark_at}
 use Rattle.op_planned.specs.Meanings.{meaning_of}
 use Rattle.op_planned.specs.Ready.{is_source}
 
+-- a node of this kind is an output
 abbrev pub is_output : NodeKind → Bool
 is_output kind.Output = true
 is_output other = false

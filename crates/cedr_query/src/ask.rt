@@ -19,11 +19,12 @@ pub(crate) struct Answer {
 }
 
 /// Applies a change that may follow in a table.
-fn apply_one(made: &mut Table, change: &Change) -> Result<(), OutOfMemory>
+fn apply_one(alloc: Global, made: &mut Table, change: &Change) -> Result<(), OutOfMemory>
     requires { MayFollow made.old [] change.now }
     ensures { OnOk result (IsMoved change.now made.old made.new) }
 {
-    match made.apply(change) {
+    let copied = change.copy(alloc)?;
+    match made.apply(copied) {
         Ok(()) => Ok(()),
         Err(TableFault::OutOfMemory) => Err(OutOfMemory),
         Err(TableFault::NoSuchRow) => unreachable!(),
@@ -31,12 +32,12 @@ fn apply_one(made: &mut Table, change: &Change) -> Result<(), OutOfMemory>
 }
 
 /// Applies changes that are legal from a table on.
-fn apply_all(made: &mut Table, changes: &[Change]) -> Result<(), OutOfMemory>
+fn apply_all(alloc: Global, made: &mut Table, changes: &[Change]) -> Result<(), OutOfMemory>
     requires { AreLegal made.old [] changes.now }
     ensures { OnOk result (Leads made.old changes.now made.new) }
 {
     for change in changes {
-        apply_one(made, change)?;
+        apply_one(alloc, made, change)?;
     }
     Ok(())
 }
@@ -57,8 +58,8 @@ fn add_row<O: Operator>(
 {
     let change = Change::Add(row.copy(alloc)?);
     let mut answers = Vec::new(alloc);
-    op.apply(alloc, port, &change, &mut answers)?;
-    apply_all(made, answers.as_slice())
+    op.apply(alloc, port, change, &mut answers)?;
+    apply_all(alloc, made, answers.as_slice())
 }
 
 /// Each of some rows comes on a port.

@@ -16,7 +16,7 @@ use std::alloc::Global;
 use std::process::Abort;
 use std::test::Fail;
 
-/// What a row may have behind its text: nothing, a text or a number.
+/// What a row may have after its text: nothing, a text or a number.
 fn some_field(alloc: Global, random: &mut Random) -> Result<Option<Field>, OutOfMemory> {
     let field = match random.below(6) {
         0 => return Ok(None),
@@ -110,7 +110,7 @@ impl Seen {
 }
 
 /// The answers come one after the other: each cuts a row that is there.
-fn apply_all(made: &mut Table, answers: &[Change]) -> Result<(), Fail> {
+fn apply_all(made: &mut Table, answers: Vec<Change>) -> Result<(), Fail> {
     for answer in answers {
         made.apply(answer)?;
     }
@@ -149,7 +149,7 @@ fn take_some<O: Operator>(
     if !feed(alloc, op, tables, marks, port, &change, &mut out)? {
         return Err("a change that may not come")?;
     }
-    apply_all(made, out.as_slice())
+    apply_all(made, out)
 }
 
 /// An operator takes a made change or a higher mark, and is trimmed. Then its answers so far make the same rows as the

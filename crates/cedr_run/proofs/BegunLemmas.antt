@@ -1,4 +1,4 @@
--- What the sources of a plan gave so far, where it is told what their files hold.
+-- What the sources of a plan gave so far, where it is known what their files hold.
 use Rattle.std.proofs.Common.{◌≡◌, ℕ, inl, inr, List, [], ◌∷◌, ◌++◌, Bool, true, false, cond, length, map, refl, ap, sym, ◌∙◌, subst, arith, append_assoc}
 use Rattle.std.specs.Prelude.{Option, Some, slice_index_or}
 use Rattle.std.specs.Io.KnownBytes.{Consumes}
@@ -62,7 +62,7 @@ begun_by (stop.Refused line fault) shape all bytes more given ended parts at_end
 begun_by stop.ReadFault shape all bytes more given ended parts at_end is stopped = broken_off shape all bytes more given ended parts at_end is
 begun_by stop.OutOfMemory shape all bytes more given ended parts at_end is stopped = broken_off shape all bytes more given ended parts at_end is
 
--- where it is told what its file holds
+-- where it is known what its file holds
 source_begun : {S : Type 0} (rest : S → Option (List ℕ)) (faults : S → ℕ) (told : List ℕ → List ℕ) (n : PlanNode) (s : S) (e : SourceEnd S) (given : List Message) → rest s ≡ Some (told (file_of n.kind)) → SourceBegan rest faults n s e given → HasBegun told n given
 source_begun rest faults told n s e given known began =
     let all = told (file_of n.kind) in
@@ -77,7 +77,7 @@ source_begun rest faults told n s e given known began =
 -- ---- all sources of a plan
 
 module _ {S : Type 0} (rest : S → Option (List ℕ)) (content : List ℕ → Option (List ℕ)) (told : List ℕ → List ℕ) where
-  -- the source of a node behind a source has what its file holds, where that is so among the sources behind that one
+  -- the source of a node after a source has what its file holds, where that is so among the sources after that one
   found_behind : (b : PlanNode) (before after : List PlanNode) (n : PlanNode)
       → ((sources : List S) → AreFound rest content (before ++ n ∷ after) sources → AreTold content told (source_files (before ++ n ∷ after)) → (s : S) → rest (slice_index_or sources (source_count before) s) ≡ Some (told (file_of n.kind)))
       → (sources : List S) → AreFound rest content (b ∷ (before ++ n ∷ after)) sources → AreTold content told (source_files (b ∷ (before ++ n ∷ after))) → (s : S) → is_source b.kind ≡ true → rest (slice_index_or sources (source_count (b ∷ before)) s) ≡ Some (told (file_of n.kind))

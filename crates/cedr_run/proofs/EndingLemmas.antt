@@ -32,14 +32,17 @@ use Rattle.cedr_run.specs.Ending.{Ends}
 
 -- ---- fronts
 
+-- where nothing was written, a front of any text was
 pub nothing_is_front : (old new : Option (List ℕ)) (text : List ℕ) → Keeps old new → AppendsFront old new text
 nothing_is_front None new text keeps = record { count = 0; grows = tt }
 nothing_is_front (Some xs) None text keeps = absurd keeps
 nothing_is_front (Some xs) (Some ys) text keeps = record { count = 0; grows = keeps ∙ sym (append-nil xs) }
 
+-- where a text was written, a front of it was
 pub whole_is_front : (old new : Option (List ℕ)) (text : List ℕ) → Appends old new text → AppendsFront old new text
 whole_is_front old new text appends = record { count = length text; grows = subst (Appends old new) (sym (take_all (length text) text (omega arith))) appends }
 
+-- what is the same is kept
 pub kept_itself : (old : Option (List ℕ)) → Keeps old old
 kept_itself None = tt
 kept_itself (Some bytes) = refl
@@ -50,6 +53,7 @@ nothing_appends (Some bytes) = sym (append-nil bytes)
 
 -- ---- a whole text
 
+-- a command ends as the write of its text went, where this text is what it gives
 pub ends_written : (command : Command) (files files' : FilesSeen) (out out' : SinkSeen) (o : Outcome) (text : List ℕ) → WritesText o out out' text → files'.faults ≡ files.faults
     → ((told : List ℕ → List ℕ) → AreTold files.content told (named_files command) → Gives files.content told command text)
     → ((told : List ℕ → List ℕ) → Gives files.content told command text → Begins files.content told command text)
@@ -64,6 +68,7 @@ ends_written command files files' out out' outcome.Read text h same gives begins
 
 -- ---- something isn't accepted, and nothing was written
 
+-- where a command refuses what it read, it ends with what is said of that, or for want of memory
 pub ends_said : (command : Command) (files files' : FilesSeen) (out : SinkSeen) (o : Outcome) (text : List ℕ) → Says o text → files'.faults ≡ files.faults
     → ((told : List ℕ → List ℕ) (said : List ℕ) → said ≡ text → AreTold files.content told (named_files command) → Refuses files.content told command [] said)
     → CommandEnds command files files' out out o
@@ -88,6 +93,7 @@ known_plan content bytes plan is h = subst (λ (known : Option (List ℕ)). IfSo
 pub opened_plan : (content : Option (List ℕ)) (bytes : List ℕ) (plan : Plan) → content ≡ Some bytes → OpensPlan (Ok plan) content → IsPlanOf bytes plan.nodes.items
 opened_plan content bytes plan is h = record { plan = drawn plan; described = known_plan content bytes plan is h; nodes_are = refl }
 
+-- where the opening of a plan stopped a command, the command ends so, and nothing was written
 pub ends_no_plan : (command : Command) (files files' : FilesSeen) (out : SinkSeen) (o : Outcome) → OpensPlan (Err o) (files.content command.file) → CountsStep {T = Plan} (Err o) files.faults files'.faults
     → ((told : List ℕ → List ℕ) (kind : PlanKind) (node : ℕ) → IsNoPlan (told command.file) kind node → RefusesPlan told command kind node)
     → CommandEnds command files files' out out o
@@ -102,12 +108,15 @@ ends_no_plan command files files' out outcome.Write h same refuses = absurd h
 
 -- ---- which files were asked for
 
+-- of no names none was asked for
 pub asks_none : (asked : List (List ℕ)) → AsksFirst asked asked []
 asks_none asked = record { count = 0; added = sym (append-nil asked) }
 
+-- of some names the first one was asked for
 pub asks_one : (old new : List (List ℕ)) (name : List ℕ) (names : List (List ℕ)) → new ≡ old ++ name ∷ [] → AsksFirst old new (name ∷ names)
 asks_one old new name names is = record { count = 1; added = is }
 
+-- of some names the first one was asked for, and then first ones of the others
 pub asks_more : (old now new : List (List ℕ)) (name : List ℕ) (names : List (List ℕ)) → now ≡ old ++ name ∷ [] → AsksFirst now new names → AsksFirst old new (name ∷ names)
 asks_more old now new name names is asks = record {
   count = suc asks.count;
@@ -116,6 +125,7 @@ asks_more old now new name names is asks = record {
 
 -- ---- commands over sources
 
+-- where the files hold what they held, it is still known what they hold
 pub told_same : (before after : List ℕ → Option (List ℕ)) (told : List ℕ → List ℕ) (names : List (List ℕ)) → ((name : List ℕ) → after name ≡ before name) → AreTold before told names → AreTold after told names
 told_same before after told [] same h = tt
 told_same before after told (name ∷ names) same h = (same name ∙ h.0, told_same before after told names same h.1)
@@ -149,6 +159,7 @@ begins_of : (job : Job) (content : List ℕ → Option (List ℕ)) (told : List 
 begins_of job content told file script text reads =
     by_job (λ (job : Job). OfPlan content told file (λ nodes. BeginsPlan job told nodes text) → Begins content told (record { job = job; file = file; script = script }) text) job reads (λ h. h) (λ h. h) (λ h. h) (λ h. h)
 
+-- a command that reads sources may have asked for its plan alone, or for nothing
 pub plan_asked : (job : Job) (files files' : FilesSeen) (file script : List ℕ) → ReadsSources job → AsksFirst files.asked files'.asked (file ∷ []) → AsksOnly (record { job = job; file = file; script = script }) files files'
 plan_asked job files files' file script reads h = by_job (λ (job : Job). AsksOnly (record { job = job; file = file; script = script }) files files') job reads (inl h) (inl h) (inl h) (inl h)
 
@@ -168,11 +179,12 @@ sources_no_plan job file script files files' out o reads h counts = ends_no_plan
 pub IsOpened : FilesSeen → List ℕ → List PlanNode → Type 0
 IsOpened files file nodes = (told : List ℕ → List ℕ) → AreTold files.content told (file ∷ []) → IsPlanOf (told file) nodes
 
+-- where a plan was answered, a plan of its nodes was opened
 pub is_opened : (files : FilesSeen) (file : List ℕ) (plan : Plan) → OpensPlan (Ok plan) (files.content file) → IsOpened files file plan.nodes.items
 unfolding IsOpened
 is_opened files file plan h told is = opened_plan (files.content file) (told file) plan is.0 h
 
--- and is that of the file, where this is told
+-- and is that of the file, where it is known what that holds
 pub opened_told : (files : FilesSeen) (file : List ℕ) (nodes : List PlanNode) → IsOpened files file nodes → (told : List ℕ → List ℕ) → AreTold files.content told (file ∷ []) → IsPlanOf (told file) nodes
 unfolding IsOpened
 opened_told files file nodes opened = opened
@@ -183,6 +195,8 @@ pub are_opened : (files files' : FilesSeen) (file : List ℕ) (nodes : List Plan
 unfolding IsOpened
 are_opened files files' file nodes left opened same read = record { plan = opened; sources = read; faults = same }
 
+-- a command that reads the sources of an opened plan may have asked for the plan and their files, each once
+-- and in this order, or for the first ones of these
 pub sources_asked : (job : Job) (files files' : FilesSeen) (file script : List ℕ) (nodes : List PlanNode) → ReadsSources job → IsOpened files file nodes → AsksFirst files.asked files'.asked (file ∷ source_files nodes) → AsksOnly (record { job = job; file = file; script = script }) files files'
 unfolding IsOpened
 sources_asked job files files' file script nodes reads opened asked = asks_plan job files files' file script reads (record { nodes = nodes; plan = opened; asked = asked })
@@ -216,6 +230,7 @@ ends_text texts nodes left out out' (outcome.Events said) text h gives = absurd 
 ends_text texts nodes left out out' (outcome.BadPlan kind node) text h gives = absurd h
 ends_text texts nodes left out out' outcome.Read text h gives = absurd h
 
+-- where the sources are accepted, the text of an answer over their canonical histories answers the query
 pub answers_query : (always : Bool) (told : List ℕ → List ℕ) (nodes : List PlanNode) (left : Lists) (text : List ℕ) → AcceptedLeft told nodes left
     → ((histories : Tables) → AllWhole (source_count nodes) (sources_in nodes left) → AreTables (sources_in nodes left) histories → IsAnswerText always nodes (sources_in nodes left) histories text) → AnswersQuery always told nodes text
 answers_query always told nodes left text got answer = record { sources = sources_in nodes left; histories = got.0; accepted = got.1; text_is = answer got.0 got.2 got.3 }
@@ -239,7 +254,7 @@ sources_given job file script files files' out out' (outcome.Events said) nodes 
 sources_given job file script files files' out out' (outcome.BadPlan kind node) nodes left reads opened h = absurd h
 sources_given job file script files files' out out' outcome.Read nodes left reads opened h = absurd h
 
--- ---- what err is told where memory ran out
+-- ---- what err gains where memory ran out
 
 -- the words for that, tried in whatever way
 pub words_tried : {A E : Type 0} (r : Result A E) (old new : Option (List ℕ)) (text : List ℕ) → OnOk r (Appends old new text) → OnErr r (AppendsFront old new text) → AppendsFront old new text
@@ -248,11 +263,13 @@ words_tried (Err fault) old new text ok err = err
 
 -- ---- a count rose
 
+-- a count that rose is greater, where it wasn't at its last value
 pub rose_above : (old new : ℕ) → Rose old new → old < last_count → old < new
 rose_above old new rose below = let more = rose.more in search (rules, tests)
 
 -- ---- the call
 
+-- a call ends as the command that its words name, where status and err are those of how that went
 pub ends_command : (command : Option Command) (named : Command) (files files' : FilesSeen) (out out' err err' : SinkSeen) (o : Outcome) (s : Status) → Some named ≡ command
     → CommandEnds named files files' out out' o → AsksOnly named files files' → ((name : List ℕ) → files'.content name ≡ files.content name)
     → (s ≡ status_of o) ⊎ (s ≡ status.OutOfMemory) → (s ≢ status.OutOfMemory → Tells err err' (told_text o)) → (s ≡ status.OutOfMemory → TellsLack err err' (told_text o))
@@ -260,6 +277,7 @@ pub ends_command : (command : Option Command) (named : Command) (files files' : 
 ends_command command named files files' out out' err err' o s is ends asked contents at told lacking =
     subst (λ (c : Option Command). Ends c files files' out out' err err' s) is (record { went = o; came = (ends, asked); answered = at; told = told; lacking = lacking; contents = contents })
 
+-- a call whose words match no command ends with the usage, or for want of memory; files and out stay
 pub ends_no_command : (command : Option Command) (files : FilesSeen) (out err err' : SinkSeen) (s : Status) → None ≡ command
     → (s ≡ status.Usage) ⊎ (s ≡ status.OutOfMemory) → (s ≢ status.OutOfMemory → Tells err err' (told_text outcome.Usage)) → (s ≡ status.OutOfMemory → TellsLack err err' (told_text outcome.Usage))
     → Ends command files files out out err err' s

@@ -35,7 +35,7 @@ faults_more sources fs i d old new within before now =
 
 -- ---- sources by number
 
--- a source is the first of the sources, and those of later nodes are behind it
+-- a source is the first of the sources, and those of later nodes come after it
 pub sources_source : (n : PlanNode) (nodes : List PlanNode) → is_source n.kind ≡ true → source_nodes (n ∷ nodes) ≡ n ∷ source_nodes nodes
 sources_source n nodes is = ap {B = List PlanNode} (λ (b : Bool). if b then n ∷ source_nodes nodes else source_nodes nodes) is
 
@@ -43,7 +43,7 @@ sources_source n nodes is = ap {B = List PlanNode} (λ (b : Bool). if b then n �
 pub sources_other : (n : PlanNode) (nodes : List PlanNode) → is_source n.kind ≡ false → source_nodes (n ∷ nodes) ≡ source_nodes nodes
 sources_other n nodes isnt = ap {B = List PlanNode} (λ (b : Bool). if b then n ∷ source_nodes nodes else source_nodes nodes) isnt
 
--- the fault of a source is the first, and those of later nodes are behind it
+-- the fault of a source is the first, and those of later nodes come after it
 node_faults_source : (n : PlanNode) (nodes : List PlanNode) (f : Option Refusal) (faults : List (Option Refusal)) → is_source n.kind ≡ true → node_faults (n ∷ nodes) (f ∷ faults) ≡ f ∷ node_faults nodes faults
 node_faults_source n nodes f faults is = ap {B = List (Option Refusal)} (λ (b : Bool). if b then f ∷ node_faults nodes faults else None ∷ node_faults nodes (f ∷ faults)) is
 
@@ -59,7 +59,7 @@ said_one sources n number (stop.Refused line fault) more here = ap (λ (found : 
 said_one sources n number stop.ReadFault more here = refl
 said_one sources n number stop.OutOfMemory more here = refl
 
--- the lines of a node and of those behind it, where those of the others are as many
+-- the lines by the sources' numbers are those by the nodes, where they are so after the first node
 said_node : {S : Type 0} (before : List PlanNode) (n : PlanNode) (nodes sources : List PlanNode) → sources ≡ before ++ source_nodes (n ∷ nodes) → (b : Bool) → is_source n.kind ≡ b → (ends : List (SourceEnd S)) → length ends ≡ source_count (n ∷ nodes)
     → ((first : List PlanNode) (later : List (SourceEnd S)) → sources ≡ first ++ source_nodes nodes → length later ≡ source_count nodes → faults_said sources (faults_from (length first) later) ≡ faults_text nodes (node_faults nodes (map fault_in later)))
     → faults_said sources (faults_from (length before) ends) ≡ faults_text (n ∷ nodes) (node_faults (n ∷ nodes) (map fault_in ends))
@@ -80,7 +80,7 @@ said_node before n nodes sources is true source (e ∷ ends) count others =
     ∙ (ap (λ (t : List ℕ). fault_text n.name (fault_of e.stop) ++ t) (others (before ++ n ∷ []) ends (all ∙ sym (append_assoc before (n ∷ []) (source_nodes nodes))) (omega (arith, one, count, count_more n nodes)))
     ∙ sym (ap (faults_text (n ∷ nodes)) (node_faults_source n nodes (fault_in e) (map fault_in ends) source))))
 
--- the lines of the faults by the sources' numbers are those by the nodes, behind some sources
+-- the lines of the faults by the sources' numbers are those by the nodes, after some sources
 said_from : {S : Type 0} (before nodes : List PlanNode) (sources : List PlanNode) (ends : List (SourceEnd S)) → sources ≡ before ++ source_nodes nodes → length ends ≡ source_count nodes → faults_said sources (faults_from (length before) ends) ≡ faults_text nodes (node_faults nodes (map fault_in ends))
 said_from before [] sources [] is count = refl
 said_from before [] sources (e ∷ ends) is count = absurd (omega (arith, count))

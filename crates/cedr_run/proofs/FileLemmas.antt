@@ -135,6 +135,7 @@ front_at all front true true is_front is_all read =
 front_at all front true false is_front is_all read =
     absurd (omega (arith, ltb-true FILE_LIMIT (length front) is_front, ltb-false FILE_LIMIT (length all) is_all, ap length read.begins, length-append front read.rest))
 
+-- what was read of a file, all of it unless it passes the limit, is judged as the file is
 pub front_judged : (all front : List ℕ) → IsFileFront FILE_LIMIT all front → judged AnyText front ≡ judged AnyText all
 front_judged all front read = front_at all front (nat_lt FILE_LIMIT (length front)) (nat_lt FILE_LIMIT (length all)) refl refl read
 
@@ -151,6 +152,7 @@ front_plan all front true true is_front is_all read =
 front_plan all front true false is_front is_all read =
     absurd (omega (arith, ltb-true longest (length front) is_front, ltb-false longest (length all) is_all, ap length read.begins, length-append front read.rest))
 
+-- what was read of a plan's file, all of it unless it passes the longest plan, describes what the file does
 pub plan_of_front : (all front : List ℕ) → IsFileFront longest all front → plan_of all ≡ plan_of front
 plan_of_front all front read = front_plan all front (nat_lt longest (length front)) (nat_lt longest (length all)) refl refl read
 
@@ -169,33 +171,37 @@ played_at nodes shapes all front true true is_front is_all read =
 played_at nodes shapes all front true false is_front is_all read =
     absurd (omega (arith, ltb-true FILE_LIMIT (length front) is_front, ltb-false FILE_LIMIT (length all) is_all, ap length read.begins, length-append front read.rest))
 
+-- what was read of a script, all of it unless it passes the limit, is played as the script is
 pub played_of_front : (nodes : List PlanNode) (shapes : List Shape) (all front : List ℕ) → IsFileFront FILE_LIMIT all front → played nodes shapes front ≡ played nodes shapes all
 played_of_front nodes shapes all front read = played_at nodes shapes all front (nat_lt FILE_LIMIT (length front)) (nat_lt FILE_LIMIT (length all)) refl refl read
 
--- ---- what a file that is told holds
+-- ---- a file of which it is known what it holds
 
 known_front : (limit : ℕ) (content : Option (List ℕ)) (bytes front : List ℕ) → content ≡ Some bytes → IfSome content (λ all. IsFileFront limit all front) → IsFileFront limit bytes front
 known_front limit content bytes front is h = subst (λ (known : Option (List ℕ)). IfSome known (λ all. IsFileFront limit all front)) is h
 
+-- where it is known what a file holds, the canonical history of what was read is that of the file
 pub given_history : (content : Option (List ℕ)) (bytes front seen items written : List ℕ) → content ≡ Some bytes → IfSome content (λ all. IsFileFront FILE_LIMIT all front) → seen ≡ front → GivesHistory seen items → written ≡ items → GivesHistory bytes written
 given_history content bytes front seen items written is read same h wrote =
     let alike = front_judged bytes seen (subst (IsFileFront FILE_LIMIT bytes) (sym same) (known_front FILE_LIMIT content bytes front is read)) in
     record { accepted = ap (λ (file : Judged). file.fault) (sym alike) ∙ h.accepted; text_is = wrote ∙ (h.text_is ∙ ap (λ (file : Judged). rows_text (history_of file.good)) alike) }
 
+-- where it is known what a file holds, the first fault of what was read is that of the file
 pub refused_history : (content : Option (List ℕ)) (bytes front seen : List ℕ) (refusal : Refusal) → content ≡ Some bytes → IfSome content (λ all. IsFileFront FILE_LIMIT all front) → seen ≡ front → (judged AnyText seen).fault ≡ Some refusal
     → (judged AnyText bytes).fault ≡ Some refusal
 refused_history content bytes front seen refusal is read same h =
     let alike = front_judged bytes seen (subst (IsFileFront FILE_LIMIT bytes) (sym same) (known_front FILE_LIMIT content bytes front is read)) in
     ap (λ (file : Judged). file.fault) (sym alike) ∙ h
 
+-- where it is known what a plan's file holds, it describes what the bytes that were read describe
 pub opened_front : (content : Option (List ℕ)) (front seen : List ℕ) (r : Result Drawn plans.Refusal) → IfSome content (λ all. IsFileFront longest all front) → seen ≡ front → plan_of seen ≡ r → IfSome content (λ bytes. plan_of bytes ≡ r)
 opened_front None front seen r read same h = tt
 opened_front (Some all) front seen r read same h = plan_of_front all front read ∙ (ap plan_of (sym same) ∙ h)
 
--- a script of which a front was played
 -- the fault of a plan that was read
 pub fault_found : (bytes : List ℕ) (fault : PlanFault) (kind : PlanKind) (node : ℕ) → fault ≡ plan_fault.Refused kind node → IsFaultOf bytes fault → plan_of bytes ≡ Err (record { kind = kind; node = node })
 fault_found bytes fault kind node is h = subst (IsFaultOf bytes) is h
 
+-- a script of which a front was played is played so as a whole, where it is known what its file holds
 pub played_known : (content : Option (List ℕ)) (bytes front seen : List ℕ) (nodes : List PlanNode) (shapes : List Shape) → content ≡ Some bytes → IfSome content (λ all. IsFileFront FILE_LIMIT all front) → seen ≡ front → played nodes shapes seen ≡ played nodes shapes bytes
 played_known content bytes front seen nodes shapes is read same = played_of_front nodes shapes bytes seen (subst (IsFileFront FILE_LIMIT bytes) (sym same) (known_front FILE_LIMIT content bytes front is read))

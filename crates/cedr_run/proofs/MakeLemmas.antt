@@ -54,7 +54,7 @@ files_drawn : (nodes : List PlanNode) → source_files nodes ≡ drawn_files (ma
 files_drawn [] = refl
 files_drawn (n ∷ nodes) = ap (λ (names : List (List ℕ)). files_of n ++ names) (files_drawn nodes) ∙ ap (λ (names : List (List ℕ)). names ++ drawn_files (map node_of nodes)) (kind_drawn n.kind)
 
--- where the files hold the texts of both sources, it is told what the sources of the plan read
+-- where the files hold the texts of both sources, it is known what the sources of the plan read
 pub told_made : (content : List ℕ → Option (List ℕ)) (n : ℕ) (nodes : List PlanNode) → map node_of nodes ≡ built_in.nodes → content (codes "a") ≡ Some (made_text 0 n) → content (codes "b") ≡ Some (made_text 1 n)
     → AreTold content (made_file n) (source_files nodes)
 told_made content n nodes are a b = subst (AreTold content (made_file n)) (sym (files_drawn nodes ∙ ap drawn_files are)) (a, (b, tt))

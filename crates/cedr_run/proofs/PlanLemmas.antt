@@ -110,7 +110,7 @@ module _ (streams : Bool) (files now files' : FilesSeen) (file script : List ℕ
   abbrev command : Command
   command = record { job = job_by streams; file = file; script = script }
 
-  -- what holds of the plan where it is told what the sources' files hold
+  -- what holds of the plan where it is known what the sources' files hold
   of_plan : (told : List ℕ → List ℕ) (holds : List PlanNode → Type 0) → AreTold files.content told (named_files command) → (AreTold now.content told (source_files nodes) → holds nodes) → OfPlan files.content told file holds
   of_plan told holds is all = record {
     nodes = nodes;

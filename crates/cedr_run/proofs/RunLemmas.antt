@@ -118,7 +118,7 @@ closed_unread {S = S} (e ∷ ends) closed =
 
 -- ---- what ports forgot
 
--- it is told of each node
+-- there is a list of it for each node
 pub forgot_count : (nodes : List PlanNode) (ports : List Lists) → length (forgot_in nodes ports) ≡ length nodes
 forgot_count [] ports = refl
 forgot_count (n ∷ nodes) [] = ap suc (forgot_count nodes [])
@@ -126,7 +126,7 @@ forgot_count (n ∷ nodes) (p ∷ ports) = ap suc (forgot_count nodes ports)
 
 -- ---- what is handed on
 
--- what can be told of nodes, changes and ports can be told of them as they are handed on
+-- what can be written of nodes, changes and ports can be written of them as they are handed on
 pub can_tell_as : (nodes seen_nodes : List PlanNode) (changes seen_changes : List Change) (forgotten seen : List PortForgotten) (given : List Message) (listed : List (List (List Forgotten))) → seen_nodes ≡ nodes → seen_changes ≡ changes → seen ≡ forgotten
     → CanTell nodes changes forgotten given listed → CanTell seen_nodes seen_changes seen given listed
 can_tell_as nodes seen_nodes changes seen_changes forgotten seen given listed nodes_are changes_are seen_are can = record {
@@ -136,7 +136,7 @@ can_tell_as nodes seen_nodes changes seen_changes forgotten seen given listed no
   count = can.count ∙ sym (ap (λ (ns : List PlanNode). length ns) nodes_are);
 }
 
--- and what was told of them so was told of them
+-- and what was written of them as they are handed on was written of them
 pub tells_as : (how : Came) (nodes seen_nodes : List PlanNode) (changes seen_changes : List Change) (forgotten seen : List PortForgotten) (out out' : SinkSeen) (o : Outcome) → seen_nodes ≡ nodes → seen_changes ≡ changes → seen ≡ forgotten
     → Tells how seen_nodes seen_changes seen out out' o → Tells how nodes changes forgotten out out' o
 tells_as how nodes seen_nodes changes seen_changes forgotten seen out out' o nodes_are changes_are seen_are tells =
@@ -207,7 +207,7 @@ module _ {S : Type 0} (rest : S → Option (List ℕ)) (faults : S → ℕ) (acc
     whole : AllWhole (source_count nodes) (sources_in nodes given)
     whole = closed_sources rest faults accepts nodes reported.sources given ends ended is_done.closed
 
-    -- its text can be told
+    -- its text can be written
     pub can_tell : CanTell nodes report.changes.items report.forgotten.items (list_at given (output_place nodes)) (forgot_in nodes ports)
     can_tell = record {
       legal = (closed_whole nodes (sources_in nodes given) ports given is.nodes is_done.run whole (output_place nodes) (place_within plan is)).legal;
@@ -239,7 +239,7 @@ module _ {S : Type 0} (rest : S → Option (List ℕ)) (faults : S → ℕ) (acc
           ran_is = reported.reported.ran;
         }
 
-    -- what was forgotten can be told
+    -- what was forgotten can be listed
     pub can_tell_tail : CanTellTail nodes report.forgotten.items (forgot_in nodes ports)
     can_tell_tail = record { forgotten_are = is_done.forgotten; count = forgot_count nodes ports }
 
@@ -273,7 +273,7 @@ module _ {S : Type 0} (rest : S → Option (List ℕ)) (faults : S → ℕ) (acc
     pub faulty_kept : (count : ℕ) → count ≤ last_count → count_with faults count (map source_in ends) ≡ count
     faulty_kept count few = ended_kept rest faults nodes reported.sources given ends count ended (sym (any_stop is_unread ends) ∙ read) few
 
-    -- they are told
+    -- all of them are reported
     pub refuses_so : list_any (λ (e : SourceEnd S). is_short e.stop) ends ≡ false → (listed : List SourceFault) → listed ≡ faults_from 0 ends → 0 < length listed → (said : List ℕ) → said ≡ faults_said (source_nodes nodes) listed
         → (told : List ℕ → List ℕ) → AreTold content told (source_files nodes) → RefusesSources told nodes said
     refuses_so found listed listed_are some said said_is told known =
@@ -307,6 +307,6 @@ module _ {S : Type 0} (rest : S → Option (List ℕ)) (faults : S → ℕ) (acc
       said_ends false plan.nodes.items files files' out out' report.edges.items report.ran.items (faults_said (source_nodes plan.nodes.items) listed.items) o (counted ∙ faulty_kept rest faults accepts plan is files.content report reported so.2 files.faults (omega (arith, few)))
       (ap (λ (o : SinkSeen). o.faults) tells.1) (inl (kept_same out out' tells.1)) (inl (kept_same out out' tells.1)) (refuses_so rest faults accepts plan is files.content report reported so.2 so.1 listed.items so.3 so.4) tells.0
 
-  -- a run ends as is told of it
+  -- a run ends by what is written or said of it
   pub run_ends : Tells report.outcome plan.nodes.items report.changes.items report.forgotten.items out out' o → Ends o
   run_ends tells = ends_as report.outcome refl reported.reported.short reported.reported.came tells

@@ -27,7 +27,7 @@ said_more nodes fs i d old new within before now =
     ∙ (ap (λ (t : List ℕ). t ++ named_text (slice_get nodes (get_or fs i d).place) (get_or fs i d).refusal) before
     ∙ sym (ap (faulty_text nodes) (take_more fs i d within) ∙ faulty_more nodes (take i fs) (get_or fs i d)))
 
--- the node behind others
+-- the node after others
 pub node_at : (before : List PlanNode) (n : PlanNode) (nodes : List PlanNode) → slice_get (before ++ n ∷ nodes) (length before) ≡ Some n
 node_at [] n nodes = refl
 node_at (b ∷ before) n nodes = node_at before n nodes

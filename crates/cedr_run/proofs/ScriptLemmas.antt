@@ -31,6 +31,7 @@ known_played before after bytes front seen nodes text fault same is read all h =
     let alike = played_known after bytes front seen nodes h.shapes (same ∙ is) read all in
     record { shapes = h.shapes; types = h.types; shown = subst (λ (p : Played). AreShown nodes [] p.asks text) alike h.shown; fault_is = h.fault_is ∙ ap (λ (p : Played). p.fault) alike }
 
+-- the same of what the first `?` show
 pub known_so_far : (before after : Option (List ℕ)) (bytes front seen : List ℕ) (nodes : List PlanNode) (text : List ℕ) → after ≡ before → before ≡ Some bytes → IfSome after (λ all. IsFileFront FILE_LIMIT all front) → seen ≡ front
     → IsPlayedSoFar nodes seen text → IsPlayedSoFar nodes bytes text
 known_so_far before after bytes front seen nodes text same is read all h =
@@ -42,16 +43,18 @@ whole_is_first nodes bytes text fault h =
     let asks = (played nodes h.shapes bytes).asks in
     record { shapes = h.shapes; types = h.types; shown = record { count = length asks; shown = subst (λ (first : List Accepted). AreShown nodes [] first text) (sym (take_all (length asks) asks (omega arith))) h.shown } }
 
--- a plan and a script, where it is told what their files hold
+-- a plan and a script, where it is known what their files hold
 pub PlaysFile : FilesSeen → List ℕ → List ℕ → List PlanNode → (List ℕ → Type 0) → Type 0
 PlaysFile files file script nodes holds = (told : List ℕ → List ℕ) → AreTold files.content told (file ∷ script ∷ []) → IsPlanOf (told file) nodes × holds (told script)
 
+-- a script that was played, with what all its `?` show
 pub plays_whole : (files : FilesSeen) (file script : List ℕ) (plan : Plan) (after : Option (List ℕ)) (front seen text : List ℕ) (fault : Option Refusal) → OpensPlan (Ok plan) (files.content file) → after ≡ files.content script
     → IfSome after (λ all. IsFileFront FILE_LIMIT all front) → seen ≡ front → IsPlayed plan.nodes.items seen text fault → PlaysFile files file script plan.nodes.items (λ bytes. IsPlayed plan.nodes.items bytes text fault)
 unfolding PlaysFile
 plays_whole files file script plan after front seen text fault opened same read all h told is =
     (opened_plan (files.content file) (told file) plan is.0 opened, known_played (files.content script) after (told script) front seen plan.nodes.items text fault same is.1.0 read all h)
 
+-- a script that was played, with what its first `?` show
 pub plays_so_far : (files : FilesSeen) (file script : List ℕ) (plan : Plan) (after : Option (List ℕ)) (front seen text : List ℕ) → OpensPlan (Ok plan) (files.content file) → after ≡ files.content script
     → IfSome after (λ all. IsFileFront FILE_LIMIT all front) → seen ≡ front → IsPlayedSoFar plan.nodes.items seen text → PlaysFile files file script plan.nodes.items (λ bytes. IsPlayedSoFar plan.nodes.items bytes text)
 unfolding PlaysFile
@@ -82,12 +85,13 @@ live_said files files' out out' file script text nodes refusal (outcome.BadPlan 
 live_said files files' out out' file script text nodes refusal outcome.Read says same_files same_out plays wrote = absurd says
 live_said files files' out out' file script text nodes refusal outcome.Write says same_files same_out plays wrote = absurd says
 
--- it broke off
+-- it broke off at a refused write
 pub live_write : (files files' : FilesSeen) (out out' : SinkSeen) (file script text : List ℕ) (nodes : List PlanNode) → out.faults < out'.faults
     → PlaysFile files file script nodes (λ bytes. IsPlayedSoFar nodes bytes text) → AppendsFront out.written out'.written text → CommandEnds (record { job = Live; file = file; script = script }) files files' out out' outcome.Write
 unfolding PlaysFile
 live_write files files' out out' file script text nodes rose plays wrote = (rose, λ told is. (text, record { nodes = nodes; plan = (plays told is).0; holding = (plays told is).1 }, wrote))
 
+-- it broke off for want of memory
 pub live_lack : (files files' : FilesSeen) (out out' : SinkSeen) (file script text : List ℕ) (nodes : List PlanNode)
     → PlaysFile files file script nodes (λ bytes. IsPlayedSoFar nodes bytes text) → AppendsFront out.written out'.written text → CommandEnds (record { job = Live; file = file; script = script }) files files' out out' outcome.OutOfMemory
 unfolding PlaysFile

@@ -37,11 +37,11 @@ use Rattle.cedr_run.proofs.PlanLemmas.{stream_changes}
 use Rattle.cedr_run.proofs.RunLemmas.{Accepts, Leads, can_tell_tail, faulty_kept, lacking_ends, none_rose, read_ends, refuses_so, said_ends, some_rose, streams_so}
 use Rattle.cedr_run.proofs.StreamLemmas.{front_behind, lines_longer, wrote_front}
 
--- what was forgotten can be told as it is handed on
+-- what was forgotten can be listed as it is handed on
 pub can_tell_tail_as : (nodes seen_nodes : List PlanNode) (forgotten seen : List PortForgotten) (listed : List (List (List Forgotten))) → seen_nodes ≡ nodes → seen ≡ forgotten → CanTellTail nodes forgotten listed → CanTellTail seen_nodes seen listed
 can_tell_tail_as nodes seen_nodes forgotten seen listed nodes_are seen_are can = subst (λ (ns : List PlanNode). CanTellTail ns seen listed) (sym nodes_are) (subst (λ (ps : List PortForgotten). CanTellTail nodes ps listed) (sym seen_are) can)
 
--- and what was told of it so was told of it
+-- and what was written of it as it is handed on was written of it
 pub tells_stream_as : (how : Came) (by : Progress) (nodes seen_nodes : List PlanNode) (forgotten seen : List PortForgotten) (out out' : SinkSeen) (o : Outcome) → seen_nodes ≡ nodes → seen ≡ forgotten → TellsStream how by seen_nodes seen out out' o → TellsStream how by nodes forgotten out out' o
 tells_stream_as how by nodes seen_nodes forgotten seen out out' o nodes_are seen_are tells =
     subst (λ (ns : List PlanNode). TellsStream how by ns forgotten out out' o) nodes_are (subst (λ (ps : List PortForgotten). TellsStream how by seen_nodes ps out out' o) seen_are tells)
@@ -164,6 +164,6 @@ module _ {S : Type 0} (rest : S → Option (List ℕ)) (faults : S → ℕ) (acc
       said_ends true nodes files files' start out' report.edges.items report.ran.items (faults_said (source_nodes nodes) faulty.items) o (counted ∙ faulty_kept rest faults accepts plan is files.content report streamed.run so_came.2 files.faults (omega (arith, few)))
       (ap (λ (s : SinkSeen). s.faults) tells.1 ∙ wrote.0) (silent tells.1) (inr (began tells.1)) (refuses_so rest faults accepts plan is files.content report streamed.run so_came.2 so_came.1 faulty.items so_came.3 so_came.4) tells.0
 
-  -- a stream ends as is told of it
+  -- a stream ends by what is written or said of it
   pub stream_ends : TellsStream report.outcome by nodes report.forgotten.items out out' o → Ends o
   stream_ends tells = ends_as report.outcome by refl refl streamed.run.reported.short streamed.run.reported.came tells

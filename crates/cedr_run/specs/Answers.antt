@@ -79,8 +79,8 @@ pub record AnswersQuery (always : Bool) (told : List ℕ → List ℕ) (nodes : 
   pub accepted : AreAccepted told (source_nodes nodes) sources histories
   pub text_is : IsAnswerText always nodes sources histories text
 
--- The same, of a run whose workers sent this over its edges: that is a run of the plan over the messages of the sources, and
--- the text tells what was forgotten in it. The turns of the workers did so much.
+-- The same of a run whose workers sent this over its edges. That is a run of the plan over the messages of the sources,
+-- and the text lists what was forgotten in it. The turns of the workers did so much.
 pub record AnswersRun (told : List ℕ → List ℕ) (nodes : List PlanNode) (edges : List Carried) (ran : List Ran) (text : List ℕ) : Type 0 where
   pub sources : Lists
   pub histories : Tables
@@ -90,8 +90,8 @@ pub record AnswersRun (told : List ℕ → List ℕ) (nodes : List PlanNode) (ed
   pub text_is : text ≡ answer_text (has_memory nodes) nodes (in_order (rows_without nodes (ports_of nodes (carried edges)) histories)) (forgot_in nodes (ports_of nodes (carried edges)))
   pub ran_is : AreRan nodes edges ran
 
--- the same as `AnswersQuery`, of the changes of the answer: they lead to the rows of the answer, and where the output is strong they are one
--- addition for each of these, in canonical order
+-- the same as `AnswersQuery`, of the changes of the answer: they lead to the rows of the answer. Where the output is
+-- strong they are one addition for each of these, in canonical order
 pub record AnswersChanges (told : List ℕ → List ℕ) (nodes : List PlanNode) (text : List ℕ) : Type 0 where
   pub sources : Lists
   pub histories : Tables
@@ -118,6 +118,7 @@ pub record HasBegun (told : List ℕ → List ℕ) (node : PlanNode) (ms : List 
   pub types : HasTypes shape node.types.items
   pub first : IsPrefix ms (messages_of shape (told (file_of node.kind)))
 
+-- the same of each of some sources, in order
 abbrev pub AllHaveBegun : (List ℕ → List ℕ) → List PlanNode → Lists → Type 0
 AllHaveBegun told [] [] = Unit {0}
 AllHaveBegun told [] (l ∷ ls) = ⊥
@@ -146,22 +147,23 @@ GivesPlan Stream told nodes text = AnswersChanges told nodes text
 GivesPlan Audit told nodes text = AnswersQuery true told nodes text
 GivesPlan job told nodes text = AnswersQuery false told nodes text
 
--- and of which a front is written where writing or memory fails
+-- the texts of which a front is written where writing or memory fails
 abbrev pub BeginsPlan : Job → (List ℕ → List ℕ) → List PlanNode → List ℕ → Type 0
 BeginsPlan Stream told nodes text = StreamsSoFar told nodes text ⊎ AnswersChanges told nodes text
 BeginsPlan job told nodes text = GivesPlan job told nodes text
 
--- a line for each node whose source isn't accepted, in the order of the plan, with its first fault
+-- the line of a node whose source isn't accepted, with its first fault
 abbrev pub fault_text : List ℕ → Option Refusal → List ℕ
 fault_text name None = []
 fault_text name (Some refusal) = refusal_text name refusal
 
+-- a line for each node whose source isn't accepted, in the order of the plan, with its first fault
 abbrev pub faults_text : List PlanNode → List (Option Refusal) → List ℕ
 faults_text [] faults = []
 faults_text (n ∷ nodes) [] = []
 faults_text (n ∷ nodes) (f ∷ faults) = fault_text n.name f ++ faults_text nodes faults
 
--- some source isn't accepted, and all that aren't are told
+-- some source isn't accepted, and all that aren't are listed
 pub record RefusesSources (told : List ℕ → List ℕ) (nodes : List PlanNode) (said : List ℕ) : Type 0 where
   pub left : Lists
   pub faults : List (Option Refusal)
@@ -169,7 +171,7 @@ pub record RefusesSources (told : List ℕ → List ℕ) (nodes : List PlanNode)
   pub some : 0 < length (faulty_from 0 faults)
   pub said_is : said ≡ faults_text nodes faults
 
--- a plan of these nodes, and what holds of them where it is told what the files of its sources hold
+-- a plan of these nodes, and what holds of them where it is known what the files of its sources hold
 pub record OfPlan (content : Contents) (told : List ℕ → List ℕ) (file : List ℕ) (holds : List PlanNode → Type 0) : Type 0 where
   pub nodes : List PlanNode
   pub plan : IsPlanOf (told file) nodes

@@ -22,18 +22,21 @@ job_of word =
     else if bytes_eq word (codes "audit") then Some Audit
     else None
 
+-- the command that does a job with one file
 abbrev pub with_file : Option Job → List ℕ → Option Command
 with_file None file = None
 with_file (Some job) file = Some (record { job = job; file = file; script = [] })
 
--- a number of events from 1 to 100,000, of one to six digits
+-- a number that is at least 1
 abbrev pub if_positive : Option ℕ → Option ℕ
 if_positive None = None
 if_positive (Some n) = if nat_lt 0 n then Some n else None
 
+-- a number of events from 1 to 100,000, of one to six digits
 abbrev pub events_of : List ℕ → Option ℕ
 events_of word = if nat_lt 6 (length word) then None else if_positive (whole_number 100000 word)
 
+-- the command `make` with so many events a source
 abbrev pub with_events : Option ℕ → Option Command
 with_events None = None
 with_events (Some n) = Some (record { job = Make n; file = []; script = [] })

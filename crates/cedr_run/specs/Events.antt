@@ -30,7 +30,7 @@ living_rows (i ∷ intervals) (payload ∷ payloads) =
     if nat_lt i.begin i.end then record { end = i.end; begin = i.begin; payload = payload } ∷ living_rows intervals payloads
     else living_rows intervals payloads
 
--- one more line of a file behind accepted ones: the events of these lines with it, or its fault
+-- one more line of a file after accepted ones: the events of these lines with it, or its fault
 abbrev pub TakesLine : Result (Unit {0}) GuardFault → Events → Result (List EventLine) LineFault → Type 0
 TakesLine (Ok done) events lines = (now : List EventLine) × (lines ≡ Ok now) × AreEventsOf events now
 TakesLine (Err (guard_fault.Line line)) events lines = lines ≡ Err line
@@ -42,8 +42,8 @@ JudgesFile (Ok events) file = (file.fault ≡ None) × AreEventsOf events file.g
 JudgesFile (Err (judge_fault.Refused refusal)) file = file.fault ≡ Some refusal
 JudgesFile (Err judge_fault.OutOfMemory) file = Unit {0}
 
--- the parts of a file between its line feeds, judged behind so many lines: all of them, or those of the first
--- bytes of a file over the limit
+-- the parts of a file between its line feeds, judged after so many lines: all of them, or those of the first bytes of a
+-- file over the limit
 abbrev pub parts_behind : Bool → ℕ → List EventLine → List (List ℕ) → Judged
 parts_behind false count before parts = judged_behind AnyText count before parts
 parts_behind true count before parts = record {

@@ -18,19 +18,23 @@ use Rattle.cedr_run.specs.Seen.{FilesSeen, SinkSeen, NoneRose, BreaksOff}
 
 -- ---- texts on standard error
 
+-- the text where the words match no command
 abbrev pub usage_text : List ℕ
 usage_text = codes "usage: cedr history FILE | check PLAN | serial PLAN | run PLAN | stream PLAN | audit PLAN | live PLAN SCRIPT | make N" ++ line_feed ∷ []
 
+-- the text where a file wasn't found, or a read was refused
 abbrev pub read_text : List ℕ
 read_text = codes "read fault" ++ line_feed ∷ []
 
+-- the text where a write was refused
 abbrev pub write_text : List ℕ
 write_text = codes "write fault" ++ line_feed ∷ []
 
+-- the text where memory ran out
 abbrev pub memory_text : List ℕ
 memory_text = codes "out of memory" ++ line_feed ∷ []
 
--- what standard error is told
+-- what is reported on standard error
 abbrev pub told_text : Outcome → List ℕ
 told_text outcome.Done = []
 told_text outcome.Usage = usage_text
@@ -40,6 +44,7 @@ told_text outcome.Read = read_text
 told_text outcome.Write = write_text
 told_text outcome.OutOfMemory = memory_text
 
+-- the status of how a command went
 abbrev pub status_of : Outcome → Status
 status_of outcome.Done = status.Done
 status_of outcome.Usage = status.Usage
@@ -49,13 +54,14 @@ status_of outcome.Read = status.Read
 status_of outcome.Write = status.Write
 status_of outcome.OutOfMemory = status.OutOfMemory
 
--- where memory ran out: err gained a front of the words for that, or lacked memory itself behind a front of this text
+-- where memory ran out: err gained a front of the words for that. Or err itself lacked memory, after a front of this
+-- text
 abbrev pub TellsLack : SinkSeen → SinkSeen → List ℕ → Type 0
 TellsLack err err' text = AppendsFront err.written err'.written memory_text ⊎ BreaksOff err err' text
 
 -- ---- how a command went
 
--- Where it is told what the named files hold: out gained a text of which this holds.
+-- Where it is known what the named files hold, out gained a text of which this holds.
 abbrev pub Wrote : FilesSeen → Command → SinkSeen → SinkSeen → ((List ℕ → List ℕ) → List ℕ → Type 0) → Type 0
 Wrote files command out out' holds = (told : List ℕ → List ℕ) → AreTold files.content told (named_files command) → (text : List ℕ) × holds told text × Appends out.written out'.written text
 

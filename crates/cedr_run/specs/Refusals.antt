@@ -1,4 +1,4 @@
--- What standard error is told of a file that isn't accepted.
+-- What is reported on standard error of a file that isn't accepted.
 use Rattle.std.specs.Prelude.{ℕ, List, [], ◌∷◌, ◌++◌, codes, decimal}
 use Rattle.cedr_text.specs.declared.fault.LineFault.{LineFault}
 use Rattle.cedr_text.specs.declared.fault.LineFault.TheVariants.{LineTooLong, BadForm, BadNumber, EmptyLife, BadField, KnownId, UnknownId, BadEnd, BeforeGuarantee, TooLarge}

@@ -4,18 +4,22 @@ use Rattle.std.specs.Io.KnownBytes.{Appends}
 use Rattle.cedr_io.specs.Counts.{Rose}
 use Rattle.cedr_io.specs.Asked.{AppendsFront}
 
+-- of files: what each holds, where that is known, the count of their faults, and which names were asked for
 pub record FilesSeen : Type 0 where
   pub content : List ℕ → Option (List ℕ)
   pub faults : ℕ
   pub asked : List (List ℕ)
 
+-- of a sink: what was written to it, where that is known, and the count of its faults
 pub record SinkSeen : Type 0 where
   pub written : Option (List ℕ)
   pub faults : ℕ
 
+-- what is seen of files
 abbrev pub seen_files : {F : Type 0} → (F → List ℕ → Option (List ℕ)) → (F → ℕ) → (F → List (List ℕ)) → F → FilesSeen
 seen_files content faults asked files = record { content = content files; faults = faults files; asked = asked files }
 
+-- what is seen of a sink
 abbrev pub seen_sink : {K : Type 0} → (K → Option (List ℕ)) → (K → ℕ) → K → SinkSeen
 seen_sink written faults sink = record { written = written sink; faults = faults sink }
 

@@ -48,6 +48,7 @@ abbrev pub named_text : Option PlanNode → Refusal → List ℕ
 named_text None refusal = []
 named_text (Some node) refusal = refusal_text node.name refusal
 
+-- such lines of some faulty sources, in order
 abbrev pub faulty_text : List PlanNode → List FaultySource → List ℕ
 faulty_text nodes [] = []
 faulty_text nodes (f ∷ faulty) = named_text (slice_get nodes f.place) f.refusal ++ faulty_text nodes faulty
@@ -65,7 +66,7 @@ CountsStep (Err outcome.Done) old new = new ≡ old
 CountsStep (Err outcome.Usage) old new = new ≡ old
 CountsStep (Err outcome.Write) old new = new ≡ old
 
--- the plan that the file describes, where that is told, or its first fault
+-- where it is known what the file holds: the plan that it describes, or its first fault
 abbrev pub OpensPlan : Result Plan Outcome → Option (List ℕ) → Type 0
 OpensPlan (Ok plan) content = IfSome content (λ bytes. plan_of bytes ≡ Ok (drawn plan))
 OpensPlan (Err (outcome.BadPlan kind node)) content = IfSome content (λ bytes. IsNoPlan bytes kind node)
@@ -113,18 +114,21 @@ pub record AreOpened (files files' : FilesSeen) (file : List ℕ) (nodes : List 
 abbrev pub Texts : Type 1
 Texts = (List ℕ → List ℕ) → List PlanNode → List ℕ → Type 0
 
--- What was written of a plan of these nodes and sources that have these messages left: such a text, if they are accepted, or
--- a front of one.
+-- What was written of a plan of these nodes and sources that have these messages left: such a text, if they are
+-- accepted.
 pub record GaveText (texts : Texts) (nodes : List PlanNode) (left : Lists) (out out' : SinkSeen) : Type 0 where
   pub text : List ℕ
   pub gives : (told : List ℕ → List ℕ) → AreRead told nodes left [] → texts told nodes text
   pub wrote : Appends out.written out'.written text
 
+-- the same of a front of such a text
 pub record BeganText (texts : Texts) (nodes : List PlanNode) (left : Lists) (out out' : SinkSeen) : Type 0 where
   pub text : List ℕ
   pub begins : (told : List ℕ → List ℕ) → AreRead told nodes left [] → texts told nodes text
   pub wrote : AppendsFront out.written out'.written text
 
+-- such a text was written; or a write was refused, or memory ran out, and a front of one was written, or for
+-- want of memory perhaps nothing
 abbrev pub EndsWith : Texts → Texts → List PlanNode → Lists → SinkSeen → SinkSeen → Outcome → Type 0
 EndsWith gives begins nodes left out out' outcome.Done = (out'.faults ≡ out.faults) × GaveText gives nodes left out out'
 EndsWith gives begins nodes left out out' outcome.Write = (out.faults < out'.faults) × BeganText begins nodes left out out'
@@ -134,5 +138,6 @@ EndsWith gives begins nodes left out out' (outcome.Events said) = ⊥
 EndsWith gives begins nodes left out out' (outcome.BadPlan kind node) = ⊥
 EndsWith gives begins nodes left out out' outcome.Read = ⊥
 
+-- the same of what a command gives of a plan and its sources
 abbrev pub EndsSources : Job → List PlanNode → Lists → SinkSeen → SinkSeen → Outcome → Type 0
 EndsSources job nodes left out out' o = EndsWith (GivesPlan job) (BeginsPlan job) nodes left out out' o

@@ -1,4 +1,4 @@
--- How a run on threads ends, and what is told of it.
+-- How a run on threads ends, and what is reported of it.
 use Rattle.std.specs.Prelude.{ℕ, ◌≡◌, ◌<◌, ◌⊎◌, Bool, true, false, List, [], ◌∷◌, ◌++◌, length, map, if◌then◌else◌, Option, None, Some}
 use Rattle.std.specs.Io.KnownBytes.{Appends, Keeps}
 use Rattle.std.specs.List.{All, slice_get}
@@ -46,6 +46,7 @@ use Rattle.cedr_run.specs.Steps.{Says, WritesText, named_text}
 abbrev pub fault_said : List PlanNode → SourceFault → List ℕ
 fault_said sources fault = named_text (slice_get sources fault.source) (record { line = fault.line; fault = fault.fault })
 
+-- such lines of some faulty sources, in order
 abbrev pub faults_said : List PlanNode → List SourceFault → List ℕ
 faults_said sources [] = []
 faults_said sources (f ∷ faults) = fault_said sources f ++ faults_said sources faults
@@ -72,7 +73,7 @@ Tells (came.Events faults) nodes changes forgotten out out' o = Says o (faults_s
 
 -- ---- what is written of a stream
 
--- What a sink took since it was as it was: the lines of all these changes, or where a write was refused or memory was
+-- What a sink took between two moments: the lines of all these changes, or where a write was refused or memory was
 -- lacking a front of them.
 abbrev pub WroteList : Progress → SinkSeen → SinkSeen → List Change → Type 0
 WroteList progress.Whole out out' list = (out'.faults ≡ out.faults) × Appends out.written out'.written (changes_text list)
@@ -118,7 +119,7 @@ pub record IsReported {S : Type 0} (rest : S → Option (List ℕ)) (faults : S 
   pub fresh : All (λ (s : S). faults s ≡ 0) sources
   pub found : AreFound rest content nodes sources
 
--- The same of a run whose changes were written as they came, by now so far.
+-- The same of a run whose changes were written as they came: `by` says how much of them.
 pub record IsStreamed {S : Type 0} (rest : S → Option (List ℕ)) (faults : S → ℕ) (content : Contents) (nodes : List PlanNode) (report : Report S) (by : Progress) (out out' : SinkSeen) : Type 0 where
   pub run : IsReported rest faults content nodes report
   pub list : List Change
@@ -137,12 +138,13 @@ abbrev pub BeginsBy : Bool → (List ℕ → List ℕ) → List PlanNode → Lis
 BeginsBy false told nodes edges ran text = AnswersRun told nodes edges ran text
 BeginsBy true told nodes edges ran text = BeginsPlan Stream told nodes text
 
--- such a text was written, where it is told what the files hold, or a front of it
+-- such a text was written, where it is known what the files hold
 pub record GaveRun (streams : Bool) (content : Contents) (nodes : List PlanNode) (edges : List Carried) (ran : List Ran) (out out' : SinkSeen) : Type 0 where
   pub text : List ℕ
   pub answers : (told : List ℕ → List ℕ) → AreTold content told (source_files nodes) → AnswersBy streams told nodes edges ran text
   pub wrote : Appends out.written out'.written text
 
+-- and a front of such a text
 pub record BeganRun (streams : Bool) (content : Contents) (nodes : List PlanNode) (edges : List Carried) (ran : List Ran) (out out' : SinkSeen) : Type 0 where
   pub text : List ℕ
   pub begins : (told : List ℕ → List ℕ) → AreTold content told (source_files nodes) → BeginsBy streams told nodes edges ran text
@@ -158,7 +160,7 @@ pub record WroteSome (content : Contents) (nodes : List PlanNode) (out out' : Si
 abbrev pub IsSilentBy : Bool → Contents → List PlanNode → SinkSeen → SinkSeen → Type 0
 IsSilentBy streams content nodes out out' = Keeps out.written out'.written ⊎ ((streams ≡ true) × WroteSome content nodes out out')
 
--- how a run of a plan ends that was opened, and whose changes are written as they come or whose rows at the end
+-- how the run of an opened plan ends. Its changes are written as they come, or its rows at the end
 abbrev pub RunEnds : Bool → List PlanNode → FilesSeen → FilesSeen → SinkSeen → SinkSeen → List Carried → List Ran → Outcome → Type 0
 RunEnds streams nodes files files' out out' edges ran outcome.Done = NoneRose files files' out out' × GaveRun streams files.content nodes edges ran out out'
 RunEnds streams nodes files files' out out' edges ran (outcome.Events said) = NoneRose files files' out out' × IsSilentBy streams files.content nodes out out' × ((told : List ℕ → List ℕ) → AreTold files.content told (source_files nodes) → RefusesSources told nodes said.items)

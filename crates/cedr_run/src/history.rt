@@ -85,8 +85,8 @@ fn judge_file(alloc: Global, bytes: &[u8]) -> Result<Events<'_>, JudgeFault>
     }
 }
 
-/// Judges each line behind those before it, up to the first fault. Of a file over the limit these are the
-/// first bytes: the line that they don't finish has no other fault than that.
+/// Judges each line after those before it, up to the first fault. Of a file over the limit these are the first bytes:
+/// the line that they don't finish has no other fault than that.
 fn judge_lines(alloc: Global, bytes: &[u8], over_limit: bool) -> Result<Events<'_>, JudgeFault>
     requires { length bytes.now ≤ FILE_LIMIT }
     ensures { JudgesFile result (parts_behind over_limit 0 [] (parts_of line_feed bytes.now)) }

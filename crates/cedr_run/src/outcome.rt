@@ -40,7 +40,7 @@ impl Outcome {
         }
     }
 
-    /// What standard error is told of it.
+    /// What is reported of it on standard error.
     fn text(self, alloc: Global) -> Result<Vec<u8>, OutOfMemory>
         ensures { IfOk result (λ text. text.items ≡ told_text self) }
     {
@@ -59,7 +59,7 @@ impl Outcome {
         Ok(text)
     }
 
-    /// Tells standard error of it, and answers its status, or want of memory where the text found none.
+    /// Reports it on standard error, and answers its status, or want of memory where the text found none.
     pub(crate) fn report<E: Sink>(self, alloc: Global, err: &mut E) -> Status
         ensures status { (result ≡ status_of self) ⊎ (result ≡ status.OutOfMemory) }
         ensures told { result ≢ status.OutOfMemory

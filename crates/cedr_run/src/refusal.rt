@@ -25,7 +25,7 @@ impl JudgeFault {
     }
 }
 
-/// Appends what standard error is told of a refused file.
+/// Appends what is reported on standard error of a refused file.
 pub(crate) fn write_refusal(
     file: &[u8],
     refusal: &Refusal,
@@ -66,7 +66,7 @@ fn write_kept(fault: &LineFault, text: &mut Vec<u8>) -> Result<(), OutOfMemory>
     Ok(())
 }
 
-/// Appends what standard error is told of a refused plan.
+/// Appends what is reported on standard error of a refused plan.
 pub(crate) fn write_plan_fault(
     kind: PlanKind,
     node: usize,

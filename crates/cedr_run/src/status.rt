@@ -10,7 +10,7 @@ pub enum Status {
     Usage,
     /// The plan is refused.
     Plan,
-    /// Some line of the file has a fault, or the file is too large.
+    /// Some line of a file has a fault, or a file is too large.
     Events,
     /// A file wasn't found, or a read was refused.
     Read,

@@ -10,7 +10,7 @@ const MIDDLE: &[u8] = br#"{"version":1,"nodes":[
  {"name":"s","op":"source","file":"s.csv","fields":["text"]},
  {"name":"out","op":"output","from":["s"]}]}"#;
 
-/// Takes all, and tells others that it was given some.
+/// Takes all, and sets a flag once it was given some.
 #[derive(Drop)]
 struct Telling {
     some: Arc<AtomicU64, Global>,

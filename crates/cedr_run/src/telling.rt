@@ -1,4 +1,4 @@
-//! What is told of a run on threads.
+//! What is reported of a run on threads.
 ghost use Rattle.std.specs.Prelude.{◌≡◌, ◌<◌, ◌++◌, List, IfOk, OnOk, option_map};
 ghost use Rattle.std.specs.List.{slice_get};
 ghost use Rattle.cedr_base.specs.declared.change.Message.{Message};
@@ -123,7 +123,7 @@ pub(crate) fn end_of<K: Sink>(
     }
 }
 
-/// Writes what was forgotten behind the changes of a stream, by one write, where some port has a finite memory.
+/// Writes what was forgotten, which follows the changes of a stream, by one write, where some port has a finite memory.
 fn tell_tail<K: Sink>(
     alloc: Global,
     nodes: &[PlanNode],

@@ -33,7 +33,7 @@ fn history<R: Threads + Wait + Clock + Copy + Drop + Send + AllocGlobal + 'stati
     answer(rt, "history", "e.csv", bytes)
 }
 
-/// The status, and what out and err are told, where a command has this one file.
+/// The status, and what is written to out and err, where a command has this one file.
 pub(crate) fn answer<R: Threads + Wait + Clock + Copy + Drop + Send + AllocGlobal + 'static>(
     rt: R,
     command: &str,
@@ -47,7 +47,7 @@ pub(crate) fn answer<R: Threads + Wait + Clock + Copy + Drop + Send + AllocGloba
     ended(rt, &words, &mut files)
 }
 
-/// The status, and what out and err are told, where these words are carried out.
+/// The status, and what is written to out and err, where these words are carried out.
 pub(crate) fn ended<R: Threads + Wait + Clock + Copy + Drop + Send + AllocGlobal + 'static>(
     rt: R,
     words: &[String],
@@ -67,7 +67,7 @@ pub(crate) fn ended<R: Threads + Wait + Clock + Copy + Drop + Send + AllocGlobal
     ))
 }
 
-/// A file, the status, the rows and what standard error is told.
+/// A file, the status, the rows and what is reported on standard error.
 type Case = (&'static [u8], u8, &'static str, &'static str);
 
 /// Whether each file is answered so.

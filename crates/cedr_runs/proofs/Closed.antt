@@ -33,6 +33,7 @@ record Makes (ms : List Message) (rows : List Row) : Type 0 where
   whole : IsWhole ms
   table : IsTableOf ms rows
 
+-- where each table is that of its list, the table at a place is that of the list there
 pub tables_at : (ls : Lists) (ts : Tables) → AreTables ls ts → (k : ℕ) → IsTableOf (list_at ls k) (table_at ts k)
 tables_at [] [] are k = record { sums = record { each = λ r. refl } }
 tables_at [] (t ∷ ts) are k = absurd are

@@ -17,7 +17,7 @@ use Rattle.op_planned.specs.MeaningLaws.{MeaningLaws}
 use Rattle.op_planned.proofs.ReadyMeanings.{ready_meaning}
 use Rattle.cedr_runs.proofs.First.{lawful_fits_always}
 
--- lists that aren't broken; lists that all have their ends
+-- where the first n lists aren't broken, none of those that a node reads of them is
 pub all_unbroken : (n : ℕ) (given : Lists) → ((k : ℕ) → k < n → has_broken (list_at given k) ≡ false) → (inputs : List ℕ) → All (λ (place : ℕ). place < n) inputs → any_broken (map (list_at given) inputs) ≡ false
 all_unbroken n given good [] within = refl
 all_unbroken n given good (i ∷ inputs) within =
@@ -25,6 +25,7 @@ all_unbroken n given good (i ∷ inputs) within =
     let b = all_unbroken n given good inputs (All-tail (λ (place : ℕ). place < n) i inputs within) in
     cc
 
+-- where the first n lists have their ends, those of them that a node reads all have
 pub all_ended : (n : ℕ) (given : Lists) → ((k : ℕ) → k < n → has_end (list_at given k) ≡ true) → (inputs : List ℕ) → All (λ (place : ℕ). place < n) inputs → all_end (map (list_at given) inputs) ≡ true
 all_ended n given good [] within = refl
 all_ended n given good (i ∷ inputs) within =
@@ -32,10 +33,12 @@ all_ended n given good (i ∷ inputs) within =
     let b = all_ended n given good inputs (All-tail (λ (place : ℕ). place < n) i inputs within) in
     cc
 
--- the laws of a node that stands behind others
+-- the laws of a node that comes after others
 pub node_laws : (before : List PlanNode) (n : PlanNode) → IsNode (map node_of before) (node_of n) → is_source n.kind ≡ false → MeaningLaws (meaning_of n) (length n.inputs.items)
 node_laws before n is isnt = ready_meaning n.kind (length n.inputs.items) (node_ready (map node_of before) n is isnt)
 
+-- in a run, what a node that is no source gave fits the lists of the nodes that it reads, where none of these
+-- is broken
 pub node_fits : (nodes : List PlanNode) (sources : Lists) (ports : List Lists) (given : Lists) → IsRun nodes sources ports given
     → (before after : List PlanNode) (n : PlanNode) → nodes ≡ before ++ n ∷ after → IsNode (map node_of before) (node_of n) → is_source n.kind ≡ false → any_broken (input_lists given n) ≡ false
     → Fits (meaning_of n) (port_levels n) (input_lists given n) (list_at given (length before))

@@ -14,6 +14,7 @@ pub prefixes_itself : (ls : Lists) → ArePrefixes ls ls
 prefixes_itself [] = tt
 prefixes_itself (l ∷ ls) = (record { rest = []; all = append-nil l }, prefixes_itself ls)
 
+-- a run is a partial run
 pub partial_run : (nodes : List PlanNode) (sources : Lists) (ports : List Lists) (given : Lists) → IsRun nodes sources ports given → IsPartialRun nodes sources ports given
 partial_run nodes sources ports given run = record {
   node = run.node;

@@ -1,4 +1,4 @@
--- The nodes of a plan behind others.
+-- The nodes of a plan after others.
 use Rattle.std.proofs.Common.{◌≡◌, ◌<◌, List, [], ◌∷◌, ◌++◌, length, ap, subst, sym, arith, append_assoc}
 use Rattle.std.specs.Prelude.{map}
 use Rattle.std.proofs.lemmas.List.{append-nil, length-append}
@@ -11,7 +11,7 @@ behind_others earlier [] after n are = subst (λ (e : List Node). IsNode e (node
 behind_others earlier (b ∷ before) after n are =
     subst (λ (e : List Node). IsNode e (node_of n)) (append_assoc earlier (node_of b ∷ []) (map node_of before)) (behind_others (earlier ++ node_of b ∷ []) before after n are.1)
 
--- a node of a plan stands behind those before it
+-- a node of a plan may follow those before it
 pub node_stands : (nodes before after : List PlanNode) (n : PlanNode) → AreNodes [] (map node_of nodes) → nodes ≡ before ++ n ∷ after → IsNode (map node_of before) (node_of n)
 node_stands nodes before after n are whole = behind_others [] before after n (subst (λ (ns : List PlanNode). AreNodes [] (map node_of ns)) whole are)
 

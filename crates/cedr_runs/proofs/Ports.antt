@@ -47,7 +47,7 @@ kept_left level ms rows legal table =
       );
     }
 
--- behind its end a port passed the whole table less what it forgot
+-- after its end a port passed the whole table less what it forgot
 pub ended_left : (level : Level) (ms : List Message) (rows : List Row) → IsLegal ms → has_end ms ≡ true → IsTableOf ms rows → SameRows (passed_table level ms) (left_out rows (forgot level.memory ms))
 ended_left level ms rows legal ended table = record { each = λ r. ap (count_of r) (ended_passed level ms ended) ∙ (kept_left level ms rows legal table).each r }
 
@@ -55,6 +55,7 @@ ended_left level ms rows legal ended table = record { each = λ r. ap (count_of 
 pub none_forgot : (level : Level) (ms : List Message) → level.memory ≡ None → IsLegal ms → forgot level.memory ms ≡ []
 none_forgot level ms endless legal = ap (λ (memory : Option ℕ). forgot memory ms) endless ∙ parts.none_forgot ms legal
 
+-- where nothing was forgotten, nothing is left out of a table
 pub left_none : (rows : List Row) (fs : List Forgotten) → fs ≡ [] → left_out rows fs ≡ rows
 left_none rows fs e = ap (left_out rows) e ∙ append-nil rows
 

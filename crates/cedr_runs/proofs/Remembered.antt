@@ -45,6 +45,7 @@ table_same : (b : Bool) (rows : List Row) (result : Tables → List Row) (some o
 table_same true rows result some others same = refl
 table_same false rows result some others same = ap result (same refl)
 
+-- where no node forgets and each list is legal, the query with what the ports forgot left out is the query
 pub remembered : (nodes : List PlanNode) (sources : Tables) (ports : List Lists) (given : Lists) → AreNodes [] (map node_of nodes)
     → ((before after : List PlanNode) (n : PlanNode) → nodes ≡ before ++ n ∷ after → lists_at ports (length before) ≡ input_lists given n)
     → ((k : ℕ) → k < length nodes → IsLegal (list_at given k)) → Remembers nodes → query_without (forgot_in nodes ports) sources nodes ≡ query sources nodes

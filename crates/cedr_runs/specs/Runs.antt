@@ -30,7 +30,7 @@ ArePrefixes [] (w ∷ ws) = ⊥
 ArePrefixes (l ∷ ls) [] = ⊥
 ArePrefixes (l ∷ ls) (w ∷ ws) = IsPrefix l w × ArePrefixes ls ws
 
--- What a node behind others owes. A source gave its own list. Any other node is lawful from the lists on its ports to
+-- What a node after others owes. A source gave its own list. Any other node is lawful from the lists on its ports to
 -- the list that it gave.
 pub record IsNodeRun (sources : Lists) (before : List PlanNode) (node : PlanNode) (lists : Lists) (given : List Message) : Type 0 where
   pub source : is_source node.kind ≡ true → given ≡ list_at sources (source_count before)

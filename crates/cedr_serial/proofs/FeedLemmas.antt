@@ -94,6 +94,8 @@ fed_either true false first old new fed still more none e = omega (arith, fed re
 fed_either false true first old new fed still more none e = omega (arith, ap left_count (still refl), more refl)
 fed_either false false first old new fed still more none e = absurd (let x = e in cc)
 
+-- where no node before a place had a message, and the one there has none, all is as before, and no node up to
+-- that place has one
 pub none_either : (b c : Bool) (first old new : Lists) (place : ℕ) → (b ≡ false → (old ≡ first) × ((k : ℕ) → k < place → list_at old k ≡ [])) → (c ≡ false → (list_at old place ≡ []) × (new ≡ old)) → b || c ≡ false → (new ≡ first) × ((k : ℕ) → k < place + 1 → list_at new k ≡ [])
 none_either true c first old new place still none e = absurd (let x = e in cc)
 none_either false true first old new place still none e = absurd (let x = e in cc)
@@ -107,7 +109,7 @@ none_either false false first old new place still none e =
       ],
     )
 
--- there is no list behind the last one
+-- there is no list after the last one
 pub none_left : (ls : Lists) (count k : ℕ) → length ls ≤ count → ((j : ℕ) → j < count → list_at ls j ≡ []) → list_at ls k ≡ []
 none_left ls count k wide none = elim (cases_lt k count) [
   | inl h ↦ none k h
@@ -133,11 +135,13 @@ one_taken zero (l ∷ ls) = refl
 one_taken (suc k) [] = refl
 one_taken (suc k) (l ∷ ls) = ap (λ (ms : Lists). behind_first l ∷ ms) (one_taken k ls)
 
+-- one list more is without its first message
 pub taken_more : (k : ℕ) (ls old new : Lists) → old ≡ taken_up_to k ls → new ≡ set old k (behind_first (list_at old k)) → new ≡ taken_up_to (k + 1) ls
 taken_more k ls old new before now =
     let next : suc k ≡ k + 1 = omega arith in
     now ∙ (ap (λ (ms : Lists). set ms k (behind_first (list_at ms k))) before ∙ (one_taken k ls ∙ ap (λ (n : ℕ). taken_up_to n ls) next))
 
+-- at the start of a round no list is without its first message
 pub taken_none : (ls : Lists) → ls ≡ taken_up_to 0 ls
 unfolding taken_up_to
 taken_none ls = refl
@@ -147,13 +151,15 @@ unfolding taken_up_to
 all_taken [] = refl
 all_taken (l ∷ ls) = ap (λ (ms : Lists). behind_first l ∷ ms) (all_taken ls)
 
+-- at the end of a round each list is without its first message
 pub taken_all : (k : ℕ) (ls now : Lists) → k ≡ length ls → now ≡ taken_up_to k ls → now ≡ map behind_first ls
 taken_all k ls now end is = is ∙ (ap (λ (n : ℕ). taken_up_to n ls) end ∙ all_taken ls)
 
--- a message of a source was taken, or it had none
+-- where a message of a source was taken, its list is without its first message
 pub one_behind : (old new : Lists) (k : ℕ) (m : Message) → list_at old k ≡ m ∷ list_at new k → new ≡ set old k (list_at new k) → new ≡ set old k (behind_first (list_at old k))
 one_behind old new k m front rest = rest ∙ ap (set old k) (sym (ap behind_first front))
 
+-- where a source had no message, its list is as it was, which is the same without a first message
 pub none_behind : (old new : Lists) (k : ℕ) → list_at old k ≡ [] → new ≡ old → new ≡ set old k (behind_first (list_at old k))
 none_behind old new k none same = same ∙ (sym (set-get_or old k []) ∙ ap (set old k) (none ∙ sym (ap behind_first none)))
 

@@ -18,6 +18,7 @@ pick : (b : Bool) (x y : List Message) (xs ys : Lists) → (b ≡ true → x ≡
 pick true x y xs ys here rest = ap (λ (m : List Message). m ∷ xs) (here refl) ∙ ap (λ (ms : Lists). y ∷ ms) rest
 pick false x y xs ys here rest = rest
 
+-- lists that are the same at each source have the same lists of the sources
 pub same_sources : (nodes : List PlanNode) (given whole : Lists) → ((k : ℕ) (d : PlanNode) → k < length nodes → is_source (get_or nodes k d).kind ≡ true → list_at given k ≡ list_at whole k) → sources_in nodes given ≡ sources_in nodes whole
 same_sources [] given whole h = refl
 same_sources (n ∷ nodes) [] [] h = refl

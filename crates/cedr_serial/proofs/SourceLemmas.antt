@@ -37,6 +37,7 @@ file_answer (Err (source_fault.Refused refusal)) shape types all has answer = (s
 file_answer (Err source_fault.Failed) shape types all has answer = tt
 file_answer (Err source_fault.OutOfMemory) shape types all has answer = tt
 
+-- the same by the content of the file, which is what its source had left
 pub known_answer : (result : Result (Vec Message Global) SourceFault) (shape : Shape) (types : List FieldType) (content rest : Option (List ℕ)) → rest ≡ content → HasTypes shape types → IfSome rest (λ all. AnswersAll result shape all) → IfSome content (λ all. AnswersFile result types all)
 known_answer result shape types content None same has answer = subst (λ (o : Option (List ℕ)). IfSome o (λ all. AnswersFile result types all)) same tt
 known_answer result shape types content (Some all) same has answer = subst (λ (o : Option (List ℕ)). IfSome o (λ bytes. AnswersFile result types bytes)) same (file_answer result shape types all has answer)
@@ -47,7 +48,7 @@ told_split : (content : List ℕ → Option (List ℕ)) (told : List ℕ → Lis
 told_split content told [] ys h = (tt, h)
 told_split content told (x ∷ xs) ys h = let rest = told_split content told xs ys h.1 in ((h.0, rest.0), rest.1)
 
--- what is told of all sources is told of each
+-- where it is known what the files of all sources hold, it is known of each
 pub told_at : (content : List ℕ → Option (List ℕ)) (told : List ℕ → List ℕ) (before after : List PlanNode) (n : PlanNode) → AreTold content told (source_files (before ++ n ∷ after)) → AreTold content told (files_of n)
 told_at content told [] after n h = (told_split content told (files_of n) (source_files after) h).0
 told_at content told (b ∷ before) after n h = told_at content told before after n (told_split content told (files_of b) (source_files (before ++ n ∷ after)) h).1
@@ -60,7 +61,7 @@ files_append : (before after : List PlanNode) → source_files (before ++ after)
 files_append [] after = refl
 files_append (b ∷ before) after = ap (λ (ns : List (List ℕ)). files_of b ++ ns) (files_append before after) ∙ sym (append_assoc (files_of b) (source_files before) (source_files after))
 
--- what a node gave, where it is told what its file holds
+-- what a node gave, where it is known what its file holds
 given_ok : (told : List ℕ → List ℕ) (content : List ℕ → Option (List ℕ)) (n : PlanNode) (messages : Vec Message Global) → (is_source n.kind ≡ true → content (file_of n.kind) ≡ Some (told (file_of n.kind)))
     → (is_source n.kind ≡ true → IfSome (content (file_of n.kind)) (λ all. AnswersFile (Ok messages) n.types.items all)) → (is_source n.kind ≡ false → messages.items ≡ []) → HasGiven told n messages.items None
 given_ok told content n messages known answer none = record {
@@ -142,6 +143,7 @@ counted_on (Err (source_fault.Refused refusal)) old new place before after noted
 counted_on (Err source_fault.Failed) old new place before after noted counted = absurd noted
 counted_on (Err source_fault.OutOfMemory) old new place before after noted counted = absurd noted
 
+-- one node more has a list that may be its own
 pub sources_on : (nodes : List PlanNode) (place : ℕ) (old new : ReadSoFar) (n : PlanNode) (read : Result (Vec Message Global) SourceFault) → SourcesUpTo nodes place old.left.items → place < length nodes → get_or nodes place n ≡ n
     → IfOk read (λ messages. IsLegal messages.items) → (is_source n.kind ≡ false → IsNothing read) → Notes read old new place → SourcesUpTo nodes (place + 1) new.left.items
 sources_on nodes place old new n (Ok messages) h within here legal none noted = subst (SourcesUpTo nodes (place + 1)) (sym noted.0) (sources_push nodes old.left.items messages.items n place h within here legal none)
@@ -187,6 +189,7 @@ asks_on first now after before rest n read there asked =
           (sym (ap (take (length (source_files before) + length (take a.count (files_of n)))) (files_append before (n ∷ rest)) ∙ take_front (source_files before) a.count (files_of n) (source_files rest) (length (source_files before) + length (take a.count (files_of n))) refl))));
     }
 
+-- once all nodes were passed, the files of all sources were asked for
 pub asked_whole : (first after : List (List ℕ)) (nodes : List PlanNode) (place : ℕ) → place ≡ length nodes → after ≡ first ++ source_files (take place nodes) → AsksFirst first after (source_files nodes)
 asked_whole first after nodes place end asked = record {
   count = length (source_files nodes);

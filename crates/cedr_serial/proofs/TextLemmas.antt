@@ -12,6 +12,7 @@ use Rattle.cedr_base.specs.declared.row.Row.{Row}
 use Rattle.cedr_text.specs.Texts.{rows_text}
 use Rattle.cedr_serial.specs.Answers.{forgotten_line, port_text, ports_text, nodes_text, tail_text, answer_text}
 
+-- the lines of a port that forgot one change more
 pub port_more : (name : List ℕ) (port : ℕ) (fs : List Forgotten) (f : Forgotten) → port_text name port (fs ++ f ∷ []) ≡ port_text name port fs ++ forgotten_line name port f
 port_more name port [] f = append-nil (forgotten_line name port f)
 port_more name port (x ∷ fs) f = ap (λ (t : List ℕ). forgotten_line name port x ++ t) (port_more name port fs f) ∙ sym (append_assoc (forgotten_line name port x) (port_text name port fs) (forgotten_line name port f))
@@ -40,10 +41,12 @@ nodes_more (b ∷ before) n [] within = absurd (omega arith)
 nodes_more (b ∷ before) n (ports ∷ listed) within =
     ap (λ (t : List ℕ). ports_text b.name 0 ports ++ t) (nodes_more before n listed (omega arith)) ∙ sym (append_assoc (ports_text b.name 0 ports) (nodes_text before listed) (ports_text n.name 0 (get_or listed (length before) [])))
 
+-- of two lists one after the other, the first elements, as many as the first list has, are the first list
 pub take_before : {X : Type 0} (before after : List X) → take (length before) (before ++ after) ≡ before
 take_before [] after = refl
 take_before (b ∷ before) after = ap (λ xs. b ∷ xs) (take_before before after)
 
+-- there is a list of what its ports forgot for each node
 pub forgot_length : (nodes : List PlanNode) (ports : List Lists) → length (forgot_in nodes ports) ≡ length nodes
 forgot_length [] ports = refl
 forgot_length (n ∷ nodes) [] = ap (λ k. suc k) (forgot_length nodes [])
@@ -86,11 +89,12 @@ node_there nodes before after n d place whole here = ap (λ (ns : List PlanNode)
 pub all_ports : (n : PlanNode) (lists : Lists) (count : ℕ) → count ≡ length lists → ports_text n.name 0 (take count (forgot_on n lists)) ≡ ports_text n.name 0 (forgot_on n lists)
 all_ports n lists count whole = ap (ports_text n.name 0) (take_all count (forgot_on n lists) (omega (arith, length-map lists (forgot n.level.memory))))
 
--- the answer's text, with what was forgotten and without
+-- where what was forgotten isn't asked for, the answer's text is the rows
 pub untold : (told : Bool) (nodes : List PlanNode) (rows : List Row) (listed : List (List (List Forgotten))) → told ≡ false → rows_text rows ≡ answer_text told nodes rows listed
 untold true nodes rows listed e = absurd (let x = e in cc)
 untold false nodes rows listed e = sym (append-nil (rows_text rows))
 
+-- where what was forgotten is asked for, the answer's text is the rows and then that
 pub all_told : (told : Bool) (nodes : List PlanNode) (rows : List Row) (listed : List (List (List Forgotten))) → told ≡ true → rows_text rows ++ tail_text nodes listed ≡ answer_text told nodes rows listed
 all_told true nodes rows listed e = refl
 all_told false nodes rows listed e = absurd (let x = e in cc)

@@ -9,6 +9,7 @@ use Rattle.cedr_plan.specs.declared.plan.PlanNode.{PlanNode}
 use Rattle.cedr_text.specs.Parts.{line_feed}
 use Rattle.cedr_text.specs.Texts.{rows_text, forgotten_text}
 
+-- the word for a cause
 abbrev pub cause_text : Cause → List ℕ
 cause_text cause.Late = codes "late"
 cause_text cause.Orphan = codes "orphan"
@@ -42,7 +43,7 @@ is_finite (Some memory) = true
 abbrev pub has_memory : List PlanNode → Bool
 has_memory nodes = list_any (λ (node : PlanNode). is_finite node.level.memory) nodes
 
--- what was forgotten, behind a line of its own
+-- what was forgotten, after a line of its own
 abbrev pub tail_text : List PlanNode → List (List (List Forgotten)) → List ℕ
 tail_text nodes listed = codes "--" ++ line_feed ∷ nodes_text nodes listed
 

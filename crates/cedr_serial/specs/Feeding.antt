@@ -1,4 +1,4 @@
--- Sources that are fed to a network, each message of a source behind the one before it.
+-- Sources that are fed to a network, each message of a source after the one before it.
 use Rattle.std.specs.Prelude.{ℕ, ◌≡◌, ◌<◌, List, ◌∷◌, ◌++◌, length, sum_by, []}
 use Rattle.cedr_base.specs.declared.change.Message.{Message}
 use Rattle.cedr_base.specs.Messages.{IsLegal}

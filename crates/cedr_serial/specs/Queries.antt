@@ -22,6 +22,7 @@ use Rattle.cedr_serial.specs.Sources.{file_of, HasTypes}
 
 -- ---- accepted sources
 
+-- the sources among nodes
 abbrev pub source_nodes : List PlanNode → List PlanNode
 source_nodes nodes = filter (λ (n : PlanNode). is_source n.kind) nodes
 
@@ -33,6 +34,7 @@ pub record IsAccepted (told : List ℕ → List ℕ) (node : PlanNode) (ms : Lis
   pub messages : ms ≡ messages_of shape (told (file_of node.kind))
   pub history_is : history ≡ history_of_bytes shape (told (file_of node.kind))
 
+-- the same of each of some sources, in order
 abbrev pub AreAccepted : (List ℕ → List ℕ) → List PlanNode → Lists → Tables → Type 0
 AreAccepted told [] [] [] = Unit {0}
 AreAccepted told [] [] (t ∷ ts) = ⊥
@@ -47,9 +49,9 @@ AreAccepted told (n ∷ nodes) (l ∷ ls) (t ∷ ts) = IsAccepted told n l t × 
 abbrev pub rows_without : List PlanNode → List Lists → Tables → List Row
 rows_without nodes ports histories = table_at (query_without (forgot_in nodes ports) histories nodes) (output_place nodes)
 
--- The rows of the query over the canonical histories, with what each port forgot left out, in canonical order; and behind
--- them what was forgotten, where some port has a finite memory or it is asked for. What was forgotten is that of a run of
--- the plan over the messages of the sources.
+-- The rows of the query over the canonical histories, with what each port forgot left out, in canonical order; and
+-- after them what was forgotten, where some port has a finite memory or it is asked for. What was forgotten is that of
+-- a run of the plan over the messages of the sources.
 pub record IsAnswerText (always : Bool) (nodes : List PlanNode) (sources : Lists) (histories : Tables) (text : List ℕ) : Type 0 where
   pub ports : List Lists
   pub given : Lists
@@ -58,6 +60,7 @@ pub record IsAnswerText (always : Bool) (nodes : List PlanNode) (sources : Lists
 
 -- ---- the changes
 
+-- a line for each change, in order
 abbrev pub changes_text : List Change → List ℕ
 changes_text changes = flat_map change_text changes
 
@@ -65,7 +68,7 @@ changes_text changes = flat_map change_text changes
 abbrev pub given_text : List PlanNode → Lists → List ℕ
 given_text nodes given = changes_text (changes_of (list_at given (output_place nodes)))
 
--- The changes that the output gave in a run of the plan over the messages of the sources, and behind them what was
+-- The changes that the output gave in a run of the plan over the messages of the sources, and after them what was
 -- forgotten, where some port has a finite memory.
 pub record IsStreamText (nodes : List PlanNode) (sources : Lists) (text : List ℕ) : Type 0 where
   pub ports : List Lists

@@ -61,7 +61,7 @@ AsksSource (Err (source_fault.Refused refusal)) old new names = new ≡ old ++ n
 AsksSource (Err source_fault.Failed) old new names = new ≡ old ++ names
 AsksSource (Err source_fault.OutOfMemory) old new names = AsksFirst old new names
 
--- it is told what these files hold
+-- it is known what these files hold
 abbrev pub AreTold : (List ℕ → Option (List ℕ)) → (List ℕ → List ℕ) → List (List ℕ) → Type 0
 AreTold content told [] = Unit {0}
 AreTold content told (name ∷ names) = (content name ≡ Some (told name)) × AreTold content told names
@@ -85,6 +85,7 @@ pub record HasGiven (told : List ℕ → List ℕ) (node : PlanNode) (ms : List 
   pub source : is_source node.kind ≡ true → (shape : Shape) × HasTypes shape node.types.items × ((judged shape (told (file_of node.kind))).fault ≡ fault) × (fault ≡ None → ms ≡ messages_of shape (told (file_of node.kind)))
   pub other : is_source node.kind ≡ false → (ms ≡ []) × (fault ≡ None)
 
+-- the same of each of some nodes, in order
 abbrev pub AllHaveGiven : (List ℕ → List ℕ) → List PlanNode → Lists → List (Option Refusal) → Type 0
 AllHaveGiven told [] [] [] = Unit {0}
 AllHaveGiven told [] (l ∷ ls) faults = ⊥
@@ -93,11 +94,12 @@ AllHaveGiven told (n ∷ nodes) [] faults = ⊥
 AllHaveGiven told (n ∷ nodes) (l ∷ ls) [] = ⊥
 AllHaveGiven told (n ∷ nodes) (l ∷ ls) (f ∷ faults) = HasGiven told n l f × AllHaveGiven told nodes ls faults
 
--- the faulty sources among the nodes from a place on
+-- the source at a place, where it has a fault
 abbrev pub fault_here : ℕ → Option Refusal → List FaultySource
 fault_here place None = []
 fault_here place (Some refusal) = record { place = place; refusal = refusal } ∷ []
 
+-- the faulty sources among the nodes from a place on, by the first fault of each node
 abbrev pub faulty_from : ℕ → List (Option Refusal) → List FaultySource
 faulty_from place [] = []
 faulty_from place (f ∷ faults) = fault_here place f ++ faulty_from (place + 1) faults
@@ -115,6 +117,7 @@ AnswersSources (Err (sources_fault.Events faulty)) told nodes = (left : Lists) �
 AnswersSources (Err sources_fault.Read) told nodes = Unit {0}
 AnswersSources (Err sources_fault.OutOfMemory) told nodes = Unit {0}
 
+-- the files' count rose where a read failed, and is as before at every other answer
 abbrev pub CountsSources : {T : Type 0} → Result T SourcesFault → ℕ → ℕ → Type 0
 CountsSources (Ok done) old new = new ≡ old
 CountsSources (Err (sources_fault.Events faulty)) old new = new ≡ old
@@ -135,7 +138,7 @@ Notes (Err (source_fault.Refused refusal)) old new place = (new.left.items ≡ o
 Notes (Err source_fault.Failed) old new place = ⊥
 Notes (Err source_fault.OutOfMemory) old new place = ⊥
 
--- a read that failed is told, and anything else is want of memory
+-- a read that failed is answered, and anything else is want of memory
 abbrev pub PassesOn : Result (Unit {0}) SourcesFault → Result (Vec Message Global) SourceFault → Type 0
 PassesOn (Ok done) read = Unit {0}
 PassesOn (Err (sources_fault.Events faulty)) read = ⊥

@@ -16,8 +16,8 @@ ghost use Rattle.cedr_serial.specs.Sources.{AreRead};
 use cedr_guard::message_laws;
 use cedr_laws::strong_passing;
 
-/// The law of sources that are fed: one may begin where nothing was given yet, and where all was given and nothing waits
-/// the lists are a run of the plan over the whole sources.
+/// The law of sources that are fed: feeding may begin where nothing was given yet. Where all was given and nothing
+/// waits, the lists are a run of the plan over the whole sources.
 pub fn fed_sources()
     ensures begins { (nodes : List PlanNode) (net : SerialNet) (ports : List Lists) (given whole : Lists) → NetStands nodes net ports given → ((k : ℕ) → list_at given k ≡ []) → AreSources nodes whole → FeedStands nodes net whole whole }
     ensures ends { (nodes : List PlanNode) (net : SerialNet) (left whole : Lists) → FeedStands nodes net left whole → IsSettledAt nodes net → ((k : ℕ) → list_at left k ≡ []) → IsWholeRun nodes net whole }

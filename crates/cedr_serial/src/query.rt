@@ -29,12 +29,12 @@ fn feed_sources(
     ensures { IfOk result (λ net. IsWholeRun plan.now.nodes.items net left.items) }
 {
     fed_sources();
-    let mut net = SerialNet::new(alloc, plan)?;
+    let mut net = SerialNet::of_table(alloc, plan)?;
     feed_all(alloc, &mut net, &mut left)?;
     Ok(net)
 }
 
-/// Whether what was forgotten is told.
+/// Whether what was forgotten is listed.
 fn is_told(always: bool, nodes: &[PlanNode]) -> bool
     ensures { result ≡ (always || has_memory nodes.now) }
 {

@@ -135,10 +135,10 @@ impl ReadSoFar {
     }
 }
 
-/// Reads all sources of a plan, in its order: what each node has to give, which is all messages of a source, or the sources
-/// that aren't accepted, each with its first fault. A source that isn't accepted doesn't keep the others from being read; a
-/// read that fails does. Each file is asked for once for each source that names it. O(n log n) in the bytes; no file is held
-/// as a whole beside its messages.
+/// Reads all sources of a plan, in its order. It answers what each node has to give, which is all messages of a source;
+/// or the sources that aren't accepted, each with its first fault. A source that isn't accepted doesn't keep the others
+/// from being read; a read that fails does. Each file is asked for once for each source that names it. O(n log n) in
+/// the bytes; no file is held as a whole beside its messages.
 pub fn read_sources<F: Files>(
     alloc: Global,
     nodes: &[PlanNode],

@@ -67,7 +67,7 @@ fn run(alloc: Global, text: &str, files: &mut MemFiles) -> Result<Ran, Fail>
     ensures { IfOk result (λ ran. (whole : Lists) × IsWholeRun ran.plan.nodes.items ran.net whole) }
 {
     let plan = plan(alloc, text)?;
-    let mut net = SerialNet::new(alloc, &plan)?;
+    let mut net = SerialNet::of_table(alloc, &plan)?;
     let mut left = read(alloc, plan.nodes.as_slice(), files)?;
     feed_all(alloc, &mut net, &mut left)?;
     Ok(Ran { plan, net })

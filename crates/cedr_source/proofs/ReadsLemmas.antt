@@ -1,4 +1,4 @@
--- What each answer tells of a source.
+-- What each answer says of a source.
 use Rattle.std.proofs.Common.{◌≡◌, ◌≢◌, ℕ, ◌+◌, ◌-◌, ◌^◌, ◌<◌, ◌≤◌, List, [], ◌∷◌, ◌++◌, Bool, true, false, cond, length, take, min, Option, None, Some, Result, Ok, Err, refl, ap, sym, ◌∙◌, subst, append_assoc, append-nil, arith}
 use Rattle.std.specs.Prelude.{nat_lt, IfOk, OnOk}
 use Rattle.std.proofs.lemmas.Bool.{ltb-true, ltb-false, le-ltb, false≢true}
@@ -142,7 +142,7 @@ next_part old new raw more next unended =
     ∙ (next (more ++ line_feed ∷ []) (goes_on old (more ++ line_feed ∷ []) unended)
     ∙ ap (λ lines. raw ∷ lines) (ap raw_lines (sym (append_assoc new.kept more (line_feed ∷ []))) ∙ sym (parts_are (new.kept ++ more)))))
 
--- a source over the limit whose first part behind the taken ones has a fault, and isn't the last
+-- a source over the limit whose first part after the taken ones has a fault, and isn't the last
 first_part_refused : (shape : Shape) (count : ℕ) (good : List EventLine) (line : List ℕ) (parts : List (List ℕ)) (fault : LineFault) → parts ≢ [] → with_reading good (line_reading shape line) ≡ Err fault
     → front_behind shape count good (line ∷ parts) ≡ record { good = good; fault = Some (record { line = count + 1; fault = fault }) }
 first_part_refused shape count good line [] fault some reads = absurd (some refl)
@@ -190,7 +190,7 @@ refused_long source shape bytes given long reads =
 no_feed : (bytes : List ℕ) → has_line_feed bytes ≡ false → parts_of line_feed (bytes ++ []) ≡ bytes ∷ []
 no_feed bytes none = ap (parts_of line_feed) (append-nil bytes) ∙ no_feed_part bytes none
 
--- behind more bytes than a source may have, no byte counts
+-- after more bytes than a source may have, no byte counts
 none_fit : (count : ℕ) (more : List ℕ) → FILE_LIMIT < count → take (FILE_LIMIT - count) more ≡ []
 none_fit count more long = let none : FILE_LIMIT - count ≡ 0 = omega arith in ap (λ k. take k more) none
 
@@ -245,11 +245,11 @@ is_closed source shape bytes given ended nothing reads =
 
 -- ---- the answer for a line
 
--- a message is legal behind those before it
+-- a message is legal after those before it
 line_message : (old new : SourceLines) (line : List ℕ) (m : Message) (shape : Shape) (bytes : List ℕ) (given : List Message) → Reads new shape bytes (given ++ m ∷ []) → Tells (step.Message m) new shape bytes given
 line_message old new line m shape bytes given reads = (reads, (gives_front new shape bytes (given ++ m ∷ []) reads).legal)
 
--- what the answer for a line tells
+-- what the answer for a line says
 pub line_told : (old new : SourceLines) (line : List ℕ) (judged : Result (Option Message) GuardFault) (answer : Result (Option SourceStep) OutOfMemory) → Takes old new line
     → ((before : List EventLine) → Guards old.guard before → JudgesLine judged new.guard before (with_reading before (reading old.shape line))) → Answers old.number judged answer
     → IfOk answer (λ told. (shape : Shape) (bytes : List ℕ) (given : List Message) → Reads old shape bytes given → TellsLine told new shape bytes given)
@@ -345,7 +345,7 @@ more_read old new piece shape bytes given feeds reads =
       ended = λ ended. absurd (false≢true (sym (ap (λ (fed : Fed). fed.finished) feeds.lines) ∙ ended));
     }
 
--- ---- a line behind accepted ones
+-- ---- a line after accepted ones
 
 -- a guard's answer for an event is that for its line
 pub event_judged : (result : Result (Option Message) GuardFault) (old new : Guard) (event : EventLine)
@@ -386,14 +386,14 @@ still_reads old new shape bytes given stays reads =
       ended = λ ended. reads.ended (ap (λ (fed : Fed). fed.finished) (sym stays.lines) ∙ ended);
     }
 
--- the next line is told to be too long
+-- the answer is that the next line is too long
 pub long_told : (old new : SourceLines) (told : SourceStep) → told ≡ refused old.number LineTooLong → Stays old new → IsTooLong old.lines
     → (shape : Shape) (bytes : List ℕ) (given : List Message) → Reads old shape bytes given → Tells told new shape bytes given
 long_told old new told is stays long shape bytes given reads =
     subst (λ t. Tells t new shape bytes given) (sym (is ∙ ap (λ n. refused n LineTooLong) (sym stays.number)))
     (refused_long new shape bytes given (subst IsTooLong (sym stays.lines) long) (still_reads old new shape bytes given stays reads))
 
--- a source is told to be too large
+-- the answer is that the source is too large
 pub large_told : (old new : SourceLines) (told : SourceStep) → told ≡ refused old.number TooLarge → Stays old new → GivesNone lines.NotYet old.lines → old.over_limit ≡ true
     → (shape : Shape) (bytes : List ℕ) (given : List Message) → Reads old shape bytes given → Tells told new shape bytes given
 large_told old new told is stays none over shape bytes given reads =
@@ -409,7 +409,7 @@ waiting_told old new stays none over shape bytes given reads =
     let reads_on = still_reads old new shape bytes given stays reads in
     (reads_on, waits new shape bytes given still.0 still.1 still.2 (stays.over ∙ over) reads_on)
 
--- a source is told to be closed
+-- the answer is that the source is closed
 pub closed_told : (old new : SourceLines) → Stays old new → GivesNone lines.Finished old.lines
     → (shape : Shape) (bytes : List ℕ) (given : List Message) → Reads old shape bytes given → Tells step.Closed new shape bytes given
 closed_told old new stays none shape bytes given reads =

@@ -1,4 +1,4 @@
--- The lines that were taken of a source, and how all of its lines are judged behind them.
+-- The lines that were taken of a source, and how all of its lines are judged after them.
 use Rattle.std.proofs.Common.{◌≡◌, ◌≢◌, ℕ, zero, suc, ◌+◌, ◌-◌, ◌<◌, ◌≤◌, ◌==◌, List, [], ◌∷◌, ◌++◌, Bool, true, false, cond, length, take, Option, None, Some, Result, Ok, Err, refl, ap, sym, ◌∙◌, subst, append_assoc, append-nil, arith}
 use Rattle.std.specs.Prelude.{nat_lt}
 use Rattle.std.specs.List.{onto_first}
@@ -91,13 +91,13 @@ no_feed_part (b ∷ bytes) none =
     let parts = or_parts (b == line_feed) (has_line_feed bytes) none in
     ap (λ rest. cond (b == line_feed) ([] ∷ rest) (onto_first b rest)) (no_feed_part bytes parts.1) ∙ no_cut (b == line_feed) b bytes parts.0
 
--- ---- lines behind accepted ones
+-- ---- lines after accepted ones
 
 -- a fault is there or not
 some_fault : (before good : List EventLine) (refusal : Refusal) → ◌≡◌ {A = Judged} (record { good = before; fault = Some refusal }) (record { good = good; fault = None }) → ⊥
 some_fault before good refusal same = let fault = ap (λ (file : Judged). file.fault) same in cc
 
--- behind one line, where what is behind it is known
+-- after one line, where it is known what comes after it
 go_behind : (shape : Shape) (count : ℕ) (before good : List EventLine) (read : Result (List EventLine) LineFault) (taken lines : List (List ℕ))
     → ((now : List EventLine) → judged_behind shape (count + 1) now taken ≡ record { good = good; fault = None } → judged_behind shape (count + 1) now (taken ++ lines) ≡ judged_behind shape ((count + 1) + length taken) good lines)
     → go_on (count + 1) before read (λ now. judged_behind shape (count + 1) now taken) ≡ record { good = good; fault = None }
@@ -105,7 +105,7 @@ go_behind : (shape : Shape) (count : ℕ) (before good : List EventLine) (read :
 go_behind shape count before good (Ok now) taken lines more all = more now all
 go_behind shape count before good (Err fault) taken lines more all = absurd (some_fault before good (record { line = count + 1; fault = fault }) all)
 
--- lines behind accepted ones are judged as if they came first, but for the count and what was accepted
+-- lines after accepted ones are judged as if they came first, but for the count and what was accepted
 taken_behind : (shape : Shape) (count : ℕ) (before good : List EventLine) (taken lines : List (List ℕ)) → judged_behind shape count before taken ≡ record { good = good; fault = None }
     → judged_behind shape count before (taken ++ lines) ≡ judged_behind shape (count + length taken) good lines
 taken_behind shape count before good [] lines all =
@@ -122,9 +122,9 @@ AreGood shape taken good = judged_lines shape taken ≡ record { good = good; fa
 pub lines_behind : (shape : Shape) (taken lines : List (List ℕ)) (good : List EventLine) → AreGood shape taken good → judged_lines shape (taken ++ lines) ≡ judged_behind shape (length taken) good lines
 lines_behind shape taken lines good all = taken_behind shape 0 [] good taken lines all ∙ ap (λ n. judged_behind shape n good lines) (omega arith)
 
--- ---- the parts of a source over the limit behind accepted lines
+-- ---- the parts of a source over the limit after accepted lines
 
--- behind whole lines the whole lines of some parts are whole
+-- lines that parts follow are whole, and after them come the whole lines of the parts
 pub whole-taken : (taken parts : List (List ℕ)) → parts ≢ [] → whole_lines (taken ++ parts) ≡ taken ++ whole_lines parts
 whole-taken [] parts some = refl
 whole-taken (line ∷ []) [] some = absurd (some refl)
@@ -138,14 +138,16 @@ unfinished-taken (line ∷ []) [] some = absurd (some refl)
 unfinished-taken (line ∷ []) (part ∷ parts) some = refl
 unfinished-taken (line ∷ next ∷ taken) parts some = unfinished-taken (next ∷ taken) parts some
 
--- the whole lines are judged behind those, and then the line that follows them
+-- lines that were judged, and then the line that follows them: its fault counts where they have none
 abbrev pub with_limit : Judged → ℕ → List ℕ → Judged
 with_limit file number line = record { good = file.good; fault = Some (first_fault file.fault (record { line = number; fault = limit_fault line })) }
 
+-- the parts of a source over the limit, after accepted lines: its whole lines are judged after those,
+-- and then the line that follows them
 abbrev pub front_behind : Shape → ℕ → List EventLine → List (List ℕ) → Judged
 front_behind shape count good parts = with_limit (judged_behind shape count good (whole_lines parts)) (count + length (whole_lines parts) + 1) (unfinished_line parts)
 
--- the parts of a source over the limit, behind accepted lines
+-- so a source over the limit is judged, after its accepted lines
 parts_behind : (shape : Shape) (taken parts : List (List ℕ)) (good : List EventLine) → AreGood shape taken good → parts ≢ [] → judged_front shape (taken ++ parts) ≡ front_behind shape (length taken) good parts
 parts_behind shape taken parts good all some =
     let whole = whole-taken taken parts some in
@@ -170,13 +172,13 @@ take-more zero bytes more = let none : 0 ≡ 0 - length bytes = omega arith in a
 take-more (suc n) [] more = let all : suc n ≡ suc n - 0 = omega arith in ap (λ k. take k more) all
 take-more (suc n) (b ∷ bytes) more = ap (λ rest. b ∷ rest) (take-more n bytes more ∙ ap (λ k. take n bytes ++ take k more) (omega arith))
 
--- how all bytes are judged behind the lines that were taken of the first ones
+-- how all bytes are judged after the lines that were taken of the first ones
 pub record Stands (fed : Fed) (shape : Shape) (bytes : List ℕ) (taken : List (List ℕ)) (good : List EventLine) : Type 0 where
   pub taken_are : AreTaken fed (take FILE_LIMIT bytes) taken
   pub accepted : AreGood shape taken good
   pub ended : fed.finished ≡ true → length bytes ≤ FILE_LIMIT
 
--- up to the limit the lines behind the taken ones decide
+-- up to the limit the lines after the taken ones decide
 within_behind : (fed : Fed) (shape : Shape) (bytes more : List ℕ) (taken : List (List ℕ)) (good : List EventLine) → Stands fed shape bytes taken good → MayStillCome fed more → length (bytes ++ more) ≤ FILE_LIMIT
     → judged shape (bytes ++ more) ≡ judged_behind shape (length taken) good (raw_lines (fed.kept ++ more))
 within_behind fed shape bytes more taken good stands may short =
@@ -186,7 +188,7 @@ within_behind fed shape bytes more taken good stands may short =
     ∙ (ap (judged_lines shape) (stands.taken_are more may)
     ∙ lines_behind shape taken (raw_lines (fed.kept ++ more)) good stands.accepted))
 
--- over it the parts of the first bytes behind them do
+-- over it the parts of the first bytes after them do
 beyond_behind : (fed : Fed) (shape : Shape) (bytes more : List ℕ) (taken : List (List ℕ)) (good : List EventLine) → Stands fed shape bytes taken good → fed.finished ≡ false → FILE_LIMIT < length (bytes ++ more)
     → judged shape (bytes ++ more) ≡ front_behind shape (length taken) good (parts_of line_feed (fed.kept ++ take (FILE_LIMIT - length bytes) more))
 beyond_behind fed shape bytes more taken good stands unended long =
@@ -215,7 +217,7 @@ by_length P true fed shape bytes more taken good is stands may within beyond =
     let unended = open_beyond fed.finished fed bytes more refl stands.ended may long in
     subst P (sym (beyond_behind fed shape bytes more taken good stands unended long)) (beyond unended)
 
--- what holds of the lines behind the taken ones, within the limit and over it, holds of all bytes
+-- what holds of the lines after the taken ones, within the limit and over it, holds of all bytes
 pub holds_behind : (P : Judged → Type 0) (fed : Fed) (shape : Shape) (bytes more : List ℕ) (taken : List (List ℕ)) (good : List EventLine)
     → Stands fed shape bytes taken good → MayStillCome fed more
     → (length (bytes ++ more) ≤ FILE_LIMIT → P (judged_behind shape (length taken) good (raw_lines (fed.kept ++ more))))
@@ -223,7 +225,7 @@ pub holds_behind : (P : Judged → Type 0) (fed : Fed) (shape : Shape) (bytes mo
     → P (judged shape (bytes ++ more))
 holds_behind P fed shape bytes more taken good stands may within beyond = by_length P (nat_lt FILE_LIMIT (length (bytes ++ more))) fed shape bytes more taken good refl stands may within beyond
 
--- ---- the first line behind the taken ones
+-- ---- the first line after the taken ones
 
 -- the line has this fault, and so the source
 pub line_refused : (shape : Shape) (count : ℕ) (good : List EventLine) (line : List ℕ) (lines : List (List ℕ)) (fault : LineFault) → with_reading good (line_reading shape line) ≡ Err fault
@@ -261,7 +263,7 @@ large_part shape count good line short =
 ok_same : {A E : Type 0} {x y : A} → ◌≡◌ {A = Result A E} (Ok x) (Ok y) → x ≡ y
 ok_same same = cc
 
--- what is accepted grows behind one line
+-- what is accepted grows after one line
 go_grows : (number : ℕ) (before : List EventLine) (read : Result (List EventLine) LineFault) (rest : List EventLine → Judged)
     → ((now : List EventLine) → read ≡ Ok now → (more : List EventLine) × ((rest now).good ≡ before ++ more)) → (more : List EventLine) × ((go_on number before read rest).good ≡ before ++ more)
 go_grows number before (Ok now) rest grows = grows now refl
@@ -278,7 +280,7 @@ reading_grows before (Err fault) now is = cc
 reading_grows before (Ok None) now is = ([], sym (append-nil before ∙ ok_same is))
 reading_grows before (Ok (Some event)) now is = event_grows before event (fault_behind before event) now is
 
--- accepted lines stay in front of those behind them
+-- accepted lines stay in front of those after them
 pub good_grows : (shape : Shape) (count : ℕ) (before : List EventLine) (lines : List (List ℕ)) → (more : List EventLine) × ((judged_behind shape count before lines).good ≡ before ++ more)
 good_grows shape count before [] = ([], sym (append-nil before))
 good_grows shape count before (line ∷ lines) =

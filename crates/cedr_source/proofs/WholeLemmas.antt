@@ -26,7 +26,7 @@ not_closed reading shape bytes unended took = either_within took.1 where
   either_within (inl waits) = waits.within
   either_within (inr whole) = absurd (false≢true (sym unended ∙ whole.ended))
 
--- so there is less room behind each block
+-- so there is less room after each block
 pub less_room : (old new : SourceLines) (shape : Shape) (bytes part : List ℕ) (before given : List Message) → Reads old shape bytes before → Reads new shape (bytes ++ part) given
     → 0 < length part → length (bytes ++ part) ≤ FILE_LIMIT → new.room < old.room
 less_room old new shape bytes part before given reads more some within = omega (arith, reads.room, more.room, some, within, length-append bytes part)

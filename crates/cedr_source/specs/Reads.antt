@@ -10,7 +10,7 @@ use Rattle.cedr_guard.specs.Sources.{judged_lines}
 use Rattle.cedr_guard.specs.Standing.{Guards}
 use Rattle.cedr_source.specs.declared.lines.SourceLines.{SourceLines}
 
--- what may still come: nothing behind the end
+-- what may still come: nothing after the end
 abbrev pub MayStillCome : Fed → List ℕ → Type 0
 MayStillCome fed more = fed.finished ≡ true → more ≡ []
 

@@ -1,4 +1,4 @@
--- What an answer tells of a source: of the bytes that were fed, and of all bytes that begin with them.
+-- What an answer says of a source: of the bytes that were fed, and of all bytes that begin with them.
 use Rattle.std.specs.Prelude.{ℕ, ◌≡◌, ◌<◌, ◌≤◌, true, false, List, [], ◌∷◌, ◌++◌, length, Option, None, Some, Result, Ok, Err, IsErr}
 use Rattle.cedr_base.specs.declared.memory.OutOfMemory.{OutOfMemory}
 use Rattle.cedr_base.specs.declared.change.Message.{Message}
@@ -52,7 +52,7 @@ pub record IsRefused (source : SourceLines) (shape : Shape) (bytes : List ℕ) (
   pub fault : (more : List ℕ) → MayStillCome source.lines more → (judged shape (bytes ++ more)).fault ≡ Some refusal
   pub all : (more : List ℕ) → MayStillCome source.lines more → given ≡ messages_behind [] (judged shape (bytes ++ more)).good
 
--- what an answer tells where these bytes were fed and these messages were given before it
+-- what an answer says where these bytes were fed and these messages were given before it
 abbrev pub Tells : SourceStep → SourceLines → Shape → List ℕ → List Message → Type 0
 Tells (step.Message m) source shape bytes given = Reads source shape bytes (given ++ m ∷ []) × IsLegal (given ++ m ∷ [])
 Tells step.NotYet source shape bytes given = Reads source shape bytes given × Waits source shape bytes given
@@ -73,21 +73,23 @@ abbrev pub TellsLine : Option SourceStep → SourceLines → Shape → List ℕ 
 TellsLine None source shape bytes given = Reads source shape bytes given
 TellsLine (Some told) source shape bytes given = Tells told source shape bytes given
 
+-- the same for one line: a line that has no message is taken too
 abbrev pub TakesOne : Option SourceStep → ℕ → ℕ → Type 0
 TakesOne None left now = now < left
 TakesOne (Some told) left now = TakesLine told left now
 
+-- the refusal of the line of this number, for this fault
 abbrev pub refused : ℕ → LineFault → SourceStep
 refused line fault = step.Refused (record { line = line; fault = fault })
 
--- the answer for the line of this number, where it is known what it is behind the accepted ones
+-- the answer for the line of this number, by how it was judged after the accepted ones
 abbrev pub Answers : ℕ → Result (Option Message) GuardFault → Result (Option SourceStep) OutOfMemory → Type 0
 Answers number (Ok None) answer = answer ≡ Ok None
 Answers number (Ok (Some m)) answer = answer ≡ Ok (Some (step.Message m))
 Answers number (Err (guard_fault.Line fault)) answer = answer ≡ Ok (Some (refused number fault))
 Answers number (Err guard_fault.OutOfMemory) answer = IsErr answer
 
--- a line behind accepted ones: with it they are accepted, and this is its message, or it has this fault
+-- a line after accepted ones: with it they are accepted, and this is its message, or it has this fault
 abbrev pub JudgesLine : Result (Option Message) GuardFault → Guard → List EventLine → Result (List EventLine) LineFault → Type 0
 JudgesLine (Ok message) guard before now = (lines : List EventLine) × (now ≡ Ok lines) × Guards guard lines × (messages_behind [] lines ≡ messages_behind [] before ++ as_list message)
 JudgesLine (Err (guard_fault.Line fault)) guard before now = now ≡ Err fault

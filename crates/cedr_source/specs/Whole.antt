@@ -33,7 +33,7 @@ IsReadWhole (Ok done) left = IsAtEnd left
 IsReadWhole (Err fault) left = Unit {0}
 
 -- some bytes were read, at most one block more than a source may have. The answer is that for them and for what
--- is left, where that is told
+-- is left, where that is known
 pub record Answered (answer : Result (Vec Message Global) SourceFault) (shape : Shape) (rest left : Option (List ℕ)) : Type 0 where
   pub bytes : List ℕ
   pub took : Consumes rest left bytes
@@ -57,6 +57,8 @@ HasRead (Err (source_fault.Refused refusal)) shape bytes = (more : List ℕ) →
 HasRead (Err source_fault.Failed) shape bytes = Unit {0}
 HasRead (Err source_fault.OutOfMemory) shape bytes = Unit {0}
 
+-- some bytes were read, at most one block more than a source may have, and all that there are where no fault
+-- comes of them. The answer is what they gave, or their first fault
 pub record ReadBlocks (answer : Result Reading SourceFault) (shape : Shape) (rest left : Option (List ℕ)) : Type 0 where
   pub bytes : List ℕ
   pub took : Consumes rest left bytes

@@ -2,7 +2,7 @@
 //! becomes a message.
 //!
 //! `SourceLines` answers the messages of bytes that are fed to it. `specs/Reads.antt` says what it has read and
-//! given so far, and `specs/Steps.antt` what each of its answers tells of all bytes that may still come.
+//! given so far, and `specs/Steps.antt` what each of its answers says of all bytes that may still come.
 //! `read_laws` says that what was given is the front of what all bytes give.
 #![tactic(auto)]
 

@@ -15,7 +15,7 @@ fn long_line(alloc: Global) -> Result<Vec<u8>, OutOfMemory> {
     Ok(line)
 }
 
-/// What lines answer behind so many long lines and these pieces, where they are asked after each of them.
+/// What lines answer after so many long lines, and then after each of these pieces.
 fn answer_behind(alloc: Global, count: u16, pieces: &[&[u8]]) -> Result<Vec<u8>, OutOfMemory> {
     let line = long_line(alloc)?;
     let mut lines = SourceLines::new(alloc, Shape::AnyText);
@@ -40,7 +40,7 @@ fn a_source_over_the_limit_is_judged_by_its_first_bytes(rt: HostRuntime) -> Resu
     // one byte too many
     let text = answer_behind(alloc, 1024, &[b"\n"])?;
     assert_eq!(rt; text.as_slice(), b"?line 1025 fault 10".as_slice());
-    // an unfinished line that would have fault 2 if the byte behind the limit ended it
+    // an unfinished line that would have fault 2 if the byte after the limit ended it
     let text = answer_behind(alloc, 1023, &[&half, b"\n", b"=,1\n"])?;
     assert_eq!(rt;
         text.as_slice(),

@@ -121,7 +121,7 @@ impl SourceLines {
     }
 }
 
-/// Judges a line, without its line feed and the carriage return before that, behind the accepted ones, and
+/// Judges a line, without its line feed and the carriage return before that, after the accepted ones, and
 /// answers its message if it has one. An error leaves the guard as it was. O(n) in the bytes, and O(log n) in the
 /// insertions before it.
 pub fn judge_line(
@@ -133,7 +133,7 @@ pub fn judge_line(
     ensures { (before : List EventLine) → Guards guard.old before → JudgesLine result guard.new before (with_reading before (reading shape.now line.now)) }
 {
     match read_line(alloc, line, shape) {
-        Ok(Some(event)) => guard.accept(&event),
+        Ok(Some(event)) => guard.accept(event),
         Ok(None) => Ok(None),
         Err(fault) => Err(GuardFault::from(fault)),
     }

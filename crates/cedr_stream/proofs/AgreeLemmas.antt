@@ -79,6 +79,7 @@ earlier_row t s x false h is =
     let none = ltb-false x.begin (min x.end s) is in
     sym (ap {B = List Row} (λ b. cond b (record x { end = min x.end t } ∷ []) []) (le-ltb x.begin (min x.end t) (omega arith)))
 
+-- up to an earlier time, what a table is before a later one is what it is itself
 pub earlier_rows : (t s : ℕ) (xs : List Row) → t ≤ s → rows_up_to t (rows_up_to s xs) ≡ rows_up_to t xs
 earlier_rows t s [] h = refl
 earlier_rows t s (x ∷ xs) h =
@@ -97,7 +98,7 @@ agree_earlier t s xs ys h agree = record {
   };
 }
 
--- what comes behind messages leads on from their table
+-- what comes after messages leads on from their table
 leads_from : (ms more : List Message) (old new : List Row) → IsTableOf ms old → IsTableOf (ms ++ more) new → Leads old (changes_of more) new
 leads_from ms more old new before after = record {
   sums = record {
@@ -168,12 +169,15 @@ ended_before t r (x ∷ xs) lives h =
 pub agree_ended : (t : ℕ) (xs ys : List Row) (r : Row) → AgreeUpTo t xs ys → IsRow r → r.end < t → count_of r xs ≡ count_of r ys
 agree_ended t xs ys r agree is h = sym (ended_before t r xs is.lives h) ∙ (agree.same.each r ∙ ended_before t r ys is.lives h)
 
+-- a table agrees with itself up to any time
 pub agree_itself : (t : ℕ) (xs : List Row) → AgreeUpTo t xs xs
 agree_itself t xs = record { same = same_itself (rows_up_to t xs) }
 
+-- where one table agrees with another up to a time, the other agrees with it
 pub agree_back : (t : ℕ) (xs ys : List Row) → AgreeUpTo t xs ys → AgreeUpTo t ys xs
 agree_back t xs ys h = record { same = same_back (rows_up_to t xs) (rows_up_to t ys) h.same }
 
+-- two tables that agree with one between them up to a time agree up to it
 pub agree_along : (t : ℕ) (xs ys zs : List Row) → AgreeUpTo t xs ys → AgreeUpTo t ys zs → AgreeUpTo t xs zs
 agree_along t xs ys zs h k = record { same = same_along (rows_up_to t xs) (rows_up_to t ys) (rows_up_to t zs) h.same k.same }
 

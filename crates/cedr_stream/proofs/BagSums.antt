@@ -58,8 +58,10 @@ same_flat_map f xs ys h = record { each = λ r. sum_by-flat_map (one_if_same r) 
 pub same_itself : (xs : List Row) → SameRows xs xs
 same_itself xs = record { each = λ r. refl }
 
+-- where one bag is the same as another, the other is the same as it
 pub same_back : (xs ys : List Row) → SameRows xs ys → SameRows ys xs
 same_back xs ys h = record { each = λ r. sym (h.each r) }
 
+-- two bags that are the same as one between them are the same
 pub same_along : (xs ys zs : List Row) → SameRows xs ys → SameRows ys zs → SameRows xs zs
 same_along xs ys zs h k = record { each = λ r. h.each r ∙ k.each r }

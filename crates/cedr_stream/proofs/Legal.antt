@@ -13,27 +13,30 @@ use Rattle.cedr_base.proofs.Bags.{count_of-append}
 use Rattle.cedr_stream.specs.Repairs.{IsMoved, AreLegal, AllFrom, Repair, wrapped}
 use Rattle.cedr_stream.proofs.RepairLemmas.{takes-append, puts-append}
 
--- a list behind a list
+-- a legal list, and a list that is legal after it, are legal one after the other
 pub legal-append : (before xs ys : List Message) → IsLegalBehind before xs → IsLegalBehind (before ++ xs) ys → IsLegalBehind before (xs ++ ys)
 legal-append before [] ys h k = rw append-nil at k
 legal-append before (x ∷ xs) ys h k = (h.0, legal-append (before ++ x ∷ []) xs ys h.1 (rw append_assoc k))
 
+-- a legal list stays legal with one more message that may come after it
 pub legal-push : (ms : List Message) (m : Message) → IsLegal ms → MayCome ms m → IsLegal (ms ++ m ∷ [])
 legal-push ms m h k = legal-append [] ms (m ∷ []) h (k, tt)
 
--- the first messages of a legal list are legal, and the rest is legal behind them
+-- the first messages of a legal list are legal
 pub legal_first : (before xs ys : List Message) → IsLegalBehind before (xs ++ ys) → IsLegalBehind before xs
 legal_first before [] ys h = tt
 legal_first before (x ∷ xs) ys h = (h.0, legal_first (before ++ x ∷ []) xs ys h.1)
 
+-- the rest of a legal list is legal after its first messages
 pub legal_rest : (before xs ys : List Message) → IsLegalBehind before (xs ++ ys) → IsLegalBehind (before ++ xs) ys
 legal_rest before [] ys h = rw append-nil h
 legal_rest before (x ∷ xs) ys h = rw append_assoc at (legal_rest (before ++ x ∷ []) xs ys h.1)
 
--- a message of a legal list may come behind those before it
+-- a message of a legal list may come after those before it
 pub may_come_in : (xs ys : List Message) (m : Message) → IsLegal (xs ++ m ∷ ys) → MayCome xs m
 may_come_in xs ys m h = (legal_rest [] xs (m ∷ ys) h).0
 
+-- the changes of two lists, one after the other, are those of the first and then those of the second
 pub changes-append : (xs ys : List Message) → changes_of (xs ++ ys) ≡ changes_of xs ++ changes_of ys
 changes-append [] ys = refl
 changes-append (message.Change c ∷ xs) ys = ap (λ cs. c ∷ cs) (changes-append xs ys)
@@ -41,10 +44,12 @@ changes-append (message.Mark t ∷ xs) ys = changes-append xs ys
 changes-append (message.End ∷ xs) ys = changes-append xs ys
 changes-append (message.Broken ∷ xs) ys = changes-append xs ys
 
+-- the changes of the messages that bring some changes are these changes
 pub changes-wrapped : (cs : List Change) → changes_of (wrapped cs) ≡ cs
 changes-wrapped [] = refl
 changes-wrapped (c ∷ cs) = ap (λ ds. c ∷ ds) (changes-wrapped cs)
 
+-- the mark of two lists, one after the other, is the greater one of theirs
 pub mark-append : (xs ys : List Message) → mark_of (xs ++ ys) ≡ max (mark_of xs) (mark_of ys)
 mark-append [] ys = omega arith
 mark-append (message.Change c ∷ xs) ys = mark-append xs ys
@@ -52,10 +57,12 @@ mark-append (message.Mark t ∷ xs) ys = omega (arith, mark-append xs ys)
 mark-append (message.End ∷ xs) ys = mark-append xs ys
 mark-append (message.Broken ∷ xs) ys = mark-append xs ys
 
+-- messages that bring changes have no mark: theirs is 0
 pub mark-wrapped : (cs : List Change) → mark_of (wrapped cs) ≡ 0
 mark-wrapped [] = refl
 mark-wrapped (c ∷ cs) = mark-wrapped cs
 
+-- two lists, one after the other, have neither an end nor a break where each has none
 pub open-append : (xs ys : List Message) → IsOpen xs → IsOpen ys → IsOpen (xs ++ ys)
 open-append [] ys h k = k
 open-append (message.Change c ∷ xs) ys h k = open-append xs ys h k
@@ -63,11 +70,12 @@ open-append (message.Mark t ∷ xs) ys h k = open-append xs ys h k
 open-append (message.End ∷ xs) ys h k = absurd h
 open-append (message.Broken ∷ xs) ys h k = absurd h
 
+-- messages that bring changes have neither an end nor a break
 pub open-wrapped : (cs : List Change) → IsOpen (wrapped cs)
 open-wrapped [] = tt
 open-wrapped (c ∷ cs) = open-wrapped cs
 
--- a change that may follow others from a table may come behind the messages that made the table
+-- a change that may follow others from a table may come after the messages that made the table
 follows_behind : (given : List Message) (rows : List Row) (before : List Change) (c : Change) → IsTableOf given rows → MayFollow rows before c → MayFollow [] (changes_of given ++ before) c
 follows_behind given rows before (Add a) table h = h
 follows_behind given rows before (Cut a e) table h = (
@@ -76,7 +84,7 @@ follows_behind given rows before (Cut a e) table h = (
       omega (arith, count_of-append a rows (all_takes (changes_of given)), takes-append a (changes_of given) before, puts-append a (changes_of given) before)),
 )
 
--- changes that are legal from a table are legal behind the messages that made it
+-- changes that are legal from a table are legal after the messages that made it
 pub legal_behind : (given : List Message) (rows : List Row) (before cs : List Change) → IsTableOf given rows → IsOpen given → AreLegal rows before cs → AllFrom (mark_of given) cs
     → IsLegalBehind (given ++ wrapped before) (wrapped cs)
 legal_behind given rows before [] table opened h late = tt
@@ -88,11 +96,12 @@ legal_behind given rows before (c ∷ cs) table opened h late =
       subst (λ (ms : List Message). IsLegalBehind ms (wrapped cs)) (ap (λ (ms : List Message). given ++ ms) (map-append (λ c. message.Change c) before (c ∷ [])) ∙ sym (append_assoc given (wrapped before) (message.Change c ∷ []))) (legal_behind given rows (before ++ c ∷ []) cs table opened h.1 late.1),
     )
 
--- the messages that made a result, and then its repair
+-- messages that made a result, and then its repair, are legal
 pub legal_repaired : (given : List Message) (old new : List Row) (cs : List Change) → IsLegal given → IsOpen given → IsTableOf given old → Repair old new (mark_of given) cs → IsLegal (given ++ wrapped cs)
 legal_repaired given old new cs legal opened table fix =
     legal-append [] given _ legal (subst (λ (ms : List Message). IsLegalBehind ms (wrapped cs)) (append-nil given) (legal_behind given old [] cs table opened fix.legal fix.from))
 
+-- messages, and then a repair of their table, have the table that the repair leads to
 pub table_repaired : (given : List Message) (old new : List Row) (m : ℕ) (cs : List Change) → IsTableOf given old → Repair old new m cs → IsTableOf (given ++ wrapped cs) new
 table_repaired given old new m cs table fix =
     let same : changes_of (given ++ wrapped cs) ≡ changes_of given ++ cs = changes-append given _ ∙ ap (λ ds. changes_of given ++ ds) (changes-wrapped cs) in
@@ -105,7 +114,7 @@ table_repaired given old new m cs table fix =
       };
     }
 
--- a change behind the messages that made a table
+-- a change after the messages that made a table makes the table that it leads to
 pub table_moved : (ms : List Message) (c : Change) (old new : List Row) → IsTableOf ms old → IsMoved c old new → IsTableOf (ms ++ message.Change c ∷ []) new
 table_moved ms c old new table moved = record {
   sums = record {

@@ -59,6 +59,7 @@ pub count_one : (r x : Row) (b : Bool) → count_of r (cond b (x ∷ []) []) ≡
 count_one r x true = omega arith
 count_one r x false = refl
 
+-- the sum over a list of one row or none
 pub sum_one : (w : Row → ℕ) (x : Row) (b : Bool) → sum_by w (cond b (x ∷ []) []) ≡ cond b (w x) 0
 sum_one w x true = omega arith
 sum_one w x false = refl
@@ -94,6 +95,7 @@ abbrev pub applied : Change → List Row → List Row
 applied (Add a) rows = a ∷ rows
 applied (Cut a e) rows = remnant a e ++ without a rows
 
+-- the table after a change that may follow in it is the old one with the change's delta
 pub applied_moves : (c : Change) (rows : List Row) → MayFollow rows [] c → IsMoved c rows (applied c rows)
 applied_moves (Add a) rows h = record { sums = record { each = λ r. omega (arith, count_of-append r (a ∷ rows) [], count_of-append r rows (a ∷ []), count_of-append r (a ∷ []) rows) } }
 applied_moves (Cut a e) rows h = record { sums = record { each = λ r. omega (arith, count_of-append r (remnant a e ++ without a rows) (a ∷ []), count_of-append r (remnant a e) (without a rows), count_of-append r rows (remnant a e), sum_by-without (one_if_same r) a rows (omega (arith, h.1))) } }

@@ -19,9 +19,11 @@ abbrev pub AllChanges : List Change → Type 0
 AllChanges [] = Unit {0}
 AllChanges (c ∷ cs) = IsChange c × AllChanges cs
 
+-- the copies of a row that two lists of changes take are those of the first and those of the second
 pub takes-append : (r : Row) (cs ds : List Change) → count_of r (all_takes (cs ++ ds)) ≡ count_of r (all_takes cs) + count_of r (all_takes ds)
 takes-append r cs ds = ap (count_of r) (flat_map-append takes cs ds) ∙ count_of-append r (all_takes cs) (all_takes ds)
 
+-- the copies of a row that two lists of changes put are those of the first and those of the second
 pub puts-append : (r : Row) (cs ds : List Change) → count_of r (all_puts (cs ++ ds)) ≡ count_of r (all_puts cs) + count_of r (all_puts ds)
 puts-append r cs ds = ap (count_of r) (flat_map-append puts cs ds) ∙ count_of-append r (all_puts cs) (all_puts ds)
 
@@ -56,28 +58,32 @@ repair old new t cs are from sums there apart =
       between = record { least = λ before after e r. (at before after e r).0; most = λ before after e r. (at before after e r).1 };
     }
 
+-- two lists, one after the other, are changes throughout where each of them is
 pub AllChanges-append : (cs ds : List Change) → AllChanges cs → AllChanges ds → AllChanges (cs ++ ds)
 AllChanges-append [] ds h k = k
 AllChanges-append (c ∷ cs) ds h k = (h.0, AllChanges-append cs ds h.1 k)
 
+-- no change of two lists, one after the other, is seen before a time where that holds of each list
 pub AllFrom-append : (t : ℕ) (cs ds : List Change) → AllFrom t cs → AllFrom t ds → AllFrom t (cs ++ ds)
 AllFrom-append t [] ds h k = k
 AllFrom-append t (c ∷ cs) ds h k = (h.0, AllFrom-append t cs ds h.1 k)
 
--- additions put their rows, and take none
+-- additions take no row
 pub takes_adds : (rows : List Row) → all_takes (map (λ r. Add r) rows) ≡ []
 takes_adds [] = refl
 takes_adds (r ∷ rows) = takes_adds rows
 
+-- additions put their rows
 pub puts_adds : (rows : List Row) → all_puts (map (λ r. Add r) rows) ≡ rows
 puts_adds [] = refl
 puts_adds (r ∷ rows) = ap (λ xs. r ∷ xs) (puts_adds rows)
 
--- the deltas of changes that are made one list at a time
+-- where changes are made one list at a time, the copies of a row that they take are the sum over the lists
 pub takes-flat_map : {X : Type 0} (r : Row) (f : X → List Change) (xs : List X) → count_of r (all_takes (flat_map f xs)) ≡ sum_by (λ x. count_of r (all_takes (f x))) xs
 takes-flat_map r f [] = refl
 takes-flat_map r f (x ∷ xs) = omega (arith, takes-append r (f x) (flat_map f xs), takes-flat_map r f xs, sum_by-cons (λ x. count_of r (all_takes (f x))) x xs)
 
+-- and so are the copies of it that they put
 pub puts-flat_map : {X : Type 0} (r : Row) (f : X → List Change) (xs : List X) → count_of r (all_puts (flat_map f xs)) ≡ sum_by (λ x. count_of r (all_puts (f x))) xs
 puts-flat_map r f [] = refl
 puts-flat_map r f (x ∷ xs) = omega (arith, puts-append r (f x) (flat_map f xs), puts-flat_map r f xs, sum_by-cons (λ x. count_of r (all_puts (f x))) x xs)

@@ -8,6 +8,7 @@ use Rattle.cedr_base.specs.Rows.{SameRows}
 abbrev pub row_up_to : ℕ → Row → List Row
 row_up_to t r = if nat_lt r.begin (min r.end t) then record r { end = min r.end t } ∷ [] else []
 
+-- what a table is before a time: what each of its rows is before it
 abbrev pub rows_up_to : ℕ → List Row → List Row
 rows_up_to t rows = flat_map (row_up_to t) rows
 

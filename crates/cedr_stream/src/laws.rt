@@ -9,8 +9,8 @@ ghost use Rattle.cedr_base.specs.Messages.{changes_of, mark_of, IsOpen, IsTableO
 ghost use Rattle.cedr_stream.specs.Repairs.{IsMoved, Repair, wrapped};
 ghost use Rattle.cedr_stream.specs.Agreeing.{AgreeUpTo};
 
-/// The law of legal lists, message by message: what may come behind a legal list goes on with it. A change
-/// that comes may follow in the list's table, and the longer list has the table that the change makes of it.
+/// The law of legal lists, message by message: a legal list stays legal with a message that may come after it. A
+/// change that comes may follow in the list's table, and the longer list has the table that the change makes of it.
 /// Other messages leave the table as it is. The mark of the longer list is the greater one. The table has only rows.
 pub fn legal_lists()
     ensures goes_on { (ms : List Message) (m : Message) → IsLegal ms → MayCome ms m → IsLegal (ms ++ m ∷ []) }
@@ -21,7 +21,7 @@ pub fn legal_lists()
     ensures rows { (ms : List Message) (rows : List Row) → IsLegal ms → IsTableOf ms rows → AreRows rows }
 {}
 
-/// The law of repairs: behind a legal list whose table is the old one, the changes of a repair from the list's
+/// The law of repairs: after a legal list whose table is the old one, the changes of a repair from the list's
 /// mark on are legal, and the table is then the new one.
 pub fn repairs()
     ensures legal { (given : List Message) (old new : List Row) (cs : List Change) → IsLegal given → IsOpen given → IsTableOf given old → Repair old new (mark_of given) cs → IsLegal (given ++ wrapped cs) }

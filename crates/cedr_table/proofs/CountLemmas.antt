@@ -57,9 +57,16 @@ still_there row w old new h k u q e = there_at w (lookup (is_at (row_cmp q)) old
 pub one_more : (n : ℕ) → Some (n + 1) ≢ Some 0
 one_more n e = let same : n + 1 ≡ 0 = ap (λ o. unwrap_or o 0) e in absurd (omega arith)
 
--- of more copies than one, some stay
-pub some_stay : (n : ℕ) → 0 < n → n ≢ 1 → Some (n - 1) ≢ Some 0
-some_stay n many h e = let none : n - 1 ≡ 0 = ap (λ o. unwrap_or o 0) e in let one : n ≡ 1 = omega arith in h one
+-- what a map that keeps no row without a copy has of a row is something
+pub there_before : (row : Row) (n : ℕ) (es : List (Row × ℕ)) → EachIsThere es → lookup (is_at (row_cmp row)) es ≡ Some n → 0 < n
+there_before row zero es h e = absurd (h row e)
+there_before row (suc n) es h e = omega arith
+
+-- where one of two or more goes some stay, and one alone stays
+pub some_left : (was left : ℕ) → 0 < was → (1 < was → left + 1 ≡ was) → (was < 2 → left ≡ was) → Some left ≢ Some 0
+some_left zero left some lowered others e = absurd (omega (arith, some))
+some_left (suc zero) left some lowered others e = let same = others (omega arith) in let none : left ≡ 0 = ap (λ o. unwrap_or o 0) e in absurd (omega arith)
+some_left (suc (suc n)) left some lowered others e = let less = lowered (omega arith) in let none : left ≡ 0 = ap (λ o. unwrap_or o 0) e in absurd (omega arith)
 
 beyond : (x : Row) (es : List (Row × ℕ)) → AllByRecursion (λ y. row_cmp x y ≡ Less) (keys_of es) → copies es x ≡ 0
 beyond x [] h = refl
@@ -80,49 +87,9 @@ count_spread (e ∷ es) h r =
     ∙ (seen_at r e es (same_row r e.0) refl (λ same. subst (λ (x : Row). copies es x ≡ 0) same (beyond e.0 es h.0)) (count_spread es h.1 r)
     ∙ ap (λ b. unwrap_or (cond b (Some e.1) (lookup (is_at (row_cmp r)) es)) 0) (same_row_is r e.0)))
 
--- bags are the same where their maps count the same
-pub same_from_counts : (old new : List (Row × ℕ)) (outs ins : List Row) → IsStrictlySortedBy row_cmp (keys_of old) → IsStrictlySortedBy row_cmp (keys_of new)
-    → ((q : Row) → copies new q + count_of q outs ≡ copies old q + count_of q ins) → SameRows (spread new ++ outs) (spread old ++ ins)
-same_from_counts old new outs ins o n h = record { each = λ r. omega (arith, count_of-append r (spread new) outs, count_of-append r (spread old) ins, count_spread new n r, count_spread old o r, h r) }
-
--- a cut lacks its row where the map counts none
-pub lacks_is : (es : List (Row × ℕ)) (change : Change) (row : Row) (end : ℕ) → IsStrictlySortedBy row_cmp (keys_of es) → change ≡ Cut row end → LacksRow (spread es) change → copies es row ≡ 0
-lacks_is es change row end o is lacks = sym (count_spread es o row) ∙ subst (LacksRow (spread es)) is lacks
-
--- a map that counts none of a row lacks what a cut takes
-pub is_lacking : (es : List (Row × ℕ)) (change : Change) (row : Row) (end : ℕ) → IsStrictlySortedBy row_cmp (keys_of es) → change ≡ Cut row end → copies es row ≡ 0 → LacksRow (spread es) change
-is_lacking es change row end o is none = subst (LacksRow (spread es)) (sym is) (count_spread es o row ∙ none)
-
 length_is : (xs : List Row) → sum_by (λ _. 1) xs ≡ length xs
 length_is [] = refl
 length_is (x ∷ xs) = omega (arith, sum_by-cons (λ (_ : Row). 1) x xs, length_is xs)
-
--- a map that went through a change is counted, where its length did too
-pub counted_after : (c : Change) (old new : List (Row × ℕ)) (len len' : ℕ) → IsCounted old len → IsStrictlySortedBy row_cmp (keys_of new) → EachIsThere new → SameRows (spread new ++ takes c) (spread old ++ puts c)
-    → len' + length (takes c) ≡ len + length (puts c) → IsCounted new len'
-counted_after c old new len len' h ordered there moved sums = record {
-  ordered = ordered;
-  there = there;
-  len_is = let e = h.len_is in omega (arith, sums, sum_by-moved (λ _. 1) c (spread old) (spread new) moved, length_is (spread old), length_is (spread new), length_is (takes c), length_is (puts c));
-}
-
--- the length after a cut that leaves nothing
-pub counted_gone : (change : Change) (row : Row) (end : ℕ) (old new : List (Row × ℕ)) (len : ℕ) → IsCounted old len → IsStrictlySortedBy row_cmp (keys_of new) → EachIsThere new → SameRows (spread new ++ takes change) (spread old ++ puts change)
-    → change ≡ Cut row end → end ≤ row.begin → IsCounted new (len - 1)
-counted_gone change row end old new len h ordered there moved is gone =
-    let sums = sum_by-moved (λ _. 1) change (spread old) (spread new) moved in
-    let out : length (takes change) ≡ 1 = ap (λ (d : Change). length (takes d)) is in
-    let none : length (puts change) ≡ 0 = ap (λ (d : Change). length (puts d)) is ∙ ap (λ (rows : List Row). length rows) (remnant_none row end gone) in
-    let e = h.len_is in
-    counted_after change old new len (len - 1) h ordered there moved (omega (arith, sums, length_is (spread old), length_is (takes change), length_is (puts change), out, none))
-
--- the length after a cut that leaves something
-pub counted_cut : (change : Change) (row : Row) (end : ℕ) (old new : List (Row × ℕ)) (len : ℕ) → IsCounted old len → IsStrictlySortedBy row_cmp (keys_of new) → EachIsThere new → SameRows (spread new ++ takes change) (spread old ++ puts change)
-    → change ≡ Cut row end → row.begin < end → IsCounted new len
-counted_cut change row end old new len h ordered there moved is lives =
-    let out : length (takes change) ≡ 1 = ap (λ (d : Change). length (takes d)) is in
-    let one : length (puts change) ≡ 1 = ap (λ (d : Change). length (puts d)) is ∙ ap (λ (rows : List Row). length rows) (remnant_some row end lives) in
-    counted_after change old new len len h ordered there moved (omega (arith, out, one))
 
 taken_all_at : (row q : Row) (old new : List (Row × ℕ)) (b : Bool) → same_row q row ≡ b → lookup (is_at (row_cmp q)) new ≡ cond b None (lookup (is_at (row_cmp q)) old) → copies new q + copies old row * cond b 1 0 ≡ copies old q
 taken_all_at row q old new true h e = let none : copies new q ≡ 0 = ap (λ o. unwrap_or o 0) e in omega (arith, none, ap (copies old) (same_row_exact q row h))
@@ -141,6 +108,7 @@ pub inserted_is : (row : Row) (old new : List (Row × ℕ)) → IsStrictlySorted
     → ((q : Row) → copies new q ≡ copies old q + one_if_same q row) → SameRows (spread new) (row ∷ spread old)
 inserted_is row old new o n h = record { each = λ q. omega (arith, count_of-cons q row (spread old), count_spread new n q, count_spread old o q, h q) }
 
+-- with one copy more, a map that is in order and keeps no row without a copy counts one row more
 pub counted_inserted : (row : Row) (old new : List (Row × ℕ)) (len : ℕ) → IsCounted old len → IsStrictlySortedBy row_cmp (keys_of new) → EachIsThere new → SameRows (spread new) (row ∷ spread old) → IsCounted new (len + 1)
 counted_inserted row old new len h ordered there same = record {
   ordered = ordered;
@@ -153,13 +121,16 @@ pub removed_is : (row : Row) (n : ℕ) (old new : List (Row × ℕ)) → IsStric
     → ((q : Row) → copies new q + n * one_if_same q row ≡ copies old q) → SameRows (replicate n row ++ spread new) (spread old)
 removed_is row n old new o k h = record { each = λ q. omega (arith, count_of-append q (replicate n row) (spread new), sum_by-replicate (one_if_same q) n row, count_spread new k q, count_spread old o q, h q) }
 
+-- copies of a row in front of a list make it longer by their number
 pub replicated : (n : ℕ) (row : Row) (rows : List Row) → length (replicate n row ++ rows) ≡ n + length rows
 replicated zero row rows = omega arith
 replicated (suc n) row rows = omega (arith, replicated n row rows)
 
+-- what is left of a counted bag and the copies that were taken out are together as many as it had
 pub removed_length : (row : Row) (n len : ℕ) (old new : List (Row × ℕ)) → IsCounted old len → SameRows (replicate n row ++ spread new) (spread old) → length (spread new) + n ≡ len
 removed_length row n len old new h same = let e = h.len_is in omega (arith, replicated n row (spread new), same_length (replicate n row ++ spread new) (spread old) same)
 
+-- without some copies, a map that is in order and keeps no row without a copy counts that many rows less
 pub counted_removed : (row : Row) (n len : ℕ) (old new : List (Row × ℕ)) → IsCounted old len → IsStrictlySortedBy row_cmp (keys_of new) → EachIsThere new → SameRows (replicate n row ++ spread new) (spread old) → IsCounted new (len - n)
 counted_removed row n len old new h ordered there same = record {
   ordered = ordered;
@@ -172,6 +143,7 @@ pub taken_is : (row : Row) (old new : List (Row × ℕ)) → IsStrictlySortedBy 
     → ((q : Row) → copies new q + one_if_same q row ≡ copies old q) → SameRows (row ∷ spread new) (spread old)
 taken_is row old new o n h = record { each = λ q. omega (arith, count_of-cons q row (spread new), count_spread old o q, count_spread new n q, h q) }
 
+-- with one copy less, a map that is in order and keeps no row without a copy counts one row less
 pub counted_taken : (row : Row) (len : ℕ) (old new : List (Row × ℕ)) → IsCounted old len → IsStrictlySortedBy row_cmp (keys_of new) → EachIsThere new → SameRows (row ∷ spread new) (spread old) → IsCounted new (len - 1)
 counted_taken row len old new h ordered there same = record {
   ordered = ordered;
@@ -179,5 +151,18 @@ counted_taken row len old new h ordered there same = record {
   len_is = let e = h.len_is in omega (arith, same_length (row ∷ spread new) (spread old) same);
 }
 
+-- a counted bag of which a copy was taken out had one row at least
 pub some_length : (row : Row) (len : ℕ) (old new : List (Row × ℕ)) → IsCounted old len → SameRows (row ∷ spread new) (spread old) → 1 ≤ len
 some_length row len old new h same = let e = h.len_is in omega (arith, same_length (row ∷ spread new) (spread old) same)
+
+one_at_most : (b : Bool) → cond {A = ℕ} b 1 0 ≤ 1
+one_at_most true = omega arith
+one_at_most false = omega arith
+
+count_at_most : (r : Row) (rows : List Row) → count_of r rows ≤ length rows
+count_at_most r [] = omega arith
+count_at_most r (x ∷ xs) = omega (arith, count_of-cons r x xs, one_at_most (same_row r x), count_at_most r xs)
+
+-- of no row there are more copies than rows in the bag
+pub copies_at_most : (row : Row) (len : ℕ) (es : List (Row × ℕ)) → IsCounted es len → copies es row ≤ len
+copies_at_most row len es h = let e = h.len_is in omega (arith, count_spread es h.ordered row, count_at_most row (spread es))

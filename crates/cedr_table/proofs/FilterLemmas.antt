@@ -52,6 +52,7 @@ not_cond : (b : Bool) (n : ℕ) → cond (not b) n 0 ≡ cond b 0 n
 not_cond true n = refl
 not_cond false n = refl
 
+-- without the rows that pass, a bag has no copy of a row that does, and all copies of any other row
 pub count-rest : (r : Row) (p : Row → Bool) (rows : List Row) → count_of r (filter (λ x. not (p x)) rows) ≡ cond (p r) 0 (count_of r rows)
 count-rest r p rows = count-filter r (λ x. not (p x)) rows ∙ not_cond (p r) (count_of r rows)
 
@@ -72,9 +73,11 @@ none_of_these goes row r n passes fails =
     let none = other_count goes r row (same_row r row) refl passes fails in
     omega (arith, sum_by-replicate (one_if_same r) n row, ap (λ k. n * k) none)
 
+-- a bag has the same rows as itself among those that pass
 pub among_itself : (p : Row → Bool) (xs : List Row) → SameAmong p xs xs
 among_itself p xs = record { each = λ r h. refl }
 
+-- two bags that have the same rows as one between them, among those that pass, have the same ones there
 pub among_along : (p : Row → Bool) (xs ys zs : List Row) → SameAmong p xs ys → SameAmong p ys zs → SameAmong p xs zs
 among_along p xs ys zs h k = record { each = λ r passes. h.each r passes ∙ k.each r passes }
 

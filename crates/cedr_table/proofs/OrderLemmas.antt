@@ -56,7 +56,7 @@ first_there_at e (suc n) es is there = omega (arith, count_of-cons e.0 e.0 (repl
 first_there : (e : Row × ℕ) (es : List (Row × ℕ)) → EachIsThere (e ∷ es) → 0 < count_of e.0 (spread (e ∷ es))
 first_there e es there = first_there_at e e.1 es refl there
 
--- what is least stands behind no row that is there
+-- what is least stands after no row that is there
 least_there : (x r : Row) (rows : List Row) → IsLeast x rows → 0 < count_of r rows → is_le (row_cmp x r) ≡ true
 least_there x r [] h there = absurd (omega arith)
 least_there x r (y ∷ ys) h there = elim (cases_lt 0 (count_of r ys)) [

@@ -38,7 +38,7 @@ abbrev pub LacksRow : List Row → Change → Type 0
 LacksRow rows (Add r) = ⊥
 LacksRow rows (Cut r e) = count_of r rows ≡ 0
 
--- a row of a bag stands behind no other one in canonical order
+-- a row of a bag stands after no other one in canonical order
 pub record IsFirst (row : Row) (rows : List Row) : Type 0 where
   pub there : 0 < count_of row rows
   pub least : (r : Row) → 0 < count_of r rows → is_le (row_cmp row r) ≡ true

@@ -26,9 +26,11 @@ pub record Meaning : Type 0 where
   pub echoes : Bool
   pub stateless : Bool
 
+-- the table of a port, and an empty one where there is no such port
 abbrev pub table_at : Tables → ℕ → List Row
 table_at tables port = slice_index_or tables port []
 
+-- the mark of a port, and 0 where there is no such port
 abbrev pub mark_at : List ℕ → ℕ → ℕ
 mark_at marks port = slice_index marks port
 

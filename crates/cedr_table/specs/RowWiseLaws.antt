@@ -7,6 +7,8 @@ use Rattle.cedr_table.specs.OperatorLaws.{OperatorLaws}
 use Rattle.cedr_table.specs.PortLaws.{rise_length, rise_at, same_length, same_at, time_at}
 use Rattle.cedr_table.specs.RowWise.{row_wise, StandsOnOne}
 
+-- the laws hold of an operator each of whose rows makes its own rows of the result, where its guarantee never
+-- falls while the mark rises and isn't above FOREVER
 pub row_wise_laws : (in_range : Type 0) (image : Row → List Row) (guarantee : ℕ → ℕ) → (in_range → (mark higher : ℕ) → mark ≤ higher → guarantee mark ≤ guarantee higher) → (in_range → (mark : ℕ) → mark ≤ FOREVER → guarantee mark ≤ FOREVER)
     → OperatorLaws (row_wise image guarantee) (StandsOnOne in_range)
 row_wise_laws in_range image guarantee rises is_time = record {

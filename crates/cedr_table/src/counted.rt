@@ -1,13 +1,10 @@
-ghost use Rattle.std.specs.Prelude.{◌≡◌, ◌+◌, ◌*◌, ◌<◌, ◌++◌, ◌↔◌, [], OnOk, OnErr, IfOk, IfSome, IfNone, IsErrOf, replicate};
+ghost use Rattle.std.specs.Prelude.{◌≡◌, ◌+◌, ◌*◌, ◌^◌, ◌<◌, ◌++◌, [], OnOk, OnErr, IfOk, IfSome, IfNone, nat_lt, replicate};
 ghost use Rattle.std.specs.BTreeMap.{IsOrdered};
 ghost use Rattle.cedr_base.specs.declared.row.Row.{Row};
-ghost use Rattle.cedr_base.specs.Rows.{row_cmp, one_if_same, count_of, SameRows};
-ghost use Rattle.cedr_base.specs.Changes.{remnant, puts, takes};
-ghost use Rattle.cedr_table.specs.Counted.{copies, spread, EachIsThere, LacksRow, IsFirst};
-ghost use Rattle.cedr_table.specs.declared.fault.TableFault.TheVariants.{NoSuchRow};
+ghost use Rattle.cedr_base.specs.Rows.{row_cmp, one_if_same};
+ghost use Rattle.cedr_table.specs.Counted.{copies, spread, EachIsThere, IsFirst};
 
-use crate::fault::TableFault;
-use cedr_base::{Change, OutOfMemory, Row, Time};
+use cedr_base::{OutOfMemory, Row};
 use std::alloc::Global;
 use std::collections::BTreeMap;
 
@@ -18,91 +15,64 @@ pub(crate) fn copies_in(map: &BTreeMap<Row, usize>, row: &Row) -> usize
     map.get(row).copied().unwrap_or(0)
 }
 
-/// Adds a copy of a row. A row with as many copies as a `usize` counts takes no more.
+/// Adds a copy of a row. One search.
 pub(crate) fn add_one(map: &mut BTreeMap<Row, usize>, row: Row) -> Result<(), OutOfMemory>
     requires ordered { IsOrdered row_cmp map.old }
     requires there { EachIsThere map.old.entries }
+    requires fits { copies map.old.entries row + 1 < 2 ^ 64 }
     ensures ok { OnOk result ((q : Row) → copies map.new.entries q ≡ copies map.old.entries q + one_if_same q row) }
     ensures err { OnErr result (map.new.entries ≡ map.old.entries) }
     ensures ordered { IsOrdered row_cmp map.new }
     ensures there { EachIsThere map.new.entries }
 {
-    let count = copies_in(map, &row);
-    if count == usize::MAX {
-        return Err(OutOfMemory);
-    }
-    map.insert(row, count + 1)?;
+    let count = map.entry(row)?.or_insert(0);
+    *count += 1;
     Ok(())
 }
 
-/// Takes a copy of a row away.
-pub(crate) fn take_one(map: &mut BTreeMap<Row, usize>, row: &Row)
-    requires a_copy { 0 < copies map.old.entries row.now }
+/// Takes a copy of a row away where there are two or more, and says how many there were. One search.
+fn lower(map: &mut BTreeMap<Row, usize>, row: &Row) -> usize
     requires there { EachIsThere map.old.entries }
-    ensures counts { (q : Row) → copies map.new.entries q + one_if_same q row.now ≡ copies map.old.entries q }
+    ensures count { result ≡ copies map.old.entries row.now }
+    ensures lowered { 1 < result → (q : Row) → copies map.new.entries q + one_if_same q row.now ≡ copies map.old.entries q }
+    ensures others { result < 2 → map.new.entries ≡ map.old.entries }
     ensures ordered { IsOrdered row_cmp map.new }
     ensures there { EachIsThere map.new.entries }
 {
-    let count = copies_in(map, row);
+    match map.get_mut(row) {
+        Some(count) => lower_count(count),
+        None => 0,
+    }
+}
+
+/// Takes one from a number above one, and says what it was.
+fn lower_count(count: &mut usize) -> usize
+    ensures was { result ≡ count.old }
+    ensures lowered { 1 < count.old → count.new + 1 ≡ count.old }
+    ensures others { count.old < 2 → count.new ≡ count.old }
+{
+    let was = *count;
+    if was > 1 {
+        *count = was - 1;
+    }
+    was
+}
+
+/// Takes a copy of a row away, and says whether there was one. One search, and one more where it was the last copy.
+pub(crate) fn take_one(map: &mut BTreeMap<Row, usize>, row: &Row) -> bool
+    requires there { EachIsThere map.old.entries }
+    ensures told { result ≡ nat_lt 0 (copies map.old.entries row.now) }
+    ensures counts { 0 < copies map.old.entries row.now → (q : Row) → copies map.new.entries q + one_if_same q row.now ≡ copies map.old.entries q }
+    ensures missing { copies map.old.entries row.now ≡ 0 → map.new.entries ≡ map.old.entries }
+    ensures ordered { IsOrdered row_cmp map.new }
+    ensures there { EachIsThere map.new.entries }
+{
+    let count = lower(map, row);
     if count == 1 {
         map.remove(row);
-    } else if let Some(left) = map.get_mut(row) {
-        *left = count - 1;
+        return true;
     }
-}
-
-/// Adds what a cut leaves of a row.
-fn add_remnant(
-    alloc: Global,
-    map: &mut BTreeMap<Row, usize>,
-    row: &Row,
-    end: Time,
-) -> Result<(), OutOfMemory>
-    requires ordered { IsOrdered row_cmp map.old }
-    requires there { EachIsThere map.old.entries }
-    ensures ok { OnOk result ((q : Row) → copies map.new.entries q ≡ copies map.old.entries q + count_of q (remnant row.now end)) }
-    ensures err { OnErr result (map.new.entries ≡ map.old.entries) }
-    ensures ordered { IsOrdered row_cmp map.new }
-    ensures there { EachIsThere map.new.entries }
-{
-    if row.begin >= end {
-        return Ok(());
-    }
-    let mut shorter = row.copy(alloc)?;
-    shorter.end = end;
-    add_one(map, shorter)?;
-    Ok(())
-}
-
-/// Applies a change. A refusal changes nothing, since all that may be refused comes before a row is taken.
-pub(crate) fn change_map(
-    alloc: Global,
-    map: &mut BTreeMap<Row, usize>,
-    change: &Change,
-) -> Result<(), TableFault>
-    requires ordered { IsOrdered row_cmp map.old }
-    requires there { EachIsThere map.old.entries }
-    ensures ok { OnOk result (SameRows (spread map.new.entries ++ takes change.now) (spread map.old.entries ++ puts change.now)) }
-    ensures no_such_row { IsErrOf result NoSuchRow ↔ LacksRow (spread map.old.entries) change.now }
-    ensures err { OnErr result (map.new.entries ≡ map.old.entries) }
-    ensures ordered { IsOrdered row_cmp map.new }
-    ensures there { EachIsThere map.new.entries }
-{
-    match change {
-        Change::Add(row) => {
-            let row = row.copy(alloc)?;
-            add_one(map, row)?;
-            Ok(())
-        }
-        Change::Cut(row, end) => {
-            if copies_in(map, row) == 0 {
-                return Err(TableFault::NoSuchRow);
-            }
-            add_remnant(alloc, map, row, *end)?;
-            take_one(map, row);
-            Ok(())
-        }
-    }
+    count > 0
 }
 
 /// Appends this many copies of a row.

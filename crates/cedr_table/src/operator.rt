@@ -33,14 +33,14 @@ pub trait Operator {
         &mut self,
         alloc: Global,
         port: usize,
-        change: &Change,
+        change: Change,
         out: &mut Vec<Change>,
     ) -> Result<(), OutOfMemory>
-        requires { (tables : Tables) × (marks : List ℕ) × stands self.old tables marks × CanTake tables marks port change.now }
-        ensures stands { OnOk result ((tables : Tables) (marks : List ℕ) (after : List Row) → stands self.old tables marks → CanTake tables marks port change.now → IsMoved change.now (table_at tables port) after → stands self.new (with_table tables port after) marks) }
-        ensures repairs { OnOk result ((tables : Tables) (marks : List ℕ) (after : List Row) → stands self.old tables marks → CanTake tables marks port change.now → IsMoved change.now (table_at tables port) after → Gains ((meaning self.old).result tables) ((meaning self.old).result (with_table tables port after)) ((meaning self.old).bound tables marks) out.old.items out.new.items) }
+        requires { (tables : Tables) × (marks : List ℕ) × stands self.old tables marks × CanTake tables marks port change }
+        ensures stands { OnOk result ((tables : Tables) (marks : List ℕ) (after : List Row) → stands self.old tables marks → CanTake tables marks port change → IsMoved change (table_at tables port) after → stands self.new (with_table tables port after) marks) }
+        ensures repairs { OnOk result ((tables : Tables) (marks : List ℕ) (after : List Row) → stands self.old tables marks → CanTake tables marks port change → IsMoved change (table_at tables port) after → Gains ((meaning self.old).result tables) ((meaning self.old).result (with_table tables port after)) ((meaning self.old).bound tables marks) out.old.items out.new.items) }
         ensures meaning { meaning self.new ≡ meaning self.old }
-        ensures echoes { OnOk result ((meaning self.old).echoes ≡ true → out.new.items ≡ out.old.items ++ change.now ∷ []) }
+        ensures echoes { OnOk result ((meaning self.old).echoes ≡ true → out.new.items ≡ out.old.items ++ change ∷ []) }
         ensures stateless { OnOk result ((meaning self.old).stateless ≡ true → self.new ≡ self.old) }
         ensures err { OnErr result (out.new.items ≡ out.old.items) };
 

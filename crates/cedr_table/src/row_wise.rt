@@ -39,8 +39,8 @@ pub trait RowWise: Drop {
         ensures { result ≡ life_of self.now begin end };
 
     /// The payload that is made of a row's payload.
-    fn payload(&self, alloc: Global, payload: &Payload) -> Result<Option<Payload>, OutOfMemory>
-        ensures { IfOk result (λ made. made ≡ payload_of self.now payload.now) };
+    fn payload(&self, alloc: Global, payload: Payload) -> Result<Option<Payload>, OutOfMemory>
+        ensures { IfOk result (λ made. made ≡ payload_of self.now payload) };
 
     /// The guarantee that may be handed on at a mark.
     fn guarantee(&self, mark: Time) -> Time
@@ -151,10 +151,10 @@ fn replace_made<R: RowWise>(
     op: &R,
     old: Life,
     new: Life,
-    payload: &Payload,
+    payload: Payload,
     out: &mut Vec<Change>,
 ) -> Result<(), OutOfMemory>
-    ensures ok { OnOk result (out.new.items ≡ out.old.items ++ replaced (R.payload_of op.now payload.now) old new) }
+    ensures ok { OnOk result (out.new.items ≡ out.old.items ++ replaced (R.payload_of op.now payload) old new) }
     ensures err { OnErr result (take (length out.old.items) out.new.items ≡ out.old.items) }
 {
     if old == new {
@@ -187,12 +187,12 @@ fn life_after<R: RowWise>(op: &R, row: &Row, old: Life, end: Time) -> Life
 fn answer<R: RowWise>(
     alloc: Global,
     op: &R,
-    change: &Change,
+    change: Change,
     out: &mut Vec<Change>,
 ) -> Result<(), OutOfMemory>
     requires range { R.in_range op.now }
-    requires change { IsChange change.now }
-    ensures ok { OnOk result (out.new.items ≡ out.old.items ++ answer_to (R.life_of op.now) (R.payload_of op.now) change.now) }
+    requires change { IsChange change }
+    ensures ok { OnOk result (out.new.items ≡ out.old.items ++ answer_to (R.life_of op.now) (R.payload_of op.now) change) }
     ensures err { OnErr result (take (length out.old.items) out.new.items ≡ out.old.items) }
 {
     match change {
@@ -202,12 +202,12 @@ fn answer<R: RowWise>(
                 begin: new.begin,
                 end: new.begin,
             };
-            replace_made(alloc, op, old, new, &row.payload, out)
+            replace_made(alloc, op, old, new, row.payload, out)
         }
         Change::Cut(row, end) => {
             let old = op.life(row.begin, row.end);
-            let new = life_after(op, row, old, *end);
-            replace_made(alloc, op, old, new, &row.payload, out)
+            let new = life_after(op, &row, old, end);
+            replace_made(alloc, op, old, new, row.payload, out)
         }
     }
 }
@@ -231,7 +231,7 @@ impl<R: RowWise> Operator for R {
         &mut self,
         alloc: Global,
         _port: usize,
-        change: &Change,
+        change: Change,
         out: &mut Vec<Change>,
     ) -> Result<(), OutOfMemory> {
         let before = out.len();

@@ -2,13 +2,11 @@ ghost use Rattle.std.specs.Prelude.{◌≡◌, ◌<◌, ◌++◌, ◌∷◌, [],
 ghost use Rattle.std.specs.List.{filter};
 ghost use Rattle.std.specs.BTreeMap.Range.{IsLeBy, IsLtBy, range_contains};
 ghost use Rattle.cedr_base.specs.Rows.{row_cmp, count_of, in_order, SameRows};
-ghost use Rattle.cedr_base.specs.Changes.{puts, takes};
+ghost use Rattle.cedr_base.specs.Changes.{puts, takes, remnant};
 ghost use Rattle.cedr_table.specs.Counted.{LacksRow, IsFirst, IsTakenOut, ends_after, spread, AreThere};
 ghost use Rattle.cedr_table.specs.declared.fault.TableFault.TheVariants.{NoSuchRow};
 
-use crate::counted::{
-    add_one, all_rows, change_map, copies_in, first_row, pop_first_row, take_all, take_one,
-};
+use crate::counted::{add_one, all_rows, copies_in, first_row, pop_first_row, take_all, take_one};
 use crate::fault::TableFault;
 use cedr_base::{Change, OutOfMemory, Row, Time};
 use std::alloc::Global;
@@ -51,27 +49,60 @@ impl Table {
         }
     }
 
-    /// Applies a change: an insertion puts a copy of its row, and a retraction takes a copy of its row and
-    /// puts what is left of it. A refusal changes nothing, and to find that a row isn't there takes no
-    /// memory. O(log n) comparisons in the different rows.
-    pub fn apply(&mut self, change: &Change) -> Result<(), TableFault>
-        ensures ok { OnOk result (SameRows (self.new ++ takes change.now) (self.old ++ puts change.now)) }
-        ensures no_such_row { IsErrOf result NoSuchRow ↔ LacksRow self.old change.now }
+    /// Applies a change: an insertion puts its row, and a retraction takes a copy of its row and puts what is left of
+    /// it. A refusal changes nothing, and to find that a row isn't there takes no memory. O(log n) comparisons in the
+    /// different rows.
+    pub fn apply(&mut self, change: Change) -> Result<(), TableFault>
+        ensures ok { OnOk result (SameRows (self.new ++ takes change) (self.old ++ puts change)) }
+        ensures no_such_row { IsErrOf result NoSuchRow ↔ LacksRow self.old change }
         ensures err { OnErr result (self.new ≡ self.old) }
     {
-        if self.len == usize::MAX && matches!(change, Change::Add(_)) {
-            return Err(TableFault::OutOfMemory);
-        }
-        change_map(self.alloc, &mut self.rows, change)?;
         match change {
-            Change::Add(_) => self.len += 1,
-            Change::Cut(row, end) => {
-                if *end <= row.begin {
-                    self.len -= 1;
-                }
-            }
+            Change::Add(row) => self.add(row),
+            Change::Cut(row, end) => self.cut(row, end),
         }
+    }
+
+    /// Adds a row.
+    fn add(&mut self, row: Row) -> Result<(), TableFault>
+        ensures ok { OnOk result (SameRows self.new (self.old ++ row ∷ [])) }
+        ensures no_such_row { IsErrOf result NoSuchRow → ⊥ }
+        ensures err { OnErr result (self.new ≡ self.old) }
+    {
+        self.insert(row)?;
         Ok(())
+    }
+
+    /// Takes a copy of a row, and puts what a cut leaves of it. What may be refused comes before the row is taken.
+    fn cut(&mut self, row: Row, end: Time) -> Result<(), TableFault>
+        ensures ok { OnOk result (SameRows (self.new ++ row ∷ []) (self.old ++ remnant row end)) }
+        ensures no_such_row { IsErrOf result NoSuchRow ↔ (count_of row self.old ≡ 0) }
+        ensures err { OnErr result (self.new ≡ self.old) }
+    {
+        if row.begin >= end {
+            return self.withdraw(&row);
+        }
+        if self.count(&row) == 0 {
+            return Err(TableFault::NoSuchRow);
+        }
+        let mut shorter = row.copy(self.alloc)?;
+        shorter.end = end;
+        self.insert(shorter)?;
+        self.take(&row);
+        Ok(())
+    }
+
+    /// Takes a copy of a row that leaves nothing.
+    fn withdraw(&mut self, row: &Row) -> Result<(), TableFault>
+        ensures ok { OnOk result (SameRows (self.new ++ row.now ∷ []) self.old) }
+        ensures no_such_row { IsErrOf result NoSuchRow ↔ (count_of row.now self.old ≡ 0) }
+        ensures err { OnErr result (self.new ≡ self.old) }
+    {
+        if self.take(row) {
+            Ok(())
+        } else {
+            Err(TableFault::NoSuchRow)
+        }
     }
 
     /// How many copies of a row are in the table. O(log n) comparisons.
@@ -107,12 +138,11 @@ impl Table {
         ensures taken { 0 < count_of row.now self.old → SameRows (row.now ∷ self.new) self.old }
         ensures missing { count_of row.now self.old ≡ 0 → self.new ≡ self.old }
     {
-        if copies_in(&self.rows, row) == 0 {
-            return false;
+        let found = take_one(&mut self.rows, row);
+        if found {
+            self.len -= 1;
         }
-        take_one(&mut self.rows, row);
-        self.len -= 1;
-        true
+        found
     }
 
     /// Takes all copies of a row away, and says how many there were. It takes no memory. O(log n) comparisons.

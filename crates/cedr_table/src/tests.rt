@@ -20,7 +20,7 @@ fn no_row_is_cut_from_an_empty_table(rt: HostRuntime) -> Result<(), Fail> {
     let alloc = rt.alloc();
     let mut table = Table::new(alloc);
     let cut = Change::Cut(row(alloc, 7, 1, 9)?, 5);
-    assert_eq!(rt; table.apply(&cut), Err(TableFault::NoSuchRow));
+    assert_eq!(rt; table.apply(cut), Err(TableFault::NoSuchRow));
     assert_eq!(rt; table.len(), 0);
     Ok(())
 }
@@ -30,7 +30,7 @@ fn equal_rows_are_counted(rt: HostRuntime) -> Result<(), Fail> {
     let alloc = rt.alloc();
     let mut table = Table::new(alloc);
     for number in [7, 8, 7] {
-        let added = table.apply(&Change::Add(row(alloc, number, 1, 9)?));
+        let added = table.apply(Change::Add(row(alloc, number, 1, 9)?));
         assert_eq!(rt; added, Ok(()));
     }
     assert_eq!(rt; table.count(&row(alloc, 7, 1, 9)?), 2);
@@ -45,11 +45,11 @@ fn a_cut_ends_one_copy(rt: HostRuntime) -> Result<(), Fail> {
     let alloc = rt.alloc();
     let mut table = Table::new(alloc);
     for _ in 0..2 {
-        let added = table.apply(&Change::Add(row(alloc, 7, 1, FOREVER)?));
+        let added = table.apply(Change::Add(row(alloc, 7, 1, FOREVER)?));
         assert_eq!(rt; added, Ok(()));
     }
     let cut = Change::Cut(row(alloc, 7, 1, FOREVER)?, 5);
-    assert_eq!(rt; table.apply(&cut), Ok(()));
+    assert_eq!(rt; table.apply(cut), Ok(()));
     assert_eq!(rt; table.count(&row(alloc, 7, 1, FOREVER)?), 1);
     assert_eq!(rt; table.count(&row(alloc, 7, 1, 5)?), 1);
     assert_eq!(rt; table.len(), 2);
@@ -60,10 +60,10 @@ fn a_cut_ends_one_copy(rt: HostRuntime) -> Result<(), Fail> {
 fn a_cut_to_the_begin_leaves_nothing(rt: HostRuntime) -> Result<(), Fail> {
     let alloc = rt.alloc();
     let mut table = Table::new(alloc);
-    let added = table.apply(&Change::Add(row(alloc, 7, 1, 9)?));
+    let added = table.apply(Change::Add(row(alloc, 7, 1, 9)?));
     assert_eq!(rt; added, Ok(()));
     let cut = Change::Cut(row(alloc, 7, 1, 9)?, 1);
-    assert_eq!(rt; table.apply(&cut), Ok(()));
+    assert_eq!(rt; table.apply(cut), Ok(()));
     assert_eq!(rt; table.len(), 0);
     assert_eq!(rt; table.canonical()?.len(), 0);
     Ok(())
@@ -74,7 +74,7 @@ fn rows_come_in_canonical_order(rt: HostRuntime) -> Result<(), Fail> {
     let alloc = rt.alloc();
     let mut table = Table::new(alloc);
     for (number, begin, end) in [(5, 3, FOREVER), (2, 1, 9), (2, 0, 9), (1, 1, 9), (2, 1, 9)] {
-        let added = table.apply(&Change::Add(row(alloc, number, begin, end)?));
+        let added = table.apply(Change::Add(row(alloc, number, begin, end)?));
         assert_eq!(rt; added, Ok(()));
     }
     let rows = table.canonical()?;
@@ -90,10 +90,10 @@ fn rows_come_in_canonical_order(rt: HostRuntime) -> Result<(), Fail> {
 fn a_refusal_changes_nothing(rt: HostRuntime) -> Result<(), Fail> {
     let alloc = rt.alloc();
     let mut table = Table::new(alloc);
-    let added = table.apply(&Change::Add(row(alloc, 7, 1, 9)?));
+    let added = table.apply(Change::Add(row(alloc, 7, 1, 9)?));
     assert_eq!(rt; added, Ok(()));
     let cut = Change::Cut(row(alloc, 7, 1, 10)?, 5);
-    assert_eq!(rt; table.apply(&cut), Err(TableFault::NoSuchRow));
+    assert_eq!(rt; table.apply(cut), Err(TableFault::NoSuchRow));
     assert_eq!(rt; table.len(), 1);
     assert_eq!(rt; table.count(&row(alloc, 7, 1, 9)?), 1);
     Ok(())

@@ -33,6 +33,6 @@ module _ (p : ℕ → Bool) where
   some_part [] none = cc
   some_part (b ∷ text) none = cut_some (p b) b (slice_split p text) none
 
--- the whole of what stands behind a place, as a slice of the code has it
+-- the whole of what stands from a place on, as a slice of the code has it
 pub rest_from : (text : List ℕ) (at : ℕ) → take (length text - at) (drop at text) ≡ drop at text
 rest_from text at = take_all (length text - at) (drop at text) (omega (arith, length-drop at text))

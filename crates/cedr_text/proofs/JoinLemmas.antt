@@ -16,7 +16,7 @@ use Rattle.cedr_text.proofs.QuotingLemmas.{has_byte, Found, with_byte, behind_co
 abbrev pub each_behind : ℕ → List (List ℕ) → List ℕ
 each_behind byte fields = flat_map (λ field. byte ∷ field) fields
 
--- behind the first field stand the byte and then a field, for each of the others
+-- after the first field stand the byte and then a field, for each of the others
 joined_first : (byte : ℕ) (field : List ℕ) (fields : List (List ℕ)) → join_with_byte byte (field ∷ fields) ≡ field ++ each_behind byte fields
 joined_first byte field [] = sym (append-nil field)
 joined_first byte field (next ∷ fields) = ap (λ bytes. field ++ byte ∷ bytes) (joined_first byte next fields)

@@ -10,11 +10,13 @@ use Rattle.cedr_text.specs.declared.lines.TheConstants.{LINE_LIMIT}
 use Rattle.cedr_text.specs.Parts.{line_feed, parts_of}
 use Rattle.cedr_text.specs.Lines.{without_return, without_empty_end, raw_lines, has_line_feed, IsLineEnd, GivesLine, IsTooLong}
 
+-- of a line that ends in a carriage return, that one is dropped
 pub return_dropped : (front : List ℕ) → without_return (front ++ 13 ∷ []) ≡ front
 return_dropped [] = refl
 return_dropped (a ∷ []) = refl
 return_dropped (a ∷ b ∷ front) = ap (λ bytes. a ∷ bytes) (return_dropped (b ∷ front))
 
+-- a line that ends in another byte stays as it is
 pub other_kept : (front : List ℕ) (b : ℕ) → b == 13 ≡ false → without_return (front ++ b ∷ []) ≡ front ++ b ∷ []
 other_kept [] b other = ap (λ is. cond is [] (b ∷ [])) other
 other_kept (a ∷ []) b other = ap (λ bytes. a ∷ bytes) (other_kept [] b other)
@@ -77,7 +79,7 @@ line_begins (b ∷ text) none some more =
     let kept = first_kept b (text ++ first.0) first.1 in
     (first.0, kept.0, ap without_empty_end (no_feed_joins (b ∷ text) more first.0 first.1 none first.2) ∙ kept.1)
 
--- a place found behind the bytes that were searched is where the line ends
+-- a place found after the bytes that were searched is where the line ends
 pub found_end : (window slice : List ℕ) (searched place : ℕ) → slice ≡ drop searched window → searched ≤ length window → has_line_feed (take searched window) ≡ false
     → place < length slice → ((k : ℕ) → k < place → get_or slice k 0 == line_feed ≡ true → ⊥) → get_or slice place 0 ≡ line_feed → IsLineEnd window (searched + place)
 found_end window slice searched place is within none high before here =
@@ -110,7 +112,7 @@ in_window text m end ends =
       here = sym (get_or-take m text end 0 (omega (arith, ends.within, length-take m text))) ∙ ends.here;
     }
 
--- the line whose end was found is given, and the bytes behind its line feed are left
+-- the line whose end was found is given, and the bytes after its line feed are left
 pub gives_found : (items text line : List ℕ) (start m end : ℕ) (finished : Bool) → text ≡ drop start items → m ≤ LINE_LIMIT + 1
     → IsLineEnd (take m text) end → line ≡ without_return (take end (take m text))
     → GivesLine (record { kept = drop start items; finished = finished }) (record { kept = drop (start + (end + 1)) items; finished = finished }) line
@@ -155,6 +157,7 @@ gives_last items text line start m end finished is no_more whole most short none
       text = given;
     }
 
+-- a number that isn't 0 is above 0
 pub some_left : (n : ℕ) → n == 0 ≡ false → 0 < n
 some_left zero some = absurd (false≢true (sym some))
 some_left (suc n) some = omega arith

@@ -63,7 +63,7 @@ unquoted text plain = ap (λ test. cond test (quoted text) text) plain
 pub decimal_is_text : (n : ℕ) → n < 10 ^ 64 → text_text (decimal n) ≡ decimal n
 decimal_is_text n short = unquoted (decimal n) (plain_decimal n short)
 
--- nor one that may stand behind a minus
+-- nor one that may stand after a minus
 pub signed_is_text : (z : ℤ) → FitsSigned w128 z → text_text (signed_decimal z) ≡ signed_decimal z
 signed_is_text (pos n) fits = decimal_is_text n (omega (arith, fits.sfits))
 signed_is_text (negsuc n) fits = unquoted (45 ∷ decimal (suc n)) (plain_decimal (suc n) (omega (arith, fits.sfits)))

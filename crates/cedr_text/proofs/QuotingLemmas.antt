@@ -14,7 +14,7 @@ use Rattle.cedr_text.specs.Quoting.{has_quote, texts_after, undoubled, text_valu
 abbrev pub has_byte : ℕ → List ℕ → Bool
 has_byte byte bytes = list_any (λ b. b == byte) bytes
 
--- the value that a text completes, and the values behind it
+-- the value that a text completes, and the values after it
 abbrev pub Found : Type 0
 Found = List ℕ × List (List ℕ)
 
@@ -26,7 +26,7 @@ with_byte b found = (b ∷ found.0, found.1)
 abbrev pub behind_comma : Found → Found
 behind_comma found = ([], found.0 ∷ found.1)
 
--- the values of what is left of a line behind a place
+-- the values of what is left of a line from a place on
 abbrev pub fields_from : Place → List ℕ → Option Found
 fields_from FieldStart [] = Some ([], [])
 fields_from Bare [] = Some ([], [])
@@ -53,7 +53,7 @@ behind_quote (c ∷ bs) = cond (c == 34) (option_map (λ value. 34 ∷ value) (u
 abbrev bare_value : List ℕ → Option (List ℕ)
 bare_value text = cond (has_quote text) None (Some text)
 
--- the rest of the value of the text that goes on behind a place
+-- the rest of a value, whose text goes on at a place
 abbrev value_from : Place → List ℕ → Option (List ℕ)
 value_from FieldStart text = text_value text
 value_from Bare text = bare_value text
@@ -243,7 +243,7 @@ all_mapped (Some found) = refl
 pub rule_starts : (line : List ℕ) → is_some (fields_from FieldStart line) ≡ is_some (line_fields line)
 rule_starts line = sym (ap is_some (line_found line) ∙ all_mapped (fields_from FieldStart line))
 
--- the rest of a line keeps the rule behind a place, if the byte before it could stand there
+-- the rest of a line keeps the rule from a place on, if the byte before it could stand there
 abbrev pub keeps_on : List ℕ → Option Place → Bool
 keeps_on bs None = false
 keeps_on bs (Some place) = is_some (fields_from place bs)

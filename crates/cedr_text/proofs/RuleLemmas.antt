@@ -10,7 +10,7 @@ use Rattle.cedr_text.specs.Texts.{doubled, quoted}
 use Rattle.cedr_text.specs.Quoting.{has_quote, has_comma, line_fields, IsField, AreFields}
 use Rattle.cedr_text.proofs.QuotingLemmas.{Found, with_byte, behind_comma, all_of, fields_from, at_data, from_data, line_found}
 
--- what stands behind a text: nothing, or a comma and the rest
+-- what stands after a text: nothing, or a comma and the rest
 abbrev behind : Option (List ℕ) → List ℕ
 behind None = []
 behind (Some rest) = 44 ∷ rest
@@ -19,7 +19,7 @@ abbrev AreRest : Option (List ℕ) → List (List ℕ) → Type 0
 AreRest None values = values ≡ []
 AreRest (Some rest) values = AreFields rest values
 
--- how what is left of a line behind a place begins, by the value that was found there
+-- how what is left of a line at a place begins, by the value that was found there
 abbrev Begins : Place → List ℕ → Found → Type 0
 Begins FieldStart bs found = (text : List ℕ) × (rest : Option (List ℕ)) × (bs ≡ text ++ behind rest) × IsField text found.0 × AreRest rest found.1
 Begins Bare bs found = (rest : Option (List ℕ)) × (bs ≡ found.0 ++ behind rest) × (has_quote found.0 ≡ false) × (has_comma found.0 ≡ false) × AreRest rest found.1

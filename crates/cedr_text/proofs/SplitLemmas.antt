@@ -21,7 +21,7 @@ state_of Bare = st.InField
 state_of Quoted = st.InQuoted
 state_of BehindQuote = st.AfterQuote
 
--- the reader reads these values behind the fields and the bytes of the field that it has
+-- the reader reads these values after the fields and the bytes of the field that it has
 abbrev IsRead : Option Found → List (List ℕ) → List ℕ → Option Read → Type 0
 IsRead None fields field read = Unit {0}
 IsRead (Some found) fields field read = read ≡ Some (fields ++ ((field ++ found.0) ∷ found.1), st.StartRecord, [])

@@ -71,7 +71,7 @@ ends text other at beyond within =
     ∙ ap (λ rest. texts_cmp [] rest) (drop_more other at 0 within)
     ∙ shorter (get_or other at 0) (drop (at + 1) other)
 
--- two texts that have the same byte here compare by what stands behind it
+-- two texts that have the same byte here compare by what stands after it
 pub same_here : (text other : List ℕ) (at byte : ℕ) → at < length text → at < length other → get_or text at 0 ≡ byte → byte ≡ get_or other at byte
     → texts_cmp (drop at text) (drop at other) ≡ texts_cmp (drop (at + 1) text) (drop (at + 1) other)
 same_here text other at byte within other_within here there =
@@ -87,7 +87,7 @@ first_after_none q qs parts is = ap (λ parts. payload_cmp (map (λ part. Bytes 
 none_before_first : (q : List ℕ) (qs : List (List ℕ)) (parts : List (List ℕ)) → parts ≡ q ∷ qs → payload_cmp [] (map (λ part. Bytes part) parts) ≡ Less
 none_before_first q qs parts is = ap (λ parts. payload_cmp [] (map (λ part. Bytes part) parts)) is
 
--- a text has a field, and so comes behind a payload that has none
+-- a text has a field, and so comes after a payload that has none
 pub after_none : (text : List ℕ) → payload_cmp (texts_of text) [] ≡ Greater
 after_none text = let one = first_field text in first_after_none one.0 one.1 (fields_of text) one.2
 

@@ -14,6 +14,7 @@ as_line (text.Insert id row) = line.Insert id row
 as_line (text.Retract id end) = line.Retract id end
 as_line (text.Promise time) = line.Promise time
 
+-- the same of a reading: its event as an event line, or its fault
 abbrev pub as_reading : Result EventText LineFault → Result EventLine LineFault
 as_reading (Ok event) = Ok (as_line event)
 as_reading (Err fault) = Err fault

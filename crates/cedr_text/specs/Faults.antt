@@ -3,6 +3,7 @@ use Rattle.std.specs.Prelude.{ℕ}
 use Rattle.cedr_text.specs.declared.fault.LineFault.{LineFault}
 use Rattle.cedr_text.specs.declared.fault.LineFault.TheVariants as line
 
+-- the number of a fault, from 1 to 10
 abbrev pub number_of : LineFault → ℕ
 number_of line.LineTooLong = 1
 number_of line.BadForm = 2

@@ -13,7 +13,7 @@ without_empty_end ([] ∷ []) = []
 without_empty_end ((b ∷ bs) ∷ []) = (b ∷ bs) ∷ []
 without_empty_end (part ∷ next ∷ parts) = part ∷ without_empty_end (next ∷ parts)
 
--- what stands between the line feeds, and behind the last one if there is anything
+-- what stands between the line feeds, and after the last one if there is anything
 abbrev pub raw_lines : List ℕ → List (List ℕ)
 raw_lines bytes = without_empty_end (parts_of line_feed bytes)
 
@@ -28,6 +28,7 @@ pub record Fed : Type 0 where
   pub kept : List ℕ
   pub finished : Bool
 
+-- some byte is a line feed
 abbrev pub has_line_feed : List ℕ → Bool
 has_line_feed bytes = list_any (λ b. b == line_feed) bytes
 

@@ -27,6 +27,7 @@ begin_value text = whole_number (FOREVER - 1) text
 abbrev pub time_value : List ℕ → Option ℕ
 time_value text = if bytes_eq text (codes "inf") then Some FOREVER else whole_number (FOREVER - 1) text
 
+-- minus a number
 abbrev pub negated : ℕ → ℤ
 negated n = neg_ℤ (pos n)
 

@@ -4,7 +4,7 @@ use Rattle.cedr_text.specs.Texts.{comma, quote}
 use Rattle.cedr_text.specs.declared.quoting.Place.{Place}
 use Rattle.cedr_text.specs.declared.quoting.Place.TheVariants.{FieldStart, Bare, Quoted, BehindQuote}
 
--- the place behind a byte, or nothing where the byte can't stand there
+-- the place after a byte, or nothing where the byte can't stand there
 abbrev pub place_after : Place → ℕ → Option Place
 place_after FieldStart b = if b == quote then Some Quoted else if b == comma then Some FieldStart else Some Bare
 place_after Bare b = if b == quote then None else if b == comma then Some FieldStart else Some Bare

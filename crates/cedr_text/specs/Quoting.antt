@@ -18,6 +18,7 @@ texts_after odd (b ∷ bs) =
     if (b == comma) && not odd then [] ∷ texts_after odd bs
     else onto_first b (texts_after (if b == quote then not odd else odd) bs)
 
+-- the texts of the fields of a whole line, with their quotes
 abbrev pub field_texts : List ℕ → List (List ℕ)
 field_texts line = texts_after false line
 
@@ -38,6 +39,7 @@ unquoted (b ∷ bs) = if b == quote then undoubled bs else None
 abbrev pub text_value : List ℕ → Option (List ℕ)
 text_value text = if has_quote text then unquoted text else Some text
 
+-- one value more in front, where it and all the others are there
 abbrev pub in_front : Option (List ℕ) → Option (List (List ℕ)) → Option (List (List ℕ))
 in_front (Some value) (Some values) = Some (value ∷ values)
 in_front value values = None

@@ -1,7 +1,8 @@
 -- The grammar of an event line.
-use Rattle.std.specs.Prelude.{ℕ, ◌≡◌, ◌==◌, ◌≤◌, ◌||◌, Bool, List, [], ◌∷◌, ◌++◌, length, map, nat_le, nat_lt, nat_eq, codes, if◌then◌else◌, option_map, Option, None, Some, Result, Ok, Err}
+use Rattle.std.specs.Prelude.{ℕ, ◌≡◌, ◌==◌, ◌≤◌, ◌||◌, Bool, List, [], ◌∷◌, ◌++◌, length, map, nat_le, nat_lt, nat_eq, codes, if◌then◌else◌, option_map, Option, None, Some, Result, Ok, Err, Vec}
 use Rattle.std.specs.List.{list_any, starts_with}
 use Rattle.std.specs.Str.{bytes_eq}
+use Rattle.std.specs.Global.{Global}
 use Rattle.cedr_base.specs.declared.time.TheConstants.{FOREVER}
 use Rattle.cedr_base.specs.Rows.{IsRow}
 use Rattle.cedr_base.specs.declared.field.Field.{Field}
@@ -36,7 +37,7 @@ abbrev pub field_value : FieldType → List ℕ → Option Field
 field_value types.Number text = option_map (λ n. Number n) (int_value text)
 field_value types.Bytes text = Some (Bytes text)
 
--- one field more in front, where it and all behind it are in their form
+-- one field more in front, where it and all after it are in their form
 abbrev pub with_field : Option Field → Result (Option (List Field)) LineFault → Result (Option (List Field)) LineFault
 with_field field (Err fault) = Err fault
 with_field (Some field) (Ok (Some fields)) = Ok (Some (field ∷ fields))
@@ -54,25 +55,29 @@ abbrev pub payload_of : Shape → List (List ℕ) → Result (Option (List Field
 payload_of AnyText texts = if nat_le (length texts) 16 then Ok (Some (map (λ text. Bytes text) texts)) else Err BadForm
 payload_of (Fields types) texts = typed_payload types.items texts
 
--- behind `+`: an id, a begin, an end and a payload
+-- after `+`: an id, a begin, an end and a payload
 abbrev pub event : ℕ → ℕ → ℕ → Option (List Field) → Result EventLine LineFault
 event id begin end None = Err BadField
 event id begin end (Some payload) = Ok (Insert id (record { end = end; begin = begin; payload = payload }))
 
+-- an insertion by its id, times and payload. Which fault counts: one of the payload as a whole, then a number
+-- that isn't in form, then an empty interval, then a field that isn't in form
 abbrev pub inserted : Option ℕ → Option ℕ → Option ℕ → Result (Option (List Field)) LineFault → Result EventLine LineFault
 inserted id begin end (Err fault) = Err fault
 inserted (Some id) (Some begin) (Some end) (Ok payload) = if nat_lt begin end then event id begin end payload else Err EmptyLife
 inserted id begin end (Ok payload) = Err BadNumber
 
+-- the insertion that the fields after `+` say: three of them, and then those of the payload
 abbrev pub insertion : Shape → List (List ℕ) → Result EventLine LineFault
 insertion shape (id ∷ begin ∷ end ∷ texts) = inserted (id_value id) (begin_value begin) (time_value end) (payload_of shape texts)
 insertion shape fields = Err BadForm
 
--- behind `-`: an id and the new end
+-- after `-`: an id and the new end
 abbrev pub retracted : Option ℕ → Option ℕ → Result EventLine LineFault
 retracted (Some id) (Some end) = Ok (Retract id end)
 retracted id end = Err BadNumber
 
+-- the retraction that the fields after `-` say: exactly two of them
 abbrev pub retraction : List (List ℕ) → Result EventLine LineFault
 retraction (id ∷ end ∷ []) = retracted (id_value id) (time_value end)
 retraction fields = Err BadForm
@@ -82,11 +87,12 @@ abbrev pub retracted_by : Result (ℕ × ℕ) LineFault → Result EventLine Lin
 retracted_by (Ok read) = Ok (Retract read.0 read.1)
 retracted_by (Err fault) = Err fault
 
--- behind `=`: a time
+-- after `=`: a time
 abbrev pub promised : Option ℕ → Result EventLine LineFault
 promised (Some time) = Ok (Promise time)
 promised None = Err BadNumber
 
+-- the guarantee that the fields after `=` say: exactly one
 abbrev pub guarantee : List (List ℕ) → Result EventLine LineFault
 guarantee (time ∷ []) = promised (time_value time)
 guarantee fields = Err BadForm
@@ -105,6 +111,7 @@ event_of shape (kind ∷ fields) =
     else if bytes_eq kind (codes "=") then guarantee fields
     else Err BadForm
 
+-- what a line says that was read as an event, or its fault
 abbrev pub as_some : Result EventLine LineFault → Result (Option EventLine) LineFault
 as_some (Ok event) = Ok (Some event)
 as_some (Err fault) = Err fault
@@ -129,11 +136,15 @@ Reads (Ok x) read = read ≡ Ok x
 Reads (Err (read_fault.Line fault)) read = read ≡ Err fault
 Reads (Err read_fault.OutOfMemory) read = Unit {0}
 
--- a payload that has this front, where all behind it is in its form
+-- a payload that has this front, where all after it is in its form
 abbrev pub onto : Option (List Field) → Result (Option (List Field)) LineFault → Result (Option (List Field)) LineFault
 onto front (Err fault) = Err fault
 onto (Some front) (Ok (Some fields)) = Ok (Some (front ++ fields))
 onto front (Ok fields) = Ok None
+
+-- the fields of what was gathered
+abbrev pub items_in : Option (Vec Field Global) → Option (List Field)
+items_in fields = option_map (λ v. v.items) fields
 
 -- a payload with one field more at its end, where both are in their form
 abbrev pub pushed : Option (List Field) → Option Field → Option (List Field)

@@ -18,7 +18,7 @@ pub record IsAtRow (writer : Writer (Vec ℕ Global)) : Type 0 where
   pub setup : writer_setup writer ≡ row_setup
   pub fields : fields_written writer ≡ 0
 
--- the next field stands behind two fields of its row at least
+-- the next field stands after two fields of its row at least
 pub record IsInRow (writer : Writer (Vec ℕ Global)) : Type 0 where
   pub setup : writer_setup writer ≡ row_setup
   pub fields : 1 < fields_written writer

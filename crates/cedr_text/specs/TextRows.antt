@@ -10,7 +10,7 @@ use Rattle.cedr_text.specs.Parts.{fields_of}
 abbrev pub texts_of : List ℕ → List Field
 texts_of text = map (λ part. Bytes part) (fields_of text)
 
--- what stands behind the times of a line: no field where there is no text, and else one at least
+-- what stands after the times of a line: no field where there is no text, and else one at least
 abbrev pub bare_fields : Option (List ℕ) → List Field
 bare_fields None = []
 bare_fields (Some text) = texts_of text

@@ -10,9 +10,11 @@ use Rattle.cedr_base.specs.declared.field.Field.{Field}
 use Rattle.cedr_base.specs.declared.field.Field.TheVariants.{Number, Bytes}
 pub use Rattle.cedr_text.specs.Parts.{comma, line_feed}
 
+-- the byte of a double quote
 abbrev pub quote : ℕ
 quote = 34
 
+-- the byte of a carriage return
 abbrev pub carriage_return : ℕ
 carriage_return = 13
 
@@ -28,6 +30,7 @@ is_special b = (b == comma) || (b == quote) || (b == carriage_return) || (b == l
 abbrev pub doubled : ℕ → List ℕ
 doubled b = if b == quote then quote ∷ quote ∷ [] else b ∷ []
 
+-- a text between quotes, with each quote inside it twice
 abbrev pub quoted : List ℕ → List ℕ
 quoted text = quote ∷ (flat_map doubled text ++ quote ∷ [])
 
@@ -35,11 +38,12 @@ quoted text = quote ∷ (flat_map doubled text ++ quote ∷ [])
 abbrev pub text_text : List ℕ → List ℕ
 text_text text = if list_any is_special text then quoted text else text
 
+-- a number in decimal digits, with a `-` where it is below zero, or a text, quoted where it has to be
 abbrev pub field_text : Field → List ℕ
 field_text (Number n) = signed_decimal n
 field_text (Bytes text) = text_text text
 
--- each field of a payload stands behind a comma
+-- each field of a payload stands after a comma
 abbrev pub payload_text : List Field → List ℕ
 payload_text fields = flat_map (λ field. comma ∷ field_text field) fields
 

@@ -58,7 +58,7 @@ fn read_bare_insertion(rest: Option<&[u8]>) -> Result<EventText<'_>, LineFault>
     Ok(EventText::Insert { id, row })
 }
 
-/// The next field, and what stands behind its comma, if it has one.
+/// The next field, and what stands after its comma, if it has one.
 fn cut_field(rest: Option<&[u8]>) -> Option<(&[u8], Option<&[u8]>)>
     ensures { MatchOption result (parts_left comma (option_map (λ text. text.now) rest.entry) ≡ [])
         (λ cut. parts_left comma (option_map (λ text. text.now) rest.entry) ≡ cut.0.now ∷ parts_left comma (option_map (λ text. text.now) cut.1)) }

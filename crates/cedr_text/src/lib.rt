@@ -3,9 +3,10 @@
 //! `specs/` has the grammar of a line, apart from the code that reads one: its fields by the quoting rule, the
 //! forms of numbers and times, the three kinds of line, and which fault is the least. `Lines` cuts bytes that
 //! come in pieces into lines, `read_line` answers a line's reading, and `read_text_line` does so with the
-//! payload left in the line. `write_row`, `write_change`, `write_forgotten` and `write_time` append exactly the texts that `specs/Texts.antt`
-//! defines; `sort_text_rows` and `write_text_rows` do that for rows whose payload still stands in the bytes of
-//! a file. `quoting_rule`, `reading_law` and `line_limit` are laws of the grammar.
+//! payload left in the line. `write_row`, `write_change`, `write_forgotten` and `write_time` append exactly the
+//! texts that `specs/Texts.antt` defines. `write_text_rows` does so for rows whose payload still stands in the
+//! bytes of a file, and `sort_text_rows` sorts such rows. `quoting_rule`, `reading_law` and `line_limit` are laws
+//! of the grammar.
 #![tactic(auto)]
 
 mod bare;

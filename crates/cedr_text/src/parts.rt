@@ -32,7 +32,7 @@ impl<'a> Parts<'a> {
         }
     }
 
-    /// The parts of what is left behind a part, and none where nothing is.
+    /// The parts of what is left after a part, and none where nothing is.
     pub(crate) fn left(rest: Option<&'a [u8]>, separator: u8) -> Parts<'a>
         ensures { result ≡ parts_left separator (option_map (λ text. text.now) rest.entry) }
     {
@@ -65,7 +65,7 @@ impl<'a> Iterator for Parts<'a> {
     }
 }
 
-/// The first part, and what stands behind its separator, if it has one.
+/// The first part, and what stands after its separator, if it has one.
 pub(crate) fn cut_part(bytes: &[u8], separator: u8) -> (&[u8], Option<&[u8]>)
     ensures { parts_of separator bytes.now
         ≡ result.0.now ∷ parts_left separator (option_map (λ rest. rest.now) result.1) }

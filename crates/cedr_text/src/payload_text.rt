@@ -32,7 +32,7 @@ impl<'a> Model for BareFields<'a> {
 }
 
 impl<'a> BareFields<'a> {
-    /// The fields between the commas of the text, which is what a line has behind its third comma, and none
+    /// The fields between the commas of the text, which is what a line has after its fourth comma, and none
     /// where there is no text.
     pub fn new(text: Option<&'a [u8]>) -> BareFields<'a>
         ensures { result ≡ bare_fields (option_map (λ t. t.now) text.entry) }
@@ -234,7 +234,7 @@ impl Ord for PayloadText<'_> {
     }
 }
 
-/// Puts each field of the payload behind a comma.
+/// Puts each field of the payload after a comma.
 pub(crate) fn put_payload_text(
     payload: &PayloadText<'_>,
     writer: &mut Writer<Vec<u8>>,
@@ -260,7 +260,7 @@ fn put_bare(bare: &BareFields<'_>, writer: &mut Writer<Vec<u8>>) -> Result<(), O
     Ok(())
 }
 
-/// Puts each field of the text behind a comma.
+/// Puts each field of the text after a comma.
 fn put_parts(text: &[u8], writer: &mut Writer<Vec<u8>>) -> Result<(), OutOfMemory>
     requires { IsInRow writer.old }
     ensures text { OnOk result (text_of writer.new ≡ text_of writer.old ++ payload_text (texts_of text.now)) }

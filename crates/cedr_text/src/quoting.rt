@@ -16,7 +16,7 @@ enum Place {
     FieldStart,
     Bare,
     Quoted,
-    /// Behind a quote that ends the field, or that is the first of two.
+    /// After a quote that ends the field, or that is the first of two.
     BehindQuote,
 }
 

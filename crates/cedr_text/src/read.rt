@@ -1,11 +1,11 @@
-ghost use Rattle.std.specs.Prelude.{◌≡◌, ◌<◌, ◌≤◌, ◌↔◌, ℕ, List, true, false, length, map, IfOk, IfSome, Err};
+ghost use Rattle.std.specs.Prelude.{◌≡◌, ◌<◌, ◌≤◌, ◌↔◌, [], ℕ, List, true, false, length, map, IfOk, IfSome, Err};
 ghost use Rattle.cedr_text.specs.declared.event_line.Shape.{Shape};
 ghost use Rattle.cedr_text.specs.declared.event_line.Shape.TheVariants.{AnyText};
 ghost use Rattle.cedr_text.specs.declared.fault.LineFault.TheVariants.{LineTooLong};
 ghost use Rattle.cedr_text.specs.declared.lines.TheConstants.{LINE_LIMIT};
 ghost use Rattle.cedr_text.specs.EventTexts.{ReadsText};
 ghost use Rattle.cedr_text.specs.Quoting.{has_quote, line_fields};
-ghost use Rattle.cedr_text.specs.Reading.{is_broken, Reads, reading, event_of, event_from, insertion, retraction, guarantee, retracted_by, promised_by, payload_of, typed_payload, field_value, pushed, IsEvent, SaysEvent};
+ghost use Rattle.cedr_text.specs.Reading.{is_broken, Reads, reading, event_of, event_from, insertion, retraction, guarantee, retracted_by, promised_by, payload_of, typed_payload, field_value, items_in, pushed, IsEvent, SaysEvent};
 
 use crate::bare::read_bare;
 use crate::event_line::{EventLine, Shape};
@@ -193,14 +193,14 @@ fn read_payload(
 fn read_texts(alloc: Global, fields: Parts<'_>) -> Result<Option<Payload>, ReadLineFault>
     ensures { Reads result (payload_of AnyText fields.entry) }
 {
-    let mut payload = Payload::new(alloc);
+    let mut texts = Vec::new(alloc);
     for field in fields {
-        if payload.fields().len() == FIELD_LIMIT {
+        if texts.len() == FIELD_LIMIT {
             return Err(ReadLineFault::Line(LineFault::BadForm));
         }
-        payload.push(Field::Bytes(Text::from_slice(alloc, field)?))?;
+        texts.push(Field::Bytes(Text::from_slice(alloc, field)?))?;
     }
-    Ok(Some(payload))
+    Ok(Some(Payload::from_fields(alloc, texts)?))
 }
 
 /// A payload of one field for each type, or nothing where one isn't in its form.
@@ -211,16 +211,16 @@ fn read_typed(
 ) -> Result<Option<Payload>, ReadLineFault>
     ensures { Reads result (typed_payload types.now fields.entry) }
 {
-    let mut payload = Some(Payload::new(alloc));
+    let mut read = Some(room_for(alloc, types.len())?);
     for field_type in types {
         let Some(text) = fields.next() else {
             return Err(ReadLineFault::Line(LineFault::BadForm));
         };
         let field = read_field(alloc, *field_type, text)?;
-        payload = push_field(payload, field)?;
+        read = push_field(read, field)?;
     }
     match fields.next() {
-        None => Ok(payload),
+        None => Ok(payload_from(alloc, read)?),
         Some(_) => Err(ReadLineFault::Line(LineFault::BadForm)),
     }
 }
@@ -238,18 +238,36 @@ fn read_field(
     }
 }
 
-fn push_field(
-    payload: Option<Payload>,
-    field: Option<Field>,
-) -> Result<Option<Payload>, OutOfMemory>
-    ensures { IfOk result (λ after. after ≡ pushed payload field) }
+/// No field yet, with room for so many.
+fn room_for(alloc: Global, count: usize) -> Result<Vec<Field>, OutOfMemory>
+    ensures { IfOk result (λ fields. fields.items ≡ []) }
 {
-    match (payload, field) {
-        (Some(mut payload), Some(field)) => {
-            payload.push(field)?;
-            Ok(Some(payload))
+    let fields = Vec::with_capacity(alloc, count)?;
+    Ok(fields)
+}
+
+fn push_field(
+    read: Option<Vec<Field>>,
+    field: Option<Field>,
+) -> Result<Option<Vec<Field>>, OutOfMemory>
+    ensures { IfOk result (λ after. items_in after ≡ pushed (items_in read) field) }
+{
+    match (read, field) {
+        (Some(mut read), Some(field)) => {
+            read.push(field)?;
+            Ok(Some(read))
         }
         _ => Ok(None),
+    }
+}
+
+/// The payload of fields, where each is in its form.
+fn payload_from(alloc: Global, read: Option<Vec<Field>>) -> Result<Option<Payload>, OutOfMemory>
+    ensures { IfOk result (λ payload. payload ≡ items_in read) }
+{
+    match read {
+        Some(read) => Ok(Some(Payload::from_fields(alloc, read)?)),
+        None => Ok(None),
     }
 }
 

@@ -178,7 +178,7 @@ fn a_text_is_quoted_exactly_where_it_has_to_be(rt: HostRuntime) -> Result<(), Fa
     Ok(())
 }
 
-/// The row has these texts as its fields, behind a number if there is one.
+/// The row has these texts as its fields, after a number if there is one.
 fn row(
     alloc: Global,
     begin: Time,

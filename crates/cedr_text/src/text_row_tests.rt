@@ -13,7 +13,7 @@ fn bare_row<'a>(begin: Time, end: Time, text: Option<&'a [u8]>) -> TextRow<'a> {
     }
 }
 
-/// The row has these texts as its fields, behind a number if there is one.
+/// The row has these texts as its fields, after a number if there is one.
 fn read_row(
     alloc: Global,
     number: Option<i128>,

@@ -22,7 +22,7 @@ pub fn write_time(time: Time, out: &mut Vec<u8>) -> Result<(), OutOfMemory>
     write_number(time, out)
 }
 
-/// Appends the number in decimal digits, behind a `-` where it is below zero. Where memory runs out `out` is as
+/// Appends the number in decimal digits, after a `-` where it is below zero. Where memory runs out `out` is as
 /// before.
 pub fn write_number<N: Integer>(number: N, out: &mut Vec<u8>) -> Result<(), OutOfMemory>
     ensures ok { OnOk result (out.new.items ≡ out.old.items ++ N.text number) }
@@ -116,7 +116,7 @@ pub(crate) fn put_times(
     put_time(end, writer)
 }
 
-/// Puts each field behind a comma.
+/// Puts each field after a comma.
 pub(crate) fn put_payload(fields: &[Field], writer: &mut Writer<Vec<u8>>) -> Result<(), OutOfMemory>
     requires { IsInRow writer.old }
     ensures text { OnOk result (text_of writer.new ≡ text_of writer.old ++ payload_text fields.now) }
@@ -159,7 +159,7 @@ fn put_number(number: i128, writer: &mut Writer<Vec<u8>>) -> Result<(), OutOfMem
     put_text(digits.format(number).as_bytes(), writer)
 }
 
-/// Puts a field behind a comma.
+/// Puts a field after a comma.
 pub(crate) fn put_text(text: &[u8], writer: &mut Writer<Vec<u8>>) -> Result<(), OutOfMemory>
     requires { IsInRow writer.old }
     ensures text { OnOk result (text_of writer.new ≡ text_of writer.old ++ comma ∷ text_text text.now) }
@@ -181,7 +181,7 @@ fn put_time(time: Time, writer: &mut Writer<Vec<u8>>) -> Result<(), OutOfMemory>
     put(digits.format(time).as_bytes(), writer)
 }
 
-/// Puts a field, behind a comma where others of its row stand before it.
+/// Puts a field, after a comma where others of its row stand before it.
 fn put(text: &[u8], writer: &mut Writer<Vec<u8>>) -> Result<(), OutOfMemory>
     requires { writer_setup writer.old ≡ row_setup }
     ensures text { OnOk result (text_of writer.new ≡ text_of writer.old ++ (next_sep row_setup (fields_written writer.old) ++ text_text text.now)) }

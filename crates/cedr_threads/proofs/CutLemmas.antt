@@ -41,7 +41,7 @@ unbroken_first (message.Mark t ∷ ms) = let h = unbroken_first ms in record { r
 unbroken_first (message.End ∷ ms) = let h = unbroken_first ms in record { rest = h.rest; all = ap (λ (xs : List Message). message.End ∷ xs) h.all }
 unbroken_first (message.Broken ∷ ms) = record { rest = message.Broken ∷ ms; all = refl }
 
--- behind a list that isn't broken
+-- after a list that isn't broken
 pub unbroken_behind : (xs ys : List Message) → has_broken xs ≡ false → unbroken (xs ++ ys) ≡ xs ++ unbroken ys
 unbroken_behind [] ys h = refl
 unbroken_behind (message.Change c ∷ xs) ys h = ap (λ (zs : List Message). message.Change c ∷ zs) (unbroken_behind xs ys h)
@@ -141,7 +141,7 @@ module _ (meaning : Meaning) (levels : List Level) where
     cut : IsCut meaning levels lists given
     whole : any_broken lists ≡ false → IsLawful meaning levels lists given
 
-  -- the piece for a message behind a break leaves what came before it
+  -- the piece for a message after a break leaves what came before it
   same_before : (lists : Lists) (given piece : List Message) → IsRight meaning levels lists (given ++ piece) piece → any_broken lists ≡ true → unbroken given ≡ unbroken (given ++ piece)
   same_before lists given piece right some = at (all_over lists) refl
     where

@@ -127,7 +127,7 @@ module _ (nodes : List PlanNode) (given : Lists) (are : AreNodes [] (map node_of
       subst (λ (j : ℕ). IsLegal (list_at given j)) s.place
       (each s.before s.after s.node s.whole (inputs_legal given (length s.before) (λ j earlier. legal_below bound j (let e = s.place in omega arith) (let e = s.place in omega arith)) s.node.inputs.items inputs))
 
-  -- The list of each node is legal, where it is so behind legal lists.
+  -- The list of each node is legal, where each node gives a legal list for legal lists.
   pub all_legal : (k : ℕ) → k < length nodes → IsLegal (list_at given k)
   all_legal k within = legal_below (suc k) k (omega arith) within
 

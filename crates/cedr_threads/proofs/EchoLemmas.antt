@@ -176,7 +176,7 @@ passed_fits v ms legal none =
     and_true true = refl
     and_true false = refl
 
--- it is right behind the last message
+-- it is right after the last message
 passed_right : (v : Level) (ms : List Message) (m : Message) → IsLegal (ms ++ m ∷ []) → has_broken (ms ++ m ∷ []) ≡ false → IsRight handed_on (v ∷ []) ((ms ++ m ∷ []) ∷ []) (pass v ms ++ passed_of v ms m) (passed_of v ms m)
 passed_right v ms m legal none = record {
   whole = λ _. subst (Fits handed_on (v ∷ []) ((ms ++ m ∷ []) ∷ [])) (pass-push v ms m) (passed_fits v (ms ++ m ∷ []) legal none);

@@ -15,11 +15,12 @@ has_closed (stop.Refused line fault) source found read faultless = absurd (cc fa
 has_closed stop.ReadFault source found read faultless = absurd (cc read)
 has_closed stop.OutOfMemory source found read faultless = absurd (cc found)
 
--- neither of two is so
+-- where neither of two is so, the first isn't
 pub left_false : (a b : Bool) → a || b ≡ false → a ≡ false
 left_false false b none = refl
 left_false true b none = absurd (cc none)
 
+-- where neither of two is so, the second isn't
 pub right_false : (a b : Bool) → a || b ≡ false → b ≡ false
 right_false false b none = none
 right_false true b none = absurd (cc none)
@@ -41,7 +42,7 @@ all_closed (e ∷ es) source found read faultless zero d less =
 all_closed (e ∷ es) source found read faultless (suc k) d less =
     all_closed es (source + 1) (right_false (is_short e.stop) (list_any source_lacked es) found) (right_false (is_unread e.stop) (list_any source_refused es) read) (last_none (fault_in source e.stop) (faults_from (source + 1) es) faultless) k d (omega (arith, less))
 
--- nothing was listed behind an empty list that is empty still
+-- nothing was listed after an empty list that is empty still
 pub none_listed : {X : Type 0} (old new more : List X) → old ≡ [] → new ≡ old ++ more → length new ≡ 0 → more ≡ []
 none_listed old new [] empty is none = refl
 none_listed old new (x ∷ more) empty is none = absurd (omega (arith, ap length (is ∙ ap (λ xs. xs ++ x ∷ more) empty), none))

@@ -1,4 +1,4 @@
--- What is told of a run, by what is left of its workers and of its edges.
+-- What is reported of a run, by what is left of its workers and of its edges.
 use Rattle.std.proofs.Common.{◌≡◌, ℕ, ◌≤◌, Bool, false, ◌||◌, List, [], ◌∷◌, Option, length, map, sym, ap, ◌∙◌, subst, arith}
 use Rattle.std.specs.Prelude.{Vec}
 use Rattle.std.specs.Global.{Global}
@@ -61,7 +61,7 @@ module _ {S R : Type 0} (rest : S → Option (List ℕ)) (faults : S → ℕ) (p
   sources_count =
       ap (λ (ps : List (Part S R)). length (source_ends_in ps)) h.parts ∙ (ap length (sym (sources_sorted h.ends)) ∙ (left_count rest faults h.roles h.ends h.ended ∙ ap source_count h.roles_are.nodes_are))
 
-  -- the writer is that of the history, and told nothing for the last time
+  -- the writer is that of the history, and made no last note
   pub writer_of : (held : HeldWriter R) → writers_in closed.parts.items ≡ held ∷ [] → (held.writer.history ≡ history) × (held.writer.told ≡ false)
   writer_of held alone = writer_untold rest faults plan.nodes.items h.takers h.putters sources history h.roles h.ends held h.roles_are h.ended (sym (ap writers_in h.parts) ∙ alone)
 
@@ -86,7 +86,7 @@ module _ {S R : Type 0} (rest : S → Option (List ℕ)) (faults : S → ℕ) (p
       ∙ (ap (λ (ls : List Lists). changes_of (pass s.node.level (list_at (lists_at ls (length s.before)) 0))) (sym taken)
       ∙ (ap changes_of (sym (went.passed s.before s.after s.node s.whole output)) ∙ ap (λ k. changes_of (list_at given k)) s.place))
 
-  -- The report of a run: what is left of it, and what was found for what it tells.
+  -- The report of a run: what is left of it, and what it lists where memory was found for that.
   pub reported : (o : Outcome) (forgotten : Vec PortForgotten Global) (changes : Vec Change Global) (ends : Vec (SourceEnd S) Global) (a b : Bool) (held : HeldWriter R) → ends.items ≡ source_ends_in closed.parts.items → CameTo ends.items (a || b) o
       → (a ≡ false → list_any part_lacked closed.parts.items ≡ false) → (a ≡ false → (lists : List Lists) → AllTook plan.nodes.items lists closed.parts.items → map told forgotten.items ≡ nodes_told 0 (forgot_in plan.nodes.items lists))
       → writers_in closed.parts.items ≡ held ∷ [] → (b ≡ false → changes.items ≡ held.writer.published.changes)

@@ -26,7 +26,8 @@ reads_along a b c first next = record {
   later = extends_along a.seen b.seen c.seen first.later next.later;
 }
 
--- a read of all changes gives those of the list that it entered, which is the last one where that was told
+-- a read of all changes gives those of the list that it entered, which is that of the last note where it was
+-- learnt
 pub whole_list : (last : Option Listed) (new : Listed) (max len : ℕ) (empty out : List Change) → IfSome last (λ l. new ≡ l) → len ≡ length new.changes → len ≤ max → empty ≡ [] → out ≡ empty ++ part 0 max new.changes → IfSome last (λ l. out ≡ l.changes)
 whole_list None new max len empty out told count few none is = tt
 whole_list (Some l) new max len empty out told count few none is =

@@ -1,4 +1,4 @@
--- What is told of a run of a plan's workers.
+-- What is reported of a run of a plan's workers.
 use Rattle.std.specs.Prelude.{ℕ, ◌≡◌, ◌<◌, ◌+◌, Bool, true, false, List, [], ◌∷◌, ◌++◌, length, map, Option}
 use Rattle.std.specs.List.{list_any}
 use Rattle.cedr_base.specs.Messages.{changes_of}

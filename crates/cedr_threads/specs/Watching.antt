@@ -11,6 +11,6 @@ pub record ReadsOn (old new : Reads) : Type 0 where
   pub last : new.last ≡ old.last
   pub later : Extends old.seen new.seen
 
--- a watcher that stands for first changes of what the reader has seen, as it told them
+-- a watcher that stands for first changes of what the reader has seen, by what it reported of them
 abbrev pub Watches : {W O : Type 0} → (W → O → List Change → Type 0) → W → O → Reads → Type 0
 Watches stands watcher out reads = (list : List Change) × stands watcher out list × IsPrefix list reads.seen.changes

@@ -1,4 +1,4 @@
-//! What is told of a run once each worker has ended and all edges are closed.
+//! What is reported of a run once each worker has ended and all edges are closed.
 ghost use Rattle.std.specs.Prelude.{◌≡◌, List, false, true, IfSome, map};
 ghost use mathlib.Core.List.{IsPrefix};
 ghost use Rattle.cedr_base.specs.declared.change.Change.{Change as Changed};
@@ -104,8 +104,8 @@ fn read_where<R: Wait>(rt: &R, alloc: Global, looked: bool, reader: &mut Reader)
     }
 }
 
-/// Tells the result for the last time: the watcher looks to its end, and it is read as a whole. Whatever memory is found, the
-/// watcher stands for first changes of what was published. The writer is ended.
+/// Makes the writer's last note: the watcher looks to its end, and the result is read as a whole. Whatever memory is
+/// found, the watcher stands for first changes of what was published. The writer is ended.
 pub(crate) fn conclude<W: Watcher, R: Wait + Drop, Q: Wait>(
     rt: &Q,
     alloc: Global,

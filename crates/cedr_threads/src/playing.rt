@@ -27,8 +27,8 @@ fn count_away<S: Source + Drop, R: Wait + Drop>(seats: &[Seat<S, R>]) -> usize {
     seats.iter().filter(|seat| seat.is_away()).count()
 }
 
-/// Turns the workers that have no thread and lets the watcher look, in rounds, until each worker has ended. A round in which
-/// nothing happened here is rested over. Whether the watcher may be asked again.
+/// Turns the workers that have no thread and lets the watcher look, in rounds, until each worker has ended. It rests
+/// after a round in which nothing happened here. Whether the watcher may be asked again.
 fn wait_for_each<S: Source + Drop, G: Gate, W: Watcher, R: Wait + Drop, Q: Wait + Clock>(
     rt: &Q,
     gate: &G,

@@ -60,7 +60,7 @@ impl<G: Gate + Drop> Order<G> {
         !self.unturned.load(Ordering::SeqCst)
     }
 
-    /// Tells that the worker has ended.
+    /// Counts the worker as ended.
     pub(crate) fn tell_end(&self) {
         self.ended.fetch_add(1, Ordering::SeqCst);
     }

@@ -9,13 +9,14 @@ use cedr_worker::{Ran, SourceEnd};
 #[derive(Drop)]
 pub struct Report<S: Source + Drop> {
     pub outcome: Outcome,
-    /// What each port of each node forgot, in the order of the plan and of the ports. Only [`Outcome::Done`] fills it.
+    /// What each port of each node forgot, in the order of the plan and of the ports. At any outcome but
+    /// [`Outcome::Done`] no clause says what it has.
     pub forgotten: Vec<PortForgotten>,
     /// The closed edges: one for each port of each node, in that order.
     pub edges: Vec<EdgeRecord>,
     /// How much the turns of each node's worker did, in the order of the plan.
     pub ran: Vec<Ran>,
-    /// The changes of the result, in order. Only [`Outcome::Done`] fills it.
+    /// The changes of the result, in order. At any outcome but [`Outcome::Done`] no clause says what it has.
     pub changes: Vec<Change>,
     /// What is left of each source, in the order of the plan. Its out edges are closed, so none is left there.
     pub sources: Vec<SourceEnd<S>>,

@@ -20,7 +20,7 @@ use std::alloc::Global;
 use std::snapshot::Snapshot;
 use std::sync::Wait;
 
-/// What the one who waited for the workers has of the result, and room for what is told of the sources.
+/// What the one who waited for the workers has of the result, and room for what is reported of the sources.
 #[derive(Drop)]
 pub(crate) struct Waited {
     pub(crate) reader: Reader,
@@ -29,7 +29,7 @@ pub(crate) struct Waited {
     pub(crate) faults: Vec<SourceFault>,
 }
 
-/// What is told of a run of a plan's workers, after the last look of the watcher.
+/// What is reported of a run of a plan's workers, after the last look of the watcher.
 pub(crate) fn report_on<S: Source + Drop, W: Watcher, R: Wait + Drop, Q: Wait>(
     rt: &Q,
     alloc: Global,

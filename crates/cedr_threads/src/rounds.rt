@@ -27,7 +27,7 @@ pub(crate) struct Round {
     pub(crate) ended: bool,
 }
 
-/// How long a round that came to nothing is slept over once spinning and yielding didn't help, in microseconds.
+/// How long it sleeps after a round that came to nothing, once spinning and yielding didn't help, in microseconds.
 const NAP: u64 = 100;
 
 /// Waits a little for the workers on threads of their own.

@@ -20,9 +20,10 @@ use std::sync::{Arc, Wait};
 use std::thread::Threads;
 use std::time::Clock;
 
-/// Runs a plan over sources, one for each of its source nodes in order, with a thread for each worker. The watcher looks at the
-/// result while it grows, and tells `out` of it. It stands for the whole of it at [`crate::Outcome::Done`], and at any outcome
-/// for first changes of what the output gives in a partial run over what was read of the sources.
+/// Runs a plan over sources, one for each of its source nodes in order, with a thread for each worker. The watcher
+/// looks at the result while it grows, and reports it to `out`. It stands for the whole of it at
+/// [`crate::Outcome::Done`], and at any outcome for first changes of what the output gives in a partial run over what
+/// was read of the sources.
 ///
 /// All edges, the ends of the result and the lists for the threads are made before anything is read; where memory is lacking
 /// for them the sources are handed back. A worker whose thread is refused is turned by the caller, beside the looks of the

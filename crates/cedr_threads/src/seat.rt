@@ -44,8 +44,8 @@ fn run_there<S: Source + Drop, G: Gate + Drop, R: Wait + Drop, Q: Wait + Clock>(
     }
 }
 
-/// Starts the thread of a worker. Where no thread can be made, its closure comes back, and is told to hand the worker back
-/// before it is called.
+/// Starts the thread of a worker. Where no thread can be made, its closure comes back: it is set to hand the worker
+/// back unturned, and then called.
 pub(crate) fn start<
     S: Source + Drop + Send + 'static,
     G: Gate + Drop + Send + 'static,

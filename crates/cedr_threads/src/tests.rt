@@ -52,7 +52,7 @@ const MIDDLE: &str = r#"{"version":1,"nodes":[
  {"name":"s","op":"source","file":"s.csv","fields":["text"]},
  {"name":"out","op":"output","from":["s"]}]}"#;
 
-/// Counts the changes that it has read, and tells others that it has read some.
+/// Counts the changes that it has read, and sets a flag once it has read some.
 #[derive(Drop)]
 struct Counts {
     alloc: Global,

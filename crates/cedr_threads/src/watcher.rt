@@ -10,15 +10,15 @@ use cedr_history::Reader;
 /// One who reads the result while it grows. It stands for the changes that it has read, in order, of which there are none at
 /// first.
 pub trait Watcher {
-    /// Where it tells what it reads.
+    /// Where it reports what it reads.
     type Out;
 
-    // the changes that it has read, and what was told of them since the outside was as the first value
+    // the changes that it has read, and what was reported of them since the outside was as the first value
     ghost stands: { Self.Out → Self → Self.Out → List Change → Type 0 };
 
-    /// Reads once, and says whether the read was let in. Where it was, the watcher stands for the whole list that the reader
-    /// entered, and else for the same list as before; the reader's count of refused enters rose then. At `OutOfMemory` it stands for some first changes of what the reader
-    /// has seen, and isn't asked again.
+    /// Reads once, and says whether the read was let in. Where it was, the watcher stands for the whole list that the
+    /// reader entered, and else for the same list as before; the reader's count of refused enters rose then. At
+    /// `OutOfMemory` it stands for some first changes of what the reader has seen, and isn't asked again.
     fn look(&mut self, reader: &mut Reader, out: &mut Self::Out) -> Result<bool, OutOfMemory>
         requires { (start : Self.Out) × (list : List Change) × stands start self.old out.old list × IsPrefix list reader.old.seen.changes }
         ensures reads { ReadsOn reader.old reader.new }

@@ -24,6 +24,8 @@ other_from place f fs e es apart = at (nat_eq f place) refl
     at true is = absurd (grind (arith, nat_tests, apart))
     at false is = rw is refl
 
+-- where the ends that put are those of the edges that are left, the next one of the first edge's node belongs
+-- to that edge
 pub next_left : (f : ℕ) (fs : List ℕ) (e : InEnd) (es : List InEnd) (putters : List (List OutEnd)) → AreLeft (f ∷ fs) (e ∷ es) putters → IsNext f e putters
 next_left f fs e es putters left = at (puts_at putters f) refl
   where
@@ -51,9 +53,11 @@ left_closed f fs e es putters putters' closed closed' lt left one place = at (na
         let now : puts_at putters' place ≡ puts_at putters place = ap (λ ps. puts_at ps place) one.gone ∙ get_or-set_other putters f place one.rest [] apart in
         ap (map out_edge) now ∙ (left place ∙ other_from place f fs e.edge (map in_edge es) apart)
 
+-- closing an edge leaves a list of ends for as many nodes
 pub port_count_stays : (f : ℕ) (e : InEnd) (putters putters' : List (List OutEnd)) (closed closed' : List Carried) → PortClosed f e putters putters' closed closed' → length putters' ≡ length putters
 port_count_stays f e putters putters' closed closed' one = ap length one.gone ∙ length-set putters f one.rest
 
+-- where there is no edge, none is closed
 pub none_closed : (putters : List (List OutEnd)) (closed : List Carried) → SomeClosed [] [] putters putters closed closed
 none_closed putters closed = record {
   edges = [];
@@ -109,10 +113,11 @@ more_closed fs gs es ds putters putters' putters'' closed closed' closed'' a b =
       (map-append (λ (e : Carried). e.sent) a.edges b.edges ∙ (cc (first.0, second.0) ∙ sym (map-append (list_at given) fs gs)), second.1);
 }
 
--- what holds of each element of two lists holds of each of the first, and of the second
+-- what holds of each element of two lists holds of each of the first
 pub all_front : {X : Type 0} (P : X → Type 0) (xs ys : List X) → All P (xs ++ ys) → All P xs
 all_front P xs ys all k d lt = subst P (get_or_append_left xs ys d k lt) (all k d (omega (arith, lt, length-append xs ys)))
 
+-- what holds of each element of two lists holds of each of the second
 pub all_back : {X : Type 0} (P : X → Type 0) (xs ys : List X) → All P (xs ++ ys) → All P ys
 all_back P xs ys all k d lt = subst P (get_or-append-add xs ys k d) (all (length xs + k) d (omega (arith, lt, length-append xs ys)))
 

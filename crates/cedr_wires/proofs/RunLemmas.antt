@@ -34,14 +34,17 @@ given_ports given [] = refl
 given_ports given (n ∷ nodes) =
     ap (ports_of (n ∷ nodes)) (map-append (list_at given) n.inputs.items (froms nodes)) ∙ (ports_first n nodes (input_lists given n) (map (list_at given) (froms nodes)) (length-map n.inputs.items (list_at given)) ∙ ap (λ ls. input_lists given n ∷ ls) (given_ports given nodes))
 
--- what stands behind the nodes before
+-- what is made of a node stands after what is made of the nodes before it
 at_place : {A : Type 0} (f : PlanNode → A) (before after : List PlanNode) (n : PlanNode) (d : A) → slice_index_or (map f (before ++ n ∷ after)) (length before) d ≡ f n
 at_place f [] after n d = refl
 at_place f (b ∷ before) after n d = at_place f before after n d
 
+-- what went over the closed edges of a plan is, port by port, what was taken from the ends
 pub closed_ports : (nodes : List PlanNode) (takers : List (List InEnd)) (putters : List (List OutEnd)) (edges : List Carried) → AreWired nodes takers putters → AreClosed nodes takers putters edges → ports_of nodes (carried edges) ≡ map (map taken_of) takers
 closed_ports nodes takers putters edges wired closed = ap (ports_of nodes) closed.taken ∙ taken_ports nodes takers wired.ports
 
+-- where each node owes what it gave for what its ports took, and gave it over each edge that comes from it,
+-- what went over the closed edges is a run of the plan
 pub closed_run : (nodes : List PlanNode) (takers : List (List InEnd)) (putters : List (List OutEnd)) (edges : List Carried) (sources given : Lists) → AreClosed nodes takers putters edges → AreSent given putters
     → ((before after : List PlanNode) (n : PlanNode) → nodes ≡ before ++ n ∷ after → IsNodeRun sources before n (lists_at (ports_of nodes (carried edges)) (length before)) (list_at given (length before)))
     → IsRun nodes sources (ports_of nodes (carried edges)) given

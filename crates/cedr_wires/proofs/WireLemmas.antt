@@ -12,7 +12,7 @@ use Rattle.cedr_plan.specs.Rules.{IsInput, AreNodes}
 use Rattle.cedr_plan.specs.declared.plan.PlanNode.{PlanNode}
 use Rattle.cedr_wires.specs.Wires.{froms, port_count, new_in, new_out, in_edge, out_edge, all_ends, puts_at, edges_from, more_at, wired_on, AreWithin, PortWired, PortsWired, NodesWired, AreWired, AreNew}
 
--- edges that are made one after the other, and some behind them
+-- edges that are made one after the other, and some after them
 wired_append : (room : ℕ) (putters : List (List OutEnd)) (fs gs : List ℕ) (es ds : List TableId) → length es ≡ length fs → wired_on room putters (fs ++ gs) (es ++ ds) ≡ wired_on room (wired_on room putters fs es) gs ds
 wired_append room putters [] gs [] ds is = refl
 wired_append room putters [] gs (e ∷ es) ds is = absurd (omega (arith, is))
@@ -65,10 +65,11 @@ nodes_more room nodes n takers ends first putters putters' some one = record {
         let b : flat (some.edges ++ one.edges ∷ []) ≡ flat some.edges ++ one.edges = flat_map-append (λ (es : List TableId). es) some.edges (one.edges ∷ []) ∙ ap (λ xs. flat some.edges ++ xs) (append-nil one.edges) in
         cc (a, b)
 
--- the same of ports, and of nodes
+-- the same where the edges of some ports are made
 pub ports_length : (room : ℕ) (fs : List ℕ) (ends : List InEnd) (putters putters' : List (List OutEnd)) → PortsWired room fs ends putters putters' → length putters' ≡ length putters
 ports_length room fs ends putters putters' some = ap length some.puts ∙ wired_length room putters fs some.edges
 
+-- and where the edges of all ports of some nodes are made
 pub nodes_length : (room : ℕ) (nodes : List PlanNode) (takers : List (List InEnd)) (putters putters' : List (List OutEnd)) → NodesWired room nodes takers putters putters' → length putters' ≡ length putters
 nodes_length room nodes takers putters putters' some = ap length some.puts ∙ wired_length room putters (froms nodes) (flat_map (λ (es : List TableId). es) some.edges)
 
@@ -80,7 +81,7 @@ within_node count (n ∷ nodes) (suc i) d lt all = within_node count nodes i d (
 
 -- ---- all edges of a plan
 
--- the edges that come from a node are those that were made, behind those that were there
+-- the edges that come from a node are those that were made, after those that were there
 edges_made : (room : ℕ) (place : ℕ) (putters : List (List OutEnd)) (fs : List ℕ) (es : List TableId) → AreWithin (length putters) fs → map out_edge (puts_at (wired_on room putters fs es) place) ≡ map out_edge (puts_at putters place) ++ edges_from place fs es
 edges_made room place putters [] es within = sym (append-nil (map out_edge (puts_at putters place)))
 edges_made room place putters (f ∷ fs) [] within = sym (append-nil (map out_edge (puts_at putters place)))
@@ -116,6 +117,7 @@ within_behind count earlier (n ∷ nodes) are le =
     let rest = within_behind count (earlier ++ node_of n ∷ []) nodes are.1 (omega (arith, le, length-append earlier (node_of n ∷ []))) in
     All-append (λ (place : ℕ). place < count) n.inputs.items (froms nodes) here rest
 
+-- the edges of a plan come from nodes of the plan
 pub within_plan : (nodes : List PlanNode) (count : ℕ) → AreNodes [] (map node_of nodes) → length nodes ≡ count → AreWithin count (froms nodes)
 within_plan nodes count are is = within_behind count [] nodes are (omega (arith, is))
 
@@ -169,6 +171,7 @@ plan_wired room nodes takers putters are some = record {
     empty_at (suc count) zero = refl
     empty_at (suc count) (suc place) = empty_at count place
 
+-- once all nodes of a plan are wired, nothing went over any edge, and each has so much room
 pub plan_new : (room : ℕ) (nodes : List PlanNode) (takers : List (List InEnd)) (putters : List (List OutEnd)) → NodesWired room nodes takers (replicate (length nodes) []) putters → AreNew room takers putters
 plan_new room nodes takers putters some = record {
   takes = subst (λ ts. All (λ (ends : List InEnd). All (λ (e : InEnd). e ≡ new_in e.edge) ends) ts) (sym some.takes) (takers_new some.edges);

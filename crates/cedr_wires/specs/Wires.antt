@@ -12,22 +12,27 @@ use Rattle.cedr_plan.specs.declared.plan.PlanNode.{PlanNode}
 abbrev pub froms : List PlanNode → List ℕ
 froms nodes = flat_map (λ (n : PlanNode). n.inputs.items) nodes
 
+-- how many ports a node has
 abbrev pub port_count : PlanNode → ℕ
 port_count n = length n.inputs.items
 
--- what the ends are of an edge over which nothing went
+-- the end that takes of an edge over which nothing went
 abbrev pub new_in : TableId → InEnd
 new_in edge = record { edge = edge; taken = []; refused = 0 }
 
+-- the end that puts of an edge with so much room, over which nothing went
 abbrev pub new_out : ℕ → TableId → OutEnd
 new_out room edge = record { edge = edge; room = room; sent = []; refused = 0 }
 
+-- the edge of an end that takes
 abbrev pub in_edge : InEnd → TableId
 in_edge e = e.edge
 
+-- the edge of an end that puts
 abbrev pub out_edge : OutEnd → TableId
 out_edge e = e.edge
 
+-- what was taken from an end
 abbrev pub taken_of : InEnd → List Message
 taken_of e = e.taken
 

@@ -87,7 +87,7 @@ fn close_nodes(
     close_nodes(others, takers, putters, records);
 }
 
-/// Closes all edges of a plan, each of whose ends that take was taken from until its list was over. It takes no memory where
+/// Closes all edges of a plan. Each end that takes was taken from until its list was over. It takes no memory where
 /// there is room for the records, as `new_wires` makes it.
 pub fn close_wires(
     plan: &Plan,

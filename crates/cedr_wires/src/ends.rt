@@ -72,7 +72,7 @@ impl Putters {
         ends
     }
 
-    /// One end more, behind the others.
+    /// One end more, after the others.
     pub(crate) fn push(&mut self, end: EdgeOut) -> Result<(), OutOfMemory>
         ensures { OnOk result (self.new ≡ self.old ++ end ∷ []) }
     {

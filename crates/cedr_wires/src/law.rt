@@ -7,8 +7,8 @@ ghost use Rattle.cedr_runs.specs.Runs.{IsNodeRun, IsRun, lists_at};
 ghost use Rattle.cedr_laws.specs.Lists.{list_at};
 ghost use Rattle.cedr_wires.specs.Wires.{AreClosed, AreSent, AreWired, carried, ports_of, taken_of};
 
-/// The law of a plan's closed edges. What went over them is, port by port, what was taken in the end; and where each node owes
-/// what it gave for what its ports took, and gave it over each edge that comes from it, that is a run of the plan.
+/// The law of a plan's closed edges. What went over them is, port by port, what was taken in the end. Where each node
+/// owes what it gave for what its ports took, and gave it over each edge that comes from it, that is a run of the plan.
 pub fn closed_edges()
     ensures ports { (nodes : List PlanNode) (takers : List (List InEnd)) (putters : List (List OutEnd)) (edges : List Carried) → AreWired nodes takers putters → AreClosed nodes takers putters edges → ports_of nodes (carried edges) ≡ map (map taken_of) takers }
     ensures runs { (nodes : List PlanNode) (takers : List (List InEnd)) (putters : List (List OutEnd)) (edges : List Carried) (sources given : Lists) → AreClosed nodes takers putters edges → AreSent given putters

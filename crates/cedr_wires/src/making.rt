@@ -9,7 +9,7 @@ use cedr_edge::{EdgeIn, EdgeRecord, new_edge};
 use cedr_plan::{Plan, PlanNode};
 use std::alloc::Global;
 
-/// The ends of all edges of a plan, and room for what is told of each once it is closed.
+/// The ends of all edges of a plan, and room for the record of each once it is closed.
 #[derive(Drop)]
 pub struct Wires {
     /// By node.

@@ -58,9 +58,11 @@ ends_sent given (o ∷ os) (e ∷ outs) same all zero d less = let head : e.sent
 ends_sent given (o ∷ os) (e ∷ outs) same all (suc k) d less =
     let rest : map end_sent outs ≡ map total_of os = cc in ends_sent given os outs rest (λ j d' less'. all (suc j) d' (omega arith)) k d (omega arith)
 
+-- there are as many ends as out edges
 pub ends_length : (os : List Outgoing) (outs : List OutEnd) → map end_sent outs ≡ map total_of os → length outs ≡ length os
 ends_length os outs same = sym (length-map outs end_sent) ∙ (ap (λ (l : Lists). length l) same ∙ length-map os total_of)
 
+-- where memory was found, what was sent over each end is the list that the node gave
 pub sound_end : (node : Node) (lists : Lists) (os : List Outgoing) (outs : List OutEnd) (lacked broke : Bool) → map end_sent outs ≡ map total_of os → Works node lists os lacked broke → lacked ≡ false → SoundEnd node lists outs
 sound_end node lists os outs lacked broke same w found = let s = w.sound found in record { given = s.given; stands = s.stands; sent = ends_sent s.given os outs same s.all }
 
@@ -92,6 +94,8 @@ lost_end_at made lists os outs false same over s =
       sent = λ k d less. absurd (none k (omega (arith, less, ends_length os outs same)));
     }
 
+-- where memory was lacking and each out edge is over, what was sent over each end is a lawful list and then
+-- one Broken
 pub lost_end : (node : Node) (lists : Lists) (os : List Outgoing) (outs : List OutEnd) (lacked broke : Bool) → map end_sent outs ≡ map total_of os → AllOver os → Works node lists os lacked broke → lacked ≡ true → LostEnd (made_of node) lists outs
 lost_end node lists os outs lacked broke same over w lacks = lost_end_at (made_of node) lists os outs broke same over (w.lost lacks)
 
@@ -111,5 +115,6 @@ over_at : (node : Node) (lists : Lists) (os : List Outgoing) (lacked broke : Boo
 over_at node lists os false broke over some w = over_found node lists os over some (w.sound refl) (all_over lists) refl
 over_at node lists os true broke over some w = over_lost (made_of node) lists os broke over some (w.lost refl)
 
+-- where each out edge is over, and there is one, each input is over
 pub inputs_end : (node : Node) (lists : Lists) (os : List Outgoing) (outs : List OutEnd) (lacked broke : Bool) → map end_sent outs ≡ map total_of os → AllOver os → Works node lists os lacked broke → 0 < length outs → all_over lists ≡ true
 inputs_end node lists os outs lacked broke same over w some = over_at node lists os lacked broke over (omega (arith, some, ends_length os outs same)) w

@@ -20,6 +20,7 @@ split_at (m ∷ ns) (suc k) n less here = let s = split_at ns k n (omega arith) 
 pub ready_at : (nodes : List PlanNode) (k : ℕ) (n : PlanNode) → AreNodes [] (map node_of nodes) → k < length nodes → get_or nodes k n ≡ n → is_source n.kind ≡ false → IsReady n.kind (length n.inputs.items)
 ready_at nodes k n are less here other = let s = split_at nodes k n less here in node_ready (map node_of (take k nodes)) n (node_stands nodes (take k nodes) s.0 n are s.1) other
 
+-- the level of a plan's node has a block that isn't over its memory
 pub level_at : (nodes : List PlanNode) (k : ℕ) (n : PlanNode) → AreNodes [] (map node_of nodes) → k < length nodes → get_or nodes k n ≡ n → IsLevel n.level
 level_at nodes k n are less here =
     let s = split_at nodes k n less here in

@@ -98,7 +98,7 @@ outputs_lost node node' taken m w lacked pending made legal o = record {
   untold = o.untold;
 }
 
--- A message was taken while memory was found and nothing was pending, and the writer was told of what the node gave.
+-- A message was taken while memory was found and nothing was pending, and the writer was handed what the node gave.
 module _ (node node' : Node) (taken piece : List Message) (m : Message) (w w' : Writing) (lacked pending : Bool) (made : made_of node' ≡ made_of node) (legal : IsLegal (taken ++ m ∷ [])) (o : Writes node taken w false false)
     (stands : NodeStands node' ((taken ++ m ∷ []) ∷ []) (passed_by node taken ++ piece)) (told : IsTold (passed_by node taken) piece w w' lacked pending) where
   abbrev before : List Message
@@ -169,11 +169,12 @@ closed_input node taken list legal b closed =
 pub whole_closed : (node : Node) (taken : List Message) (list : Listed) → WholeOutput node taken list → is_over taken ≡ true → list.close ≢ close.Open
 whole_closed node taken list whole over e = over_closed taken over (sym (ap (λ (l : Listed). l.close) whole.list_is) ∙ e)
 
--- an output has ended exactly where its input is over
+-- where an output has ended its input is over
 pub ended_over : (node : Node) (taken : List Message) (w : Writing) (lacked pending : Bool) → Writes node taken w lacked pending → (w.published.close ≢ close.Open) ⊎ ((lacked ≡ true) × (is_over taken ≡ true)) → is_over taken ≡ true
 ended_over node taken w lacked pending o (inl closed) = closed_input node taken w.published o.legal o.shown closed
 ended_over node taken w lacked pending o (inr both) = both.1
 
+-- an output has ended where its input is over, if all is published unless memory was lacking
 pub over_ended : (node : Node) (taken : List Message) (w : Writing) (lacked pending : Bool) → Writes node taken w lacked pending → (lacked ≡ false → w.published ≡ w.all) → is_over taken ≡ true → (w.published.close ≢ close.Open) ⊎ ((lacked ≡ true) × (is_over taken ≡ true))
 over_ended node taken w true pending o shown over = inr (refl, over)
 over_ended node taken w false pending o shown over = inl (λ e. whole_closed node taken w.all (o.found refl) over (sym (ap (λ (l : Listed). l.close) (shown refl)) ∙ e))

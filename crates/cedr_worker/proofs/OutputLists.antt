@@ -47,7 +47,7 @@ over_closed (message.Mark t ∷ ms) h e = over_closed ms h e
 over_closed (message.End ∷ ms) h e = absurd (cc e)
 over_closed (message.Broken ∷ ms) h e = absurd (cc e)
 
--- messages behind ones that go on end all of them
+-- messages that come after ones that go on end all of them
 pub close_behind : (xs ys : List Message) → IsOpen xs → close_of (xs ++ ys) ≡ close_of ys
 close_behind [] ys h = refl
 close_behind (message.Change c ∷ xs) ys h = close_behind xs ys h
@@ -147,11 +147,11 @@ module _ (all : Listed) (given : List Message) (is : all ≡ list_from given) wh
   pub mark_rises : (t : ℕ) → MayCome given (message.Mark t) → all.mark < t
   mark_rises t may = let rises = may.1.0 in omega (arith, rises, ap (λ (l : Listed). l.mark) is)
 
--- a writer that was told a message
+-- a writer to which a message was handed
 pub writer_told : (w w' : Writing) (given : List Message) (m n : Message) (all : Listed) → m ≡ n → all ≡ list_from (given ++ n ∷ []) → w' ≡ record w { all = all } → w' ≡ record w { all = list_from (given ++ m ∷ []) }
 writer_told w w' given m n all is told e = e ∙ ap (λ (l : Listed). record w { all = l }) (told ∙ ap (λ (x : Message). list_from (given ++ x ∷ [])) (sym is))
 
--- the next message of a piece, behind those that were told
+-- the next message of a piece, after those that were handed on
 pub next_first : (done piece : List Message) (m : Message) → done ≡ take (length done) piece → (length done < length piece) × (m ≡ get_or piece (length done) m) → IsPrefix (done ++ m ∷ []) piece
 next_first [] [] m so_far next = absurd (omega (arith, next.0))
 next_first [] (x ∷ xs) m so_far next = (xs, ap (λ (y : Message). y ∷ xs) next.1)
@@ -159,11 +159,12 @@ next_first (d ∷ ds) [] m so_far next = absurd (omega (arith, next.0))
 next_first (d ∷ ds) (x ∷ xs) m so_far next =
     let rest = next_first ds xs m (cc so_far) (omega (arith, next.0), next.1) in (rest.0, cc (so_far, rest.1))
 
+-- a list with one message more isn't empty
 pub pushed_some : (ms : List Message) (m : Message) → ms ++ m ∷ [] ≢ []
 pushed_some [] m e = absurd (cc e)
 pushed_some (x ∷ ms) m e = absurd (cc e)
 
--- it may come behind what was given and those
+-- it may come after what was given and those
 pub next_comes : (given piece done : List Message) (m : Message) → IsLegal (given ++ piece) → IsPrefix (done ++ m ∷ []) piece → MayCome (given ++ done) m
 next_comes given piece done m legal first =
     may_come_in (given ++ done) first.0 m

@@ -1,4 +1,4 @@
--- What a step of a source's worker tells.
+-- What a step of a source's worker answers.
 use Rattle.std.proofs.Common.{◌≡◌, ◌≢◌, ℕ, ◌<◌, ◌≤◌, ◌⊎◌, inl, inr, Bool, true, false, true≢false, List, [], ◌∷◌, ◌++◌, length, Option, None, Some, Result, Ok, Err, refl, sym, ap, ◌∙◌, subst, append_assoc, append-nil, arith}
 use Rattle.std.specs.Prelude.{nat_lt, IfOk, if◌then◌else◌}
 use Rattle.std.specs.Io.KnownBytes.{Consumes, Keeps, IsAtEnd}
@@ -75,11 +75,11 @@ still lines shape bytes given reads = subst (λ (all : List ℕ). Reads lines sh
 
 -- ---- a line is taken
 
--- what is told where the answer is this step
+-- what is said of a line where the answer is this step
 pub told_as : (lines : SourceLines) (shape : Shape) (bytes : List ℕ) (given : List Message) (told : Option SourceStep) (now s : SourceStep) → told ≡ Some now → now ≡ s → TellsLine told lines shape bytes given → Tells s lines shape bytes given
 told_as lines shape bytes given told now s is is_now tells = subst (λ (t : SourceStep). Tells t lines shape bytes given) is_now (subst (λ (t : Option SourceStep). TellsLine t lines shape bytes given) is tells)
 
--- what is told of a stop when no byte was read
+-- what a stop says stays so when no byte was read
 stopped_still : (s : SourceStop) (shape : Shape) (bytes : List ℕ) (given : List Message) (ended : Bool) → StoppedAs s shape bytes given ended → StoppedAs s shape (bytes ++ []) given ended
 stopped_still s shape bytes given ended h = subst (λ (all : List ℕ). StoppedAs s shape all given ended) (sym (append-nil bytes)) h
 
@@ -157,7 +157,7 @@ end_came old new rest left goes_on ended = inr (goes_on, ended)
 some_piece : (piece : List ℕ) → 0 < length piece → piece ≢ []
 some_piece piece some none = absurd (omega (arith, some, ap (λ (l : List ℕ). length l) none))
 
--- less room is left behind a piece, or it was more than there was room for
+-- less room is left after a piece, or it was more than there was room for
 room_falls : (old new : SourceLines) (shape : Shape) (bytes piece : List ℕ) (given : List Message) → Reads old shape bytes given → Reads new shape (bytes ++ piece) given → length bytes ≤ FILE_LIMIT → 0 < length piece
     → (b : Bool) → nat_lt FILE_LIMIT (length (bytes ++ piece)) ≡ b → (new.room < old.room) ⊎ ((old.over_limit ≡ false) × (new.over_limit ≡ true))
 room_falls old new shape bytes piece given reads more within some true over = inr (reads.over ∙ le-ltb FILE_LIMIT (length bytes) within, more.over ∙ over)
@@ -193,7 +193,7 @@ block_lost old new rest left count now shape bytes piece given reads went_on goe
   is_given = subst (λ (e : Bool). IsGiven shape (bytes ++ piece) given e) (sym goes_on) (given_behind shape bytes piece given (subst (λ (e : Bool). IsGiven shape bytes given e) went_on (reads_given old shape bytes given reads)));
 }
 
--- ---- behind the last line that was there
+-- ---- after the last line that was there
 
 -- where no line was left before it, a step is one of the lines that were there
 pub step_behind : (answer : Result (Option Message) SourceStop) (old mid new : SourceLines) (rest left : Option (List ℕ)) (count now : ℕ) (shape : Shape) (bytes : List ℕ) (given : List Message) → is_ended mid ≡ is_ended old

@@ -160,7 +160,7 @@ not_stepped rest old now source lines stop (inr stopped) = none_some (stop ∙ s
   none_some : {s : Option SourceStop} → s ≡ None → IsSome s → ⊥
   none_some {s} e some = true≢false (sym some ∙ ap is_some e)
 
--- ---- what a turn tells
+-- ---- what a turn answers
 
 module _ {S : Type 0} (rest : S → Option (List ℕ)) (old now : SourceWorker S) (mid : List Outgoing) (moved pending stepped : Bool) (puts : PutSoFar old.outlets mid moved (length old.outlets))
     (same : map bare now.outlets ≡ map bare mid) (seen : stepped ≡ true → Stepped rest (record old { outlets = mid }) now) (rested : stepped ≡ false → now ≡ record old { outlets = mid }) where
@@ -214,7 +214,7 @@ stays_on old mid now next before some =
     let then = next (subst IsSome (sym before.stop) some) in
     record { source = then.source ∙ before.source; stop = then.stop ∙ before.stop }
 
--- whether all edges are over is told exactly
+-- it is answered exactly whether all edges are over
 pub over_told : (over : Bool) (os : List Outgoing) → (over ≡ false → SomeOpen os) → AllOver os → over ≡ true
 over_told true os goes all = refl
 over_told false os goes all = absurd (not_both os all (goes refl))
@@ -255,6 +255,7 @@ broken_more (message.Mark t ∷ xs) ys e = broken_more xs ys e
 broken_more (message.End ∷ xs) ys e = broken_more xs ys e
 broken_more (message.Broken ∷ xs) ys e = refl
 
+-- a Broken was sent only where the source stopped, and not as closed
 pub broken_only : {S : Type 0} (rest : S → Option (List ℕ)) (faults : S → ℕ) (shape : Shape) (content : Option (List ℕ)) (count : ℕ) (worker : SourceWorker S) → SourceWorks rest faults shape content count worker → BrokenOnly worker.stop worker.outlets
 broken_only rest faults shape content count worker works k d less broken =
     let o = get_or worker.outlets k d in

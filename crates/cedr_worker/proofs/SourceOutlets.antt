@@ -17,12 +17,15 @@ some_of (x ∷ xs) k less = x
 
 -- ---- what doesn't put
 
+-- what doesn't put leaves as many out edges as there were
 pub bare_length : (old new : List Outgoing) → map bare new ≡ map bare old → length new ≡ length old
 bare_length old new same = map_length bare new old same
 
+-- what doesn't put leaves the edges, in order
 pub bare_edges : (old new : List Outgoing) → map bare new ≡ map bare old → map edge_of new ≡ map edge_of old
 bare_edges old new same = map_ext edge_of old new (bare_length old new same) (λ k d less. ap edge_of (same_at bare new old k d same))
 
+-- what doesn't put leaves what was sent over each edge
 pub bare_sent : (old new : List Outgoing) → map bare new ≡ map bare old → map sent_of new ≡ map sent_of old
 bare_sent old new same = map_ext sent_of old new (bare_length old new same) (λ k d less. ap sent_of (same_at bare new old k d same))
 
@@ -81,6 +84,7 @@ module _ (old new : List Outgoing) (moved : Bool) (puts : PutSoFar old new moved
 
 -- ---- all edges are over
 
+-- where all edges are over, none is open
 pub not_both : (os : List Outgoing) → AllOver os → SomeOpen os → ⊥
 not_both os over s = let d = some_of os s.0 s.1 in true≢false (sym (over s.0 d s.1) ∙ s.2 d)
 

@@ -20,6 +20,7 @@ pub may_close : (node : Node) (lists : Lists) (os : List Outgoing) (broke : Bool
 may_close node lists os true e w = absurd (true≢false e)
 may_close node lists os false e w = let s = w.lost refl in (s.given, s.all, s.goes)
 
+-- where memory was lacking and each input is over, the worker works on with a Broken meant for each out edge
 pub works_closed : (node : Node) (lists : Lists) (old new : List Outgoing) (broke : Bool) → broke ≡ false → all_over lists ≡ true → ((given : List Message) → AllTotal given old → AllTotal (given ++ message.Broken ∷ []) new) → Works node lists old true broke
     → Works node lists new true true
 works_closed node lists old new true e over closed w = absurd (true≢false e)
@@ -29,13 +30,15 @@ works_closed node lists old new false e over closed w = record {
   whole = λ e'. absurd (true≢false e');
 }
 
--- what stays where edges, what was sent and what was refused do
+-- where the edges, what was sent and what was refused stay, they stay at each place
 pub bare_at : (old new : List Outgoing) (k : ℕ) (d : Outgoing) → map bare new ≡ map bare old → bare (get_or new k d) ≡ bare (get_or old k d)
 bare_at old new k d e = same_at bare new old k d e
 
+-- where the edges, what was sent and what was refused stay, so do the edges, in order
 pub bare_edges : (old new : List Outgoing) → map bare new ≡ map bare old → map edge_of new ≡ map edge_of old
 bare_edges old new e = map_ext edge_of old new (map_length bare new old e) (λ k d less. ap edge_of (bare_at old new k d e))
 
+-- and so does what was sent over each edge
 pub bare_sent : (old new : List Outgoing) → map bare new ≡ map bare old → map sent_of new ≡ map sent_of old
 bare_sent old new e = map_ext sent_of old new (map_length bare new old e) (λ k d less. ap sent_of (bare_at old new k d e))
 
@@ -53,13 +56,15 @@ module _ (old new : List Outgoing) (moved : Bool) (puts : PutSoFar old new moved
   pub puts_none : moved ≡ false → map sent_of new ≡ map sent_of old
   puts_none e = map_ext sent_of old new puts.length_is (λ k d less. (puts.rested e k d less less).sent)
 
--- what a round of takes leaves
+-- a round of takes leaves the edge of each input
 pub takes_edges : (old new : List InEnd) (moved : Bool) → TakenSoFar old new moved (length old) → map input_edge new ≡ map input_edge old
 takes_edges old new moved takes = map_ext input_edge old new takes.length_is (λ k d less. (takes.kept k d less less).edge)
 
+-- a round in which nothing was taken leaves the lists that were taken
 pub takes_none : (old new : List InEnd) (moved : Bool) → TakenSoFar old new moved (length old) → moved ≡ false → taken_in new ≡ taken_in old
 takes_none old new moved takes e = map_ext taken_of old new takes.length_is (λ k d less. (takes.rested e k d less less).taken)
 
+-- where one of two is so, the first is or the second is
 pub or_cases : (a b : Bool) → (a || b) ≡ true → (a ≡ true) ⊎ (b ≡ true)
 or_cases true b e = inl refl
 or_cases false b e = inr e
@@ -73,12 +78,15 @@ element (x ∷ xs) k less = x
 not_longer : (xs : List Message) (m : Message) → xs ≡ xs ++ m ∷ [] → ⊥
 not_longer xs m e = absurd (omega (arith, ap (λ (l : List Message). length l) e, length-append xs (m ∷ [])))
 
+-- an input from which a message was taken has another list than before
 pub took_changes : (o n : InEnd) → Took o n → n.taken ≡ o.taken → ⊥
 took_changes o n t e = not_longer o.taken t.message (sym e ∙ t.taken)
 
+-- where the lists that were taken stay, nothing was taken
 pub none_taken : (old new : List InEnd) → taken_in new ≡ taken_in old → SomeTaken old new → ⊥
 none_taken old new e s = let d = element old s.0 s.1 in took_changes (get_or old s.0 d) (get_or new s.0 d) (s.2 d) (same_at taken_of new old s.0 d e)
 
+-- where what was sent over each edge stays, nothing was put
 pub none_put : (old new : List Outgoing) → map sent_of new ≡ map sent_of old → SomePut old new → ⊥
 none_put old new e s =
     let d = element old s.0 s.1 in

@@ -85,7 +85,7 @@ lost_still made lists old new port m broke totals may s = record {
   over = λ e. absurd (true≢false (sym (s.over e) ∙ open_not_over port lists may.port_is may.comes.0));
 }
 
--- a worker goes on behind a message that was taken
+-- a worker goes on after a message that was taken
 pub works_taken : (node node' : Node) (lists : Lists) (old new : List Outgoing) (port : ℕ) (m : Message) (lacked lacked' broke : Bool) → made_of node' ≡ made_of node → MayTake lists port m
     → (lacked' ≡ false → (lacked ≡ false) × (Sound node lists old → Sound node' (with_more lists port (m ∷ [])) new)) → (lacked' ≡ true → map total_of new ≡ map total_of old)
     → Works node lists old lacked broke → Works node' (with_more lists port (m ∷ [])) new lacked' broke
@@ -131,11 +131,12 @@ pub taken_more : (inputs : List InEnd) (port : ℕ) (e y : InEnd) (m : Message) 
 taken_more inputs port e y m within there is =
     map-set taken_of inputs port y ∙ ap (λ (l : List Message). set (taken_in inputs) port l) (is ∙ ap (λ (l : List Message). l ++ m ∷ []) (taken_here inputs port e within there))
 
--- where each of the lists is over, all are; where one isn't, not all are
+-- where each of the lists is over, all are
 pub all_over_if : (lists : Lists) → ((k : ℕ) → k < length lists → is_over (list_at lists k) ≡ true) → all_over lists ≡ true
 all_over_if [] h = refl
 all_over_if (l ∷ ls) h = ap (λ (b : Bool). b && all_over ls) (h 0 (omega arith)) ∙ all_over_if ls (λ k less. h (suc k) (omega arith))
 
+-- where one of the lists isn't over, not all are
 pub not_all_over : (lists : Lists) (k : ℕ) → k < length lists → is_over (list_at lists k) ≡ false → all_over lists ≡ false
 not_all_over [] k less e = absurd (omega arith)
 not_all_over (l ∷ ls) zero less e = ap (λ (b : Bool). b && all_over ls) e
@@ -144,10 +145,11 @@ not_all_over (l ∷ ls) (suc k) less e = behind (is_over l) (not_all_over ls k (
   behind true rest = rest
   behind false rest = refl
 
--- the same of inputs
+-- where each of the inputs is over, all are
 pub inputs_over : (inputs : List InEnd) → ((k : ℕ) (d : InEnd) → k < length inputs → is_over (get_or inputs k d).taken ≡ true) → all_over (taken_in inputs) ≡ true
 inputs_over [] h = refl
 inputs_over (e ∷ es) h = ap (λ (b : Bool). b && all_over (taken_in es)) (h 0 e (omega arith)) ∙ inputs_over es (λ k d less. h (suc k) d (omega arith))
 
+-- where one of the inputs isn't over, not all are
 pub input_open : (inputs : List InEnd) (k : ℕ) (e : InEnd) → k < length inputs → e ≡ get_or inputs k e → is_over e.taken ≡ false → all_over (taken_in inputs) ≡ false
 input_open inputs k e less there goes = not_all_over (taken_in inputs) k (omega (arith, less, length-map inputs taken_of)) (ap is_over (sym (taken_here inputs k e less there)) ∙ goes)

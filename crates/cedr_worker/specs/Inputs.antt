@@ -7,9 +7,11 @@ use Rattle.cedr_laws.specs.Lawful.{is_over}
 use Rattle.cedr_laws.specs.Lists.{Lists}
 use Rattle.cedr_outlet.specs.Rounds.{Round}
 
+-- what was taken from an input
 abbrev pub taken_of : InEnd → List Message
 taken_of e = e.taken
 
+-- the edge of an input
 abbrev pub input_edge : InEnd → TableId
 input_edge e = e.edge
 

@@ -17,7 +17,7 @@ use Rattle.cedr_worker.specs.Inputs.{KeptIn, SomeTaken, AllEmpty, taken_in, inpu
 use Rattle.cedr_worker.specs.Tries.{AllTried}
 use Rattle.op_planned.specs.Meanings.{meaning_of, port_levels}
 
--- the list, and a break behind it
+-- the list, and a break after it
 abbrev pub with_break : Bool → List Message → List Message
 with_break broke given = if broke then given ++ message.Broken ∷ [] else given
 

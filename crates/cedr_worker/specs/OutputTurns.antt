@@ -9,7 +9,7 @@ use Rattle.cedr_worker.specs.declared.output.OutputWorker.{OutputWorker}
 use Rattle.cedr_worker.specs.Inputs.{Asked, Took}
 use Rattle.cedr_worker.specs.Outputs.{Writes}
 
--- the note tells the published list, not for the last time; where there is none, nothing was published
+-- the note says the published list, and isn't the last one; where there is no note, nothing was published
 pub record IsNoted (note : Option Told) (w : Writing) : Type 0 where
   pub some : IfSome note (λ n. n ≡ record { history = w.history; list = w.published; last = false })
   pub none : IfNone note (w.published ≡ nothing)

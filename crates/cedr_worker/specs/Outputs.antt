@@ -46,9 +46,9 @@ pub record WholeOutput (node : Node) (taken : List Message) (list : Listed) : Ty
   pub stands : NodeStands node (taken ∷ []) (passed_by node taken)
   pub list_is : list ≡ output_list node taken
 
--- What holds of an output's node, of the messages that were taken, and of its writer. The writer told nothing for the last
--- time. Its list with what is pending is the output's where memory was found. Where memory was lacking it is a beginning,
--- as the published list always is: no mark is in it without the changes before that mark, and it isn't closed before its end.
+-- What holds of an output's node, of the messages that were taken, and of its writer, which made no last note. Its list
+-- with what is pending is the output's where memory was found. Where memory was lacking it is a beginning, as the
+-- published list always is: no mark is in it without the changes before that mark, and it isn't closed before its end.
 pub record Writes (node : Node) (taken : List Message) (w : Writing) (lacked pending : Bool) : Type 0 where
   pub kind : kind_of (made_of node).kind ≡ output
   pub legal : IsLegal taken
@@ -59,8 +59,8 @@ pub record Writes (node : Node) (taken : List Message) (w : Writing) (lacked pen
   pub waits : MatchBool pending (w.published ≢ w.all) (w.published ≡ w.all)
   pub untold : w.told ≡ false
 
--- a writer was told the first messages of a piece, and all of them where memory was found; something is pending where it
--- was told some
+-- a writer was handed the first messages of a piece, and all of them where memory was found. Something is pending where
+-- it was handed some
 pub record IsTold (given piece : List Message) (old new : Writing) (lacked pending : Bool) : Type 0 where
   pub done : List Message
   pub first : IsPrefix done piece

@@ -40,8 +40,9 @@ BlockCame rest left old new = BytesRead rest left old new ⊎ EndMet old new
 abbrev pub Advanced : Option (List ℕ) → Option (List ℕ) → SourceLines → SourceLines → Type 0
 Advanced rest left old new = LineTaken old new ⊎ BlockCame rest left old new
 
--- ---- what a step's answer tells
+-- ---- what a step answers
 
+-- why the source stopped, by a step's answer, where it did
 abbrev pub stop_of : Result (Option Message) SourceStop → Option SourceStop
 stop_of (Ok message) = None
 stop_of (Err s) = Some s
@@ -64,14 +65,14 @@ pub record TookStep (answer : Result (Option Message) SourceStop) (old new : Sou
 
 -- ---- what becomes of the answer
 
--- a message may come behind what was given
+-- a message may come after what was given
 abbrev pub MayPass : Result (Option Message) SourceStop → List Message → Type 0
 MayPass (Ok (Some m)) given = IsLegal (given ++ m ∷ [])
 MayPass (Ok None) given = Unit {0}
 MayPass (Err s) given = Unit {0}
 
--- The message is meant for each out edge, where there was memory for it, or the last one is. The answer says whether the
--- source stops.
+-- Where there was memory for the message, it is meant for each out edge. Where there was none, or the source stops, the
+-- last message is. The answer says whether the source stops.
 abbrev pub Passed : Result (Option Message) SourceStop → Option SourceStop → List Message → List Outgoing → Type 0
 Passed (Ok None) now given outlets = (now ≡ None) × AllTotal given outlets × AllStaged [] outlets
 Passed (Ok (Some m)) now given outlets = ((now ≡ None) × AllTotal (given ++ m ∷ []) outlets × AllStaged [] outlets) ⊎ ((now ≡ Some stop.OutOfMemory) × AllTotal (given ++ message.Broken ∷ []) outlets)

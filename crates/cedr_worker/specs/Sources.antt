@@ -13,8 +13,8 @@ use Rattle.cedr_worker.specs.declared.source.SourceWorker.{SourceWorker}
 use Rattle.cedr_worker.specs.declared.source.SourceEnd.{SourceEnd}
 use Rattle.cedr_worker.specs.Stops.{last_at, meant, IsGiven, StoppedAs, StoppedSo, CountedSo}
 
--- A worker whose source has this shape, and had this content, where it is told, and this count of faults when the worker
--- was made. `rest` and `faults` say what a source has left and its count.
+-- A worker whose source has this shape, and had this content, where that is known, and this count of faults when the
+-- worker was made. `rest` and `faults` say what a source has left and its count.
 pub record SourceWorks {S : Type 0} (rest : S → Option (List ℕ)) (faults : S → ℕ) (shape : Shape) (content : Option (List ℕ)) (count : ℕ) (worker : SourceWorker S) : Type 0 where
   -- the bytes read, and the messages of the lines that were taken of them
   pub bytes : List ℕ

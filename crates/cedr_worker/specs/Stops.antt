@@ -1,4 +1,4 @@
--- Why a source's worker stopped, and what that tells of its source.
+-- Why a source's worker stopped, and what that says of its source.
 use Rattle.std.specs.Prelude.{ℕ, ◌≡◌, Bool, true, false, List, [], ◌∷◌, ◌++◌, Option, None, Some}
 use Rattle.cedr_base.specs.declared.change.Message.{Message}
 use Rattle.cedr_base.specs.declared.change.Message.TheVariants as message
@@ -32,7 +32,7 @@ meant given (Some s) = given ++ last_message (last_at s) ∷ []
 abbrev pub MayCome : Bool → List ℕ → Type 0
 MayCome ended more = ended ≡ true → more ≡ []
 
--- these are the first messages of the good lines of all bytes, whatever may still come behind the bytes read
+-- these are the first messages of the good lines of all bytes, whatever may still come after the bytes read
 pub record IsGiven (shape : Shape) (bytes : List ℕ) (given : List Message) (ended : Bool) : Type 0 where
   pub front : (more : List ℕ) → MayCome ended more → IsFrontOf given (messages_behind [] (judged shape (bytes ++ more)).good)
   pub legal : IsLegal given
@@ -49,13 +49,14 @@ pub record RefusedAs (shape : Shape) (bytes : List ℕ) (given : List Message) (
   pub first : (more : List ℕ) → MayCome ended more → (judged shape (bytes ++ more)).fault ≡ Some (record { line = line; fault = fault })
   pub all : (more : List ℕ) → MayCome ended more → given ≡ messages_behind [] (judged shape (bytes ++ more)).good
 
--- what a stop tells of the bytes read and the messages given; a refused read comes behind none that gave 0
+-- what a stop says of the bytes read and the messages given; a refused read comes after none that gave 0
 abbrev pub StoppedAs : SourceStop → Shape → List ℕ → List Message → Bool → Type 0
 StoppedAs stop.Closed shape bytes given ended = ClosedAs shape bytes given ended
 StoppedAs (stop.Refused line fault) shape bytes given ended = RefusedAs shape bytes given ended line fault
 StoppedAs stop.ReadFault shape bytes given ended = ended ≡ false
 StoppedAs stop.OutOfMemory shape bytes given ended = Unit {0}
 
+-- the same of a source that may have stopped: one that didn't says nothing
 abbrev pub StoppedSo : Option SourceStop → Shape → List ℕ → List Message → Bool → Type 0
 StoppedSo None shape bytes given ended = Unit {0}
 StoppedSo (Some s) shape bytes given ended = StoppedAs s shape bytes given ended
@@ -68,7 +69,7 @@ CountedSo (Some (stop.Refused line fault)) count now = now ≡ count
 CountedSo (Some stop.ReadFault) count now = Rose count now
 CountedSo (Some stop.OutOfMemory) count now = now ≡ count
 
--- what a Broken on an out edge tells: the source stopped, and not as closed
+-- what a Broken on an out edge says: the source stopped, and not as closed
 abbrev pub BreaksSo : Option SourceStop → Type 0
 BreaksSo None = ⊥
 BreaksSo (Some stop.Closed) = ⊥

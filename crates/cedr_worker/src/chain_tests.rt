@@ -3,7 +3,7 @@ ghost use Rattle.cedr_text.specs.declared.event_line.Shape.{Shape as Lined};
 ghost use Rattle.cedr_worker.specs.Sources.{SourceWorks};
 ghost use Rattle.cedr_worker.specs.Workers.{IsWorking};
 
-use crate::operator_tests::{SELECT, read_node};
+use crate::operator_tests::select_worker;
 use crate::source_tests::{one_edge, source_of, take_all, turn_once};
 use crate::{OperatorWorker, SourceWorker, Turn};
 use cedr_base::{FieldType, OutOfMemory};
@@ -19,7 +19,7 @@ const EVENTS: &[u8] = b"+,1,1,10,3\n+,2,2,20,5\n=,4\n+,3,4,9,7\n-,2,5\n";
 
 const SELECTED: &[u8] = b"+,2,20,5\n=4\n+,4,9,7\n-,5,2,20,5\n=inf\n.\n";
 
-/// A source, a select behind it, and the end of the edge that the select puts on.
+/// A source, a select after it, and the end of the edge that the select puts on.
 #[derive(Drop)]
 struct Chain {
     source: SourceWorker<ListSource>,
@@ -40,9 +40,7 @@ fn chain_of(alloc: Global, piece: usize, room: usize) -> Result<Chain, Fail>
     let Ok(source) = SourceWorker::new(alloc, 0, source, Shape::Fields(types), first) else {
         return Err("there is memory")?;
     };
-    let node = read_node(alloc, SELECT, 1, 1)?;
-    let inputs = vec![in alloc; input]?;
-    let select = OperatorWorker::new(alloc, 1, node, inputs, second)?;
+    let select = select_worker(alloc, input, second)?;
     Ok(Chain {
         source,
         select,

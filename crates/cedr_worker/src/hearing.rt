@@ -25,7 +25,8 @@ pub(crate) struct Hears {
     pub(crate) pending: bool,
 }
 
-/// Lets the node take a message, and tells the writer what it gives, or drops it where memory was lacking.
+/// Lets the node take a message, and hands what it gives to the writer. Where memory was lacking the message is
+/// dropped.
 fn hear(
     alloc: Global,
     node: &mut Node,

@@ -1,4 +1,6 @@
 ghost use Rattle.std.specs.Prelude.{◌≡◌, ◌≤◌, List, [], IfOk, IfErr, OnOk, replicate};
+ghost use Rattle.std.specs.List.{All};
+ghost use Rattle.cedr_edge.specs.Ends.{OutEnd};
 ghost use Rattle.cedr_node.specs.Nodes.{port_count, NodeStands};
 ghost use Rattle.cedr_plan.specs.Rules.{IsPlan};
 ghost use Rattle.msg_feed.specs.Came.{StandsFor};
@@ -17,7 +19,7 @@ use std::sync::Wait;
 use std::sync::atomic::{AtomicU64, Ordering};
 use std::test::Fail;
 
-pub(crate) const SELECT: &str = r#"{"version":1,"nodes":[
+const SELECT: &str = r#"{"version":1,"nodes":[
  {"name":"s","op":"source","file":"s.csv","fields":["int"]},
  {"name":"f","op":"select","from":["s"],"where":[[0,">=",{"int":5}]]},
  {"name":"out","op":"output","from":["f"]}]}"#;
@@ -43,15 +45,6 @@ struct One {
     last: EdgeIn,
 }
 
-/// A worker with two inputs, and the other ends of its edges.
-#[derive(Drop)]
-struct Two {
-    worker: OperatorWorker,
-    left: Feeder,
-    right: Feeder,
-    last: EdgeIn,
-}
-
 /// The node at a place of a plan, which is no source and has so many ports.
 fn node_at(alloc: Global, plan: &Plan, place: usize, ports: usize) -> Result<Node, Fail>
     requires { IsPlan plan.now }
@@ -68,7 +61,7 @@ fn node_at(alloc: Global, plan: &Plan, place: usize, ports: usize) -> Result<Nod
 }
 
 /// The node at a place of the plan that a text describes.
-pub(crate) fn read_node(alloc: Global, text: &str, place: usize, ports: usize) -> Result<Node, Fail>
+fn read_node(alloc: Global, text: &str, place: usize, ports: usize) -> Result<Node, Fail>
     ensures { IfOk result (λ node. (port_count node ≡ ports) × NodeStands node (replicate ports []) []) }
 {
     let plan = read_plan(alloc, text.as_bytes())?;
@@ -86,40 +79,50 @@ pub(crate) fn feed_of(alloc: Global, room: usize) -> Result<(Feeder, EdgeIn), Fa
     Ok((Feeder { out, came }, input))
 }
 
+/// The worker of the select, over these edges.
+pub(crate) fn select_worker(
+    alloc: Global,
+    input: EdgeIn,
+    outputs: Vec<EdgeOut>,
+) -> Result<OperatorWorker, Fail>
+    requires input { input.taken ≡ [] }
+    requires outputs { All (λ (e : OutEnd). e.sent ≡ []) outputs.items }
+    ensures { IfOk result IsWorking }
+{
+    let inputs = vec![in alloc; input]?;
+    let node = read_node(alloc, SELECT, 1, 1)?;
+    Ok(OperatorWorker::new(alloc, 1, node, inputs, outputs)?)
+}
+
 /// The worker of the select, whose out edge has this room.
 fn select(alloc: Global, room: bool) -> Result<One, Fail>
     ensures works { IfOk result (λ one. IsWorking one.worker) }
     ensures came { IfOk result (λ one. StandsFor one.feed.came one.feed.out.sent) }
 {
-    let node = read_node(alloc, SELECT, 1, 1)?;
     let (feed, input) = feed_of(alloc, 64)?;
     let capacity = if room { 64 } else { 1 };
     let (out, last) = new_edge(alloc, capacity)?;
-    let inputs = vec![in alloc; input]?;
     let outputs = vec![in alloc; out]?;
-    let worker = OperatorWorker::new(alloc, 1, node, inputs, outputs)?;
+    let worker = select_worker(alloc, input, outputs)?;
     Ok(One { worker, feed, last })
 }
 
-/// The worker of the union, whose out edge has room.
-fn union(alloc: Global) -> Result<Two, Fail>
-    ensures works { IfOk result (λ two. IsWorking two.worker) }
-    ensures left { IfOk result (λ two. StandsFor two.left.came two.left.out.sent) }
-    ensures right { IfOk result (λ two. StandsFor two.right.came two.right.out.sent) }
+/// The worker of the union, over these edges.
+fn union_worker(
+    alloc: Global,
+    first: EdgeIn,
+    second: EdgeIn,
+    out: EdgeOut,
+) -> Result<OperatorWorker, Fail>
+    requires first { first.taken ≡ [] }
+    requires second { second.taken ≡ [] }
+    requires out { out.sent ≡ [] }
+    ensures { IfOk result IsWorking }
 {
-    let node = read_node(alloc, UNION, 2, 2)?;
-    let (left, first) = feed_of(alloc, 64)?;
-    let (right, second) = feed_of(alloc, 64)?;
-    let (out, last) = new_edge(alloc, 64)?;
     let inputs = vec![in alloc; first, second]?;
     let outputs = vec![in alloc; out]?;
-    let worker = OperatorWorker::new(alloc, 2, node, inputs, outputs)?;
-    Ok(Two {
-        worker,
-        left,
-        right,
-        last,
-    })
+    let node = read_node(alloc, UNION, 2, 2)?;
+    Ok(OperatorWorker::new(alloc, 2, node, inputs, outputs)?)
 }
 
 /// Puts a message that may come.
@@ -136,7 +139,7 @@ pub(crate) fn feed<R: Wait>(
     if !feed.came.may_come(&message) {
         return Err("the message may not come")?;
     }
-    feed.came.note(&message)?;
+    feed.came.note(alloc, &message)?;
     feed.out.count();
     match feed.out.put(rt, message) {
         Ok(()) => Ok(()),
@@ -389,19 +392,33 @@ fn a_turn_passes_the_gate_once(rt: HostRuntime) -> Result<(), Fail> {
     Ok(())
 }
 
+/// The left input breaks, and the right one goes on and ends. What is left of the worker.
+fn break_left<R: Wait>(
+    rt: &R,
+    alloc: Global,
+    mut worker: OperatorWorker,
+    left: &mut Feeder,
+    right: &mut Feeder,
+    last: &mut EdgeIn,
+) -> Result<OperatorEnd, Fail>
+    requires works { IsWorking worker }
+    requires came_left { StandsFor left.old.came left.old.out.sent }
+    requires came_right { StandsFor right.old.came right.old.out.sent }
+{
+    feed_all(rt, alloc, left, &[Told::Add(1, 0, 10), Told::Broken])?;
+    play(rt, alloc, &mut worker, right, last, &BROKEN_LEFT)?;
+    feed_all(rt, alloc, right, &[Told::Add(3, 2, 5), Told::End])?;
+    drive(rt, worker, last, &[Told::Broken])
+}
+
 #[test]
 fn a_break_waits_for_the_other_input(rt: HostRuntime) -> Result<(), Fail> {
     let alloc = rt.alloc();
-    let Two {
-        mut worker,
-        mut left,
-        mut right,
-        mut last,
-    } = union(alloc)?;
-    feed_all(&rt, alloc, &mut left, &[Told::Add(1, 0, 10), Told::Broken])?;
-    play(&rt, alloc, &mut worker, &mut right, &mut last, &BROKEN_LEFT)?;
-    feed_all(&rt, alloc, &mut right, &[Told::Add(3, 2, 5), Told::End])?;
-    let end = drive(&rt, worker, &mut last, &[Told::Broken])?;
+    let (mut left, first) = feed_of(alloc, 64)?;
+    let (mut right, second) = feed_of(alloc, 64)?;
+    let (out, mut last) = new_edge(alloc, 64)?;
+    let worker = union_worker(alloc, first, second, out)?;
+    let end = break_left(&rt, alloc, worker, &mut left, &mut right, &mut last)?;
     assert_eq!(rt; end.ran.taken(), 5);
     assert_eq!(rt; end.ran.put(), 3);
     Ok(())

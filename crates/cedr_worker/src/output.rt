@@ -48,7 +48,7 @@ pub struct OutputEnd {
     pub node: Node,
     pub input: EdgeIn,
     pub writer: Writer,
-    /// It tells the published list. `None` where nothing was published.
+    /// It says the published list. `None` where nothing was published.
     pub note: Option<Note>,
     /// Memory was lacking in a turn.
     pub lacked: bool,
@@ -89,7 +89,7 @@ impl OutputWorker {
         }
     }
 
-    /// What a turn does behind its gate. Says whether a message was taken, or more was published.
+    /// What a turn does once it passed its gate. Says whether a message was taken, or more was published.
     fn step<R: Wait>(&mut self, rt: &R) -> bool
         requires { OutputWorks self.old }
         ensures works { OutputWorks self.new }

@@ -181,7 +181,7 @@ fn played<R: Wait>(
     done
 }
 
-/// Two rows that wait for a mark behind their ends, or for the end of all.
+/// Two rows that wait for a mark after their ends, or for the end of all.
 const ENDS_ALONE: [Told; 2] = [Told::Add(1, 1, 10), Told::Add(2, 4, 10)];
 
 const STRONG_ACTS: [Act; 18] = [
@@ -211,7 +211,7 @@ fn a_strong_output_shows_what_is_final(rt: HostRuntime) -> Result<(), Fail> {
     played(&rt, rt.alloc(), STRONG, 64, &ENDS_ALONE, &STRONG_ACTS)
 }
 
-/// A mark behind both ends comes before the end of all.
+/// A mark after both ends comes before the end of all.
 const MARKED_ACTS: [Act; 11] = [
     Act::Feed(Told::Add(1, 1, 10)),
     Act::Turn(Turn::Moved),
@@ -409,8 +409,8 @@ fn run_both<S: Source + Drop + Send, R: Threads + Wait + Clock + Sync>(
     );
 }
 
-/// A source of the lines and an output behind it, over an edge of this room, in two threads. Says whether the reader sees
-/// the whole list in the end.
+/// A source of the lines and an output after it, over an edge of this room, in two threads. Says whether the reader
+/// sees the whole list in the end.
 fn in_two_threads<R: Threads + Wait + Clock + Sync>(
     rt: &R,
     alloc: Global,

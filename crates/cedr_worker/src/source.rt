@@ -24,7 +24,7 @@ use std::alloc::Global;
 use std::sync::Wait;
 use std::time::Clock;
 
-/// Reads one event source and sends the messages of its lines on each of its out edges, with `End` behind them, or
+/// Reads one event source and sends the messages of its lines on each of its out edges, with `End` after them, or
 /// `Broken` where it stopped otherwise.
 #[derive(Drop)]
 pub struct SourceWorker<S: Source + Drop> {

@@ -6,7 +6,7 @@ ghost use Rattle.cedr_worker.specs.Outputs.{list_from, IsTold};
 use cedr_base::{Message, OutOfMemory};
 use cedr_history::{Close, Writer};
 
-/// What came of telling a writer messages.
+/// What came of handing messages to a writer.
 #[derive(Clone, Copy)]
 pub(crate) struct Tells {
     /// Memory lacked for one of them.

@@ -1,4 +1,4 @@
--- What may come where a table and a mark are known, and what is known behind it.
+-- What may come where a table and a mark are known, and what is known after it.
 use Rattle.std.proofs.Common.{◌≡◌, ℕ, List, [], ◌∷◌, ◌++◌, false, refl, subst, sym, arith}
 use Rattle.cedr_base.specs.declared.row.Row.{Row}
 use Rattle.cedr_base.specs.declared.change.Change.{Change}
@@ -13,7 +13,7 @@ use Rattle.cedr_stream.proofs.Legal.{table_moved, table_stays, mark-append, open
 use Rattle.msg_feed.specs.declared.came.Came.{Came}
 use Rattle.msg_feed.specs.Came.{StandsFor}
 
--- what may follow in a table may follow behind the changes that make it
+-- what may follow in a table may follow after the changes that make it
 pub may_follow_changes : (ms : List Message) (rows : List Row) (c : Change) → IsTableOf ms rows → MayFollow rows [] c → MayFollow [] (changes_of ms) c
 may_follow_changes ms rows (Add a) is h = h
 may_follow_changes ms rows (Cut a e) is h = (h.0, (let there = h.1 in let counts = is.sums.each a in omega (arith, counts, count_of-append a rows (all_takes (changes_of ms)))))

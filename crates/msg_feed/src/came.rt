@@ -29,7 +29,7 @@ impl Came {
         }
     }
 
-    /// Whether the message may come behind those that came. It takes O(log n) and no memory.
+    /// Whether the message may come after those that came. It takes O(log n) and no memory.
     pub fn may_come(&self, message: &Message) -> bool
         ensures { result ≡ true → (ms : List Message) → StandsFor self.now ms → MayCome ms message.now }
     {
@@ -47,11 +47,11 @@ impl Came {
     }
 
     /// A message came that may. Where memory runs out this is only to be dropped.
-    pub fn note(&mut self, message: &Message) -> Result<(), OutOfMemory>
+    pub fn note(&mut self, alloc: Global, message: &Message) -> Result<(), OutOfMemory>
         ensures { OnOk result ((ms : List Message) → StandsFor self.old ms → MayCome ms message.now → StandsFor self.new (ms ++ message.now ∷ [])) }
     {
         match message {
-            Message::Change(change) => note(&mut self.table, change)?,
+            Message::Change(change) => note(&mut self.table, change.copy(alloc)?)?,
             Message::Mark(time) => self.mark = *time,
             Message::End => self.open = false,
             Message::Broken => self.open = false,

@@ -1,4 +1,4 @@
-//! Messages for a port, each tested at run time: what a test of what takes messages feeds it with.
+//! Messages for a port, each tested at run time. Tests feed with them whatever takes messages.
 #![tactic(auto)]
 
 mod came;

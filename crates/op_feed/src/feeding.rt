@@ -33,8 +33,8 @@ pub fn may_come(table: &Table, change: &Change) -> bool
 }
 
 /// Applies a change that may come.
-pub fn note(table: &mut Table, change: &Change) -> Result<(), OutOfMemory>
-    ensures { OnOk result (SameRows (table.new ++ takes change.now) (table.old ++ puts change.now)) }
+pub fn note(table: &mut Table, change: Change) -> Result<(), OutOfMemory>
+    ensures { OnOk result (SameRows (table.new ++ takes change) (table.old ++ puts change)) }
 {
     match table.apply(change) {
         Ok(()) => Ok(()),
@@ -62,8 +62,8 @@ pub fn feed<O: Operator>(
     if !may_come(&tables[port], change) {
         return Ok(false);
     }
-    op.apply(alloc, port, change, out)?;
-    note(&mut tables[port], change)?;
+    op.apply(alloc, port, change.copy(alloc)?, out)?;
+    note(&mut tables[port], change.copy(alloc)?)?;
     Ok(true)
 }
 
@@ -118,7 +118,7 @@ pub(crate) fn row_of(
     })
 }
 
-/// A change of a row whose payload is numbers: to its begin and its end, or cut to an earlier end.
+/// A change of a row whose payload is numbers: its addition, or its cut to an earlier end.
 pub fn change_of(
     alloc: Global,
     begin: Time,

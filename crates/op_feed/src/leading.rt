@@ -13,9 +13,9 @@ pub type Step<'a> = (Given, &'a [WantedRow<'a>]);
 
 /// Applies the answers of an operator to the rows of its result, up to the first one that may not come. Whether all
 /// of them came.
-pub(crate) fn repair(rows: &mut Table, answers: &[Change]) -> bool {
+pub(crate) fn repair(rows: &mut Table, answers: Vec<Change>) -> bool {
     for answer in answers {
-        if !may_come(rows, answer) || rows.apply(answer).is_err() {
+        if !may_come(rows, &answer) || rows.apply(answer).is_err() {
             return false;
         }
     }
@@ -63,7 +63,7 @@ pub fn leads<O: Operator>(
         )? {
             return Ok(false);
         }
-        if !repair(&mut rows, out.as_slice()) || !has_rows(alloc, &rows, wanted)? {
+        if !repair(&mut rows, out) || !has_rows(alloc, &rows, wanted)? {
             return Ok(false);
         }
     }

@@ -109,8 +109,8 @@ fn some_change(
     some_addition(alloc, random, mark, width)
 }
 
-/// A made change comes on some port, or a higher mark, and the operator is trimmed at its marks. The payloads of rows have
-/// so many numbers, each of them one of three. The answer says whether it could come.
+/// A made change comes on some port, or a higher mark, and the operator is trimmed at its marks. The payloads of rows
+/// have so many numbers, each of them one of three. The answer says whether it could come.
 pub fn go_on<O: Operator>(
     alloc: Global,
     op: &mut O,

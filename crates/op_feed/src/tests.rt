@@ -5,7 +5,7 @@ use cedr_table::Table;
 use std::alloc::Global;
 use std::test::Fail;
 
-/// Changes of rows with one payload: each to its begin and its end, or cut to an earlier end.
+/// Changes of rows with one payload: each is an addition, or a cut to an earlier end.
 fn changes(alloc: Global, told: &[(Time, Time, Option<Time>)]) -> Result<Vec<Change>, OutOfMemory> {
     let mut changes = Vec::new(alloc);
     for (begin, end, to) in told {
@@ -26,7 +26,7 @@ fn answers_that_may_not_come_are_told(rt: HostRuntime) -> Result<(), Fail> {
     ] {
         let mut rows = Table::new(alloc);
         let answers = changes(alloc, told)?;
-        assert_eq!(rt; repair(&mut rows, answers.as_slice()), comes);
+        assert_eq!(rt; repair(&mut rows, answers), comes);
     }
     Ok(())
 }

@@ -30,10 +30,12 @@ use Rattle.op_group.specs.GroupLaws.{payload_exact, payload_itself}
 use Rattle.op_group.specs.State.{ShowsFrom, ShowsRows, KeepsGroups, NoneEmpty, IsPassed, Answers, cuts_of, row_of}
 use Rattle.op_group.proofs.GroupRepairs.{group_moves, group_follows, rows_of_are, other_shows}
 
+-- the last time that a change touches is the end of its row
 pub last_row : (c : Change) → (row_of c).end ≡ last_of c
 last_row (Add r) = refl
 last_row (Cut r e) = refl
 
+-- a list of cut points of length 0 is empty
 pub nil_from_length : (cuts : List (ℕ × Segment)) → length cuts ≡ 0 → cuts ≡ []
 nil_from_length [] h = refl
 nil_from_length (e ∷ cuts) h = absurd (omega arith)

@@ -62,6 +62,7 @@ head_least p points t key sorted there = head_at (is_at (point_cmp (record { at 
   head_at true is h = let same = (same_point t key p is).at in omega arith
   head_at false is h = all_above p points t key sorted.0 h
 
+-- cut points that ascend do so without the first one
 pub tail_sorted : (p : CutPoint) (points : List CutPoint) → IsStrictlySortedBy point_cmp (p ∷ points) → IsStrictlySortedBy point_cmp points
 unfolding IsStrictlySortedBy
 tail_sorted p points sorted = sorted.1
@@ -73,16 +74,18 @@ in_rest p points t key other there = rest_at (is_at (point_cmp (record { at = t;
   rest_at true is h = let same = same_point t key p is in absurd (other (same.at, same.key_is))
   rest_at false is h = h
 
+-- a cut point that is among others is among them with one more in front
 pub from_rest : (p : CutPoint) (points : List CutPoint) (t : ℕ) (key : List Field) → has_point points t key ≡ true → has_point (p ∷ points) t key ≡ true
 from_rest p points t key there = at_either (is_at (point_cmp (record { at = t; key = key })) p) where
   at_either : (b : Bool) → (b || has_point points t key) ≡ true
   at_either true = refl
   at_either false = there
 
+-- the first of some cut points is among them
 pub head_there : (p : CutPoint) (points : List CutPoint) → has_point (p ∷ points) p.at p.key ≡ true
 head_there p points = ap {B = Bool} (λ b. b || has_point points p.at p.key) (point_at p.at p.at p.key p.key ∙ (ap (λ b. b && same_payload p.key p.key) (Rattle.std.proofs.lemmas.Bool.eq-eqb p.at p.at refl) ∙ Rattle.op_group.specs.GroupLaws.payload_itself p.key))
 
--- a cut point that isn't open isn't
+-- where the answer is that a cut point isn't open, it isn't
 pub not_open : (groups : List (List Field × BTreeMap ℕ Segment)) (p : CutPoint) (t : ℕ) (key : List Field) (mark : ℕ) (told : Bool) → (IsOpenCut (cuts_of groups p.key) p.at mark → told ≡ true) → told ≡ false → t ≡ p.at → key ≡ p.key → IsOpenCut (cuts_of groups key) t mark → ⊥
 not_open groups p t key mark told is gone at key_is cut = false_not_true told gone (is (subst (λ k. IsOpenCut (cuts_of groups k) p.at mark) key_is (subst (λ (n : ℕ). IsOpenCut (cuts_of groups key) n mark) at cut)))
 

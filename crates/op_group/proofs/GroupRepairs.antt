@@ -88,6 +88,7 @@ other_sum g key w c old new other moved = omega (
   untouched_sums (keyed g key w) c (other_untouched g key w c other),
 )
 
+-- a change leaves each group of another key the same at each time
 pub other_same : (g : Grouping) (key : List Field) (c : Change) (old new : List Row) (t : ℕ) → same_payload key (key_of g (row_of c)) ≡ false → IsMoved c old new → SameAt g key old new t
 other_same g key c old new t other moved = same_at g key old new t (other_sum g key (edge_at t) c old new other moved) (other_sum g key (part_at (λ _. 1) t) c old new other moved) (λ column. other_sum g key (part_at (number_at column) t) c old new other moved)
 

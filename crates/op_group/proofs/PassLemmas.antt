@@ -17,16 +17,18 @@ use Rattle.op_group.specs.State.{since, ShowsFrom, ShowsRows, KeepsGroups, IsPas
 use Rattle.op_group.proofs.Shown.{shown, shows_none}
 use Rattle.op_group.proofs.SinceLemmas.{there_from_some, since_there, since_before, cut_shown}
 
--- before the time and at it, where nothing is valid from it on, nothing is left; and after it all is
+-- before the time nothing is left
 pub none_left : (at u : ℕ) (cuts : List (ℕ × Segment)) → u < at → left_from at cuts u ≡ None
 none_left at u cuts before = ap (λ b. cond (b || (nat_eq u at && is_empty_from (segment_at u cuts))) None (segment_at u cuts)) (lt-ltb u at before)
 
+-- of the time itself nothing is left where nothing is valid from it on, and else what was there
 pub at_left : (at : ℕ) (cuts : List (ℕ × Segment)) (b : Bool) → is_empty_from (segment_at at cuts) ≡ b → left_from at cuts at ≡ cond b None (segment_at at cuts)
 at_left at cuts b is =
     ap (λ d. cond (d || (nat_eq at at && is_empty_from (segment_at at cuts))) None (segment_at at cuts)) (le-ltb at at (omega arith))
     ∙ (ap (λ d. cond (d && is_empty_from (segment_at at cuts)) None (segment_at at cuts)) (eq-eqb at at refl)
     ∙ ap (λ d. cond d None (segment_at at cuts)) is)
 
+-- at each later time what was there is left
 pub all_left : (at u : ℕ) (cuts : List (ℕ × Segment)) → at < u → left_from at cuts u ≡ segment_at u cuts
 all_left at u cuts after =
     ap (λ d. cond (d || (nat_eq u at && is_empty_from (segment_at u cuts))) None (segment_at u cuts)) (le-ltb u at (omega arith))

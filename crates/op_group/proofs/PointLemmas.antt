@@ -25,6 +25,7 @@ point_at at t key other = sym (tied_then (nat_cmp at t) (payload_cmp key other))
 abbrev pub IsUpdate : CutPoint → Bool → List CutPoint → List CutPoint → Type 0
 IsUpdate point there old new = (q : CutPoint) → list_any (is_at (point_cmp q)) new ≡ cond (is_at (point_cmp point) q) there (list_any (is_at (point_cmp q)) old)
 
+-- a set that is updated at one cut point has that one where it is said to, and the others as before
 pub placed : (old new : List CutPoint) (at : ℕ) (key : List Field) (there : Bool) → IsUpdate (record { at = at; key = key }) there old new → Places old new at key there
 placed old new at key there update t other = update (record { at = t; key = other }) ∙ ap (λ b. cond b there (has_point old t other)) (point_at at t key other)
 
@@ -53,7 +54,7 @@ follows_both old between new key cuts first last one two t other =
     (one t other ∙ first_same cuts first t (nat_eq first t) (same_payload key other) (has_point old t other) refl)
     (λ is. ap (λ n. is_some (segment_at n cuts)) (eqb-true last t is))
 
--- what stands behind no other one in a set has the least time
+-- what stands after no other one in a set has the least time
 pub least_first : (points : List CutPoint) (point : CutPoint) → ((q : CutPoint) → IsTrue (list_any (is_at (point_cmp q)) points) → is_gt (point_cmp point q) ≡ false) → (t : ℕ) (key : List Field) → has_point points t key ≡ true → point.at ≤ t
 least_first points point least t key there = elim (cases_lt t point.at) [
   | inr behind ↦ behind
@@ -120,6 +121,7 @@ pub leaves_both : (key : List Field) (a b c : List (ℕ × Segment)) (p q r : Li
 leaves_both key a b c p q r one two fewer fewest u other =
     joined (same_payload key other) (is_some (segment_at u a)) (is_some (segment_at u b)) (is_some (segment_at u c)) (has_point p u other) (has_point q u other) (has_point r u other) (one u other) (two u other) (fewer u) (fewest u)
 
+-- a cut point from which on nothing is valid is there
 pub some_from_empty : (o : Option Segment) → is_empty_from o ≡ true → is_some o ≡ true
 some_from_empty None h = cc
 some_from_empty (Some s) h = refl

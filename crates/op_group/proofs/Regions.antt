@@ -101,9 +101,11 @@ pub among_times : (t : ℕ) (cuts : List (ℕ × Segment)) → among t (times_of
 among_times t [] = refl
 among_times t (e ∷ cuts) = found_at (nat_eq t e.0) e.1 (segment_at t cuts) (among t (times_of cuts)) (among_times t cuts) ∙ ap (λ b. is_some (cond b (Some e.1) (segment_at t cuts))) (sym (at_is t e.0))
 
+-- a map has its first entry at that entry's time
 pub head_found : (t : ℕ) (s : Segment) (cuts : List (ℕ × Segment)) → segment_at t ((t, s) ∷ cuts) ≡ Some s
 head_found t s cuts = ap (λ b. cond b (Some s) (segment_at t cuts)) (at_is t t ∙ eq-eqb t t refl)
 
+-- what is found among entries is found with an earlier entry in front of them, too
 pub tail_found : (t p : ℕ) (s s0 : Segment) (cuts : List (ℕ × Segment)) → AllAbove p (times_of cuts) → segment_at t cuts ≡ Some s → segment_at t ((p, s0) ∷ cuts) ≡ Some s
 tail_found t p s s0 cuts above found =
     let over = above_among p t (times_of cuts) above (among_times t cuts ∙ ap (λ o. is_some o) found) in
@@ -117,9 +119,11 @@ agree_all living sums ((p, s0) ∷ cuts) up h = (h p s0 (head_found p s0 cuts), 
 agree_shown : (sums : List ℕ) (mark from : ℕ) (cuts : List (ℕ × Segment)) (rows : List Row) → Ascends (times_of cuts) → ShowsFrom sums mark from cuts rows → AllAgree (living_of rows) (sums_of sums rows) cuts
 agree_shown sums mark from cuts rows up shows = agree_all (living_of rows) (sums_of sums rows) cuts up (λ t s found. let is = cut_shown sums mark from cuts rows t s shows found in (is.living_are, is.sums_are))
 
+-- a time lies from one time to another, both included
 abbrev pub within : ℕ → ℕ → ℕ → Bool
 within lo hi t = range_contains nat_cmp (Included lo) (Included hi) t
 
+-- the cut points of a map from one time to another, both included
 abbrev pub between : ℕ → ℕ → List (ℕ × Segment) → List (ℕ × Segment)
 between lo hi cuts = entries_between nat_cmp (Included lo) (Included hi) cuts
 

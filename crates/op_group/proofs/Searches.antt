@@ -26,6 +26,7 @@ placed row (x ∷ xs) h = elim (cases_lt 0 (one_if_same row x)) [
   | inr not_here ↦ let rest = placed row xs (omega (arith, count_of-cons row x xs)) in record { place = suc rest.place; within = let w = rest.within in omega arith; is = λ d. rest.is d }
 ]
 
+-- a binary search of sorted rows finds a row exactly where it is among them
 pub found_where_there : (rows : List Row) (row : Row) (r : Result ℕ ℕ) → IsSorted row_cmp rows → IsSearchInRange r (length rows) → IsBinarySearchResult (λ y. row_cmp y row) rows r → is_ok r ≡ nat_lt 0 (count_of row rows)
 found_where_there rows row (Ok i) sorted range found =
     let is : get_or rows i row ≡ row = exact_rows (get_or rows i row) row (found row) in

@@ -28,6 +28,7 @@ shown_some_at s n l ts false h e =
     let not_none = eqb-false n 0 h in
     record { some_edge = omega arith; edges_are = ap (λ (x : Segment). x.edges) is; living_are = ap (λ (x : Segment). x.living) is; sums_are = ap (λ (x : Segment). x.totals) is }
 
+-- where a segment is shown, an edge stands, and the segment has the numbers that are shown
 pub shown_some : (s : Segment) (n l : ℕ) (ts : List ℕ) → Some s ≡ shown n l ts → IsShown s n l ts
 shown_some s n l ts e = shown_some_at s n l ts (nat_eq n 0) refl e
 
@@ -35,6 +36,7 @@ shown_none_at : (n l : ℕ) (ts : List ℕ) (b : Bool) → nat_eq n 0 ≡ b → 
 shown_none_at n l ts true h e = eqb-true n 0 h
 shown_none_at n l ts false h e = cc
 
+-- where nothing is shown, no edge stands
 pub shown_none : (n l : ℕ) (ts : List ℕ) → None ≡ shown n l ts → n ≡ 0
 shown_none n l ts e = shown_none_at n l ts (nat_eq n 0) refl e
 
@@ -44,6 +46,7 @@ shows_some n l ts h =
     let many : nat_eq n 0 ≡ false = grind (arith) in
     ap {B = Option Segment} (λ b. cond b None (Some (record { edges = n; living = l; totals = ts }))) many
 
+-- where no edge stands, nothing is shown
 pub shows_none : (n l : ℕ) (ts : List ℕ) → n ≡ 0 → shown n l ts ≡ None
 shows_none n l ts h = ap {B = Option Segment} (λ b. cond b None (Some (record { edges = n; living = l; totals = ts }))) (eq-eqb n 0 h)
 
@@ -155,6 +158,7 @@ stays_more width n m l s h stays = record {
   none_summed = λ t none. stays.none_summed t (λ u under. let k = none u under in let x = h u in omega arith);
 }
 
+-- a map that shows some numbers shows all that are the same at each time
 pub shows_alike : (cuts : List (ℕ × Segment)) (n n' l l' : ℕ → ℕ) (s s' : ℕ → List ℕ) → ((t : ℕ) → n t ≡ n' t) → ((t : ℕ) → l t ≡ l' t) → ((t : ℕ) → s t ≡ s' t) → Shows cuts n l s → Shows cuts n' l' s'
 shows_alike cuts n n' l l' s s' e f g shows = record { at = λ t. shows.at t ∙ (ap (λ k. shown k (l t) (s t)) (e t) ∙ (ap (λ k. shown (n' t) k (s t)) (f t) ∙ ap (λ k. shown (n' t) (l' t) k) (g t))) }
 

@@ -172,6 +172,7 @@ cut_since columns mark from cuts rows t h =
 pub cut_is : (columns : List ℕ) (mark from : ℕ) (cuts : List (ℕ × Segment)) (rows : List Row) (t : ℕ) → ShowsFrom columns mark from cuts rows → from ≤ t → is_some (segment_at t cuts) ≡ is_cut_of rows t
 cut_is columns mark from cuts rows t h low = cut_since columns mark from cuts rows t h ∙ ap (nat_lt 0) (since_there from 0 (edges_of rows) t low)
 
+-- a map has a segment at a time, and this is it
 pub record IsThere (o : Option Segment) : Type 0 where
   pub segment : Segment
   pub is : o ≡ Some segment

@@ -22,5 +22,6 @@ summed_all (x ∷ xs) [] (suc i) h = refl
 summed_all (x ∷ xs) (n ∷ ns) zero h = absurd (omega arith)
 summed_all (x ∷ xs) (n ∷ ns) (suc i) h = ap (λ ys. ((x + n) % 2 ^ 128) ∷ ys) (summed_all xs ns i (omega arith))
 
+-- sums to which nothing was added yet are the same
 pub summed_start : (xs : List ℕ) → xs ≡ summed xs []
 summed_start xs = sym (summed_none xs)

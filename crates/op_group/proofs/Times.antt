@@ -8,12 +8,15 @@ use Rattle.std.specs.Cmp.{nat_cmp_is}
 use Rattle.std.proofs.lemmas.Bool.{cases_lt, eq-eqb}
 use Rattle.op_group.specs.TimeLaws.{below_test, above_test}
 
+-- an earlier time compares as less
 pub lt_cmp : (t u : ℕ) → t < u → nat_cmp t u ≡ Less
 lt_cmp t u h = sym (nat_cmp_is t u Less h)
 
+-- a later time compares as greater
 pub gt_cmp : (t u : ℕ) → u < t → nat_cmp t u ≡ Greater
 gt_cmp t u h = sym (nat_cmp_is t u Greater h)
 
+-- the same time compares as equal
 pub eq_cmp : (t u : ℕ) → t ≡ u → nat_cmp t u ≡ Equal
 eq_cmp t u h = sym (nat_cmp_is t u Equal h)
 
@@ -27,7 +30,7 @@ at_is t u = elim (cases_lt t u) [
   ]
 ]
 
--- a time that doesn't compare as less isn't before another
+-- a time that compares as less than another one is before it
 pub cmp_lt : (t u : ℕ) → nat_cmp t u ≡ Less → t < u
 cmp_lt t u h = elim (cases_lt t u) [
   | inl below ↦ below
@@ -37,6 +40,7 @@ cmp_lt t u h = elim (cases_lt t u) [
   ]
 ]
 
+-- a time that doesn't compare as less than another one isn't before it
 pub not_lt_cmp : (t u : ℕ) → is_lt (nat_cmp t u) ≡ false → u ≤ t
 not_lt_cmp t u h = elim (cases_lt t u) [
   | inl below ↦ let e : true ≡ false = sym (ap is_lt (lt_cmp t u below)) ∙ h in cc

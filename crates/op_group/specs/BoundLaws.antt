@@ -25,6 +25,7 @@ use Rattle.op_group.specs.GroupLaws.{fits_key, made_from_there, there_from_made,
 open_test : (mark : ℕ) (begin end : ℕ) → (nat_lt begin mark && nat_le mark end) ≡ true → (begin < mark) × (mark ≤ end)
 open_test mark begin end h = (grind (arith, nat_tests), grind (arith, nat_tests))
 
+-- a row that begins before a mark and doesn't end before it is open at it
 pub test_open : (mark : ℕ) (r : Row) → r.begin < mark → mark ≤ r.end → is_open mark r ≡ true
 test_open mark r less within = grind (arith, nat_tests)
 
@@ -117,6 +118,7 @@ abbrev pub Untouched : (Row → ℕ) → Change → Type 0
 Untouched w (Add a) = w a ≡ 0
 Untouched w (Cut a e) = (a.begin < e → w a ≡ w (record a { end = e })) × (e ≤ a.begin → w a ≡ 0)
 
+-- a weight that a change doesn't touch has the same sum over the rows that it takes and those that it puts
 pub untouched_sums : (w : Row → ℕ) (c : Change) → Untouched w c → sum_by w (takes c) ≡ sum_by w (puts c)
 untouched_sums w (Add a) h = omega (arith, h)
 untouched_sums w (Cut a e) h = elim (cases_lt a.begin e) [
@@ -124,9 +126,11 @@ untouched_sums w (Cut a e) h = elim (cases_lt a.begin e) [
   | inr gone ↦ omega (arith, ap (sum_by w) (remnant_none a e gone), h.1 gone)
 ]
 
+-- the weight of a row in the group of a key, and 0 for a row of another group
 abbrev pub keyed : Grouping → List Field → (Row → ℕ) → Row → ℕ
 keyed g key w x = cond (same_payload key (key_of g x)) (w x) 0
 
+-- a number, or 0 in its place, is 0 where the number is
 pub none_either : (b : Bool) (n : ℕ) → n ≡ 0 → cond b n 0 ≡ 0
 none_either true n h = h
 none_either false n h = refl
@@ -152,6 +156,7 @@ Outside c t = (t < sync_of c) ⊎ (last_of c < t)
 no_edges : (t : ℕ) (r : Row) → nat_eq r.begin t ≡ false → nat_eq r.end t ≡ false → edge_at t r ≡ 0
 no_edges t r b e = omega (arith, one_elsewhere r.begin t b, one_elsewhere r.end t e)
 
+-- at a time outside those that a change touches it doesn't touch how many begins and ends stand there
 pub edges_untouched : (t : ℕ) (c : Change) → IsChange c → Outside c t → Untouched (edge_at t) c
 edges_untouched t (Add a) is (inl before) = let lives = is.lives in no_edges t a (above_test a.begin t (omega arith)) (above_test a.end t (omega arith))
 edges_untouched t (Add a) is (inr after) = let lives = is.lives in no_edges t a (below_test a.begin t (omega arith)) (below_test a.end t (omega arith))
@@ -218,6 +223,7 @@ ends_later : (rows : List Row) (p : ℕ) → 0 < living_of rows p → IsLater ro
 ends_later [] p some = absurd (omega arith)
 ends_later (x ∷ rows) p some = ends_later_at x rows p (lives_at p x) refl (omega (arith, some, sum_by-cons (part_at (λ _. 1) p) x rows)) (ends_later rows p)
 
+-- a row of the result begins at a time, and doesn't end before a mark
 pub record IsBegun (g : Grouping) (rows : List Row) (p mark : ℕ) : Type 0 where
   pub row : Row
   pub there : 0 < count_of row (grouped g rows)
@@ -250,7 +256,8 @@ begins_row g key rows p mark lives cut none =
           ];
         }
 
--- where a row of the new result is open at a mark before which nothing changed, a row with the same begin was open before
+-- where a row of the new result is open at a mark before which nothing changed, a row with the same begin was
+-- open before
 pub was_open : (g : Grouping) (c : Change) (old new : List Row) (mark : ℕ) (r : Row) → IsChange c → IsMoved c old new → mark ≤ sync_of c → IsMade g new r → r.begin < mark → mark ≤ r.end → IsBegun g old r.begin mark
 was_open g c old new mark r is moved from made less within =
     let same = same_outside g (key_in g r) c old new r.begin is moved (inl (omega arith)) in

@@ -19,6 +19,7 @@ pub above_among : (u t : ℕ) (ts : List ℕ) → AllAbove u ts → among t ts �
 above_among u t [] above there = cc
 above_among u t (s ∷ ts) above there = above_at t s u ts (nat_eq t s) refl above.0 (above_among u t ts above.1) there
 
+-- a time isn't among times that are above it, or above a later one
 pub not_below : (u t : ℕ) (ts : List ℕ) (b : Bool) → AllAbove u ts → t ≤ u → among t ts ≡ b → b ≡ false
 not_below u t ts true above below is = let over = above_among u t ts above is in absurd (omega arith)
 not_below u t ts false above below is = refl
@@ -27,6 +28,7 @@ not_below u t ts false above below is = refl
 pub among_tail : (t s : ℕ) (ts : List ℕ) → nat_eq t s ≡ false → among t (s ∷ ts) ≡ among t ts
 among_tail t s ts h = ap {B = Bool} (λ b. cond b true (among t ts)) h
 
+-- the first of some times is among them
 pub among_head : (t s : ℕ) (ts : List ℕ) → nat_eq t s ≡ true → among t (s ∷ ts) ≡ true
 among_head t s ts h = ap {B = Bool} (λ b. cond b true (among t ts)) h
 
@@ -34,6 +36,7 @@ among_head t s ts h = ap {B = Bool} (λ b. cond b true (among t ts)) h
 pub none_between : (t q : ℕ) (ts : List ℕ) → AllAbove q ts → t < q → among t (q ∷ ts) ≡ false
 none_between t q ts above h = among_tail t q ts (below_test t q h) ∙ not_below q t ts (among t ts) above (omega arith) refl
 
+-- times that are above a time are above each earlier one
 pub above_lower : (u t : ℕ) (ts : List ℕ) → u ≤ t → AllAbove t ts → AllAbove u ts
 above_lower u t [] h above = tt
 above_lower u t (s ∷ ts) h above = (let x = above.0 in omega arith, above_lower u t ts h above.1)

@@ -34,7 +34,7 @@ pub record StaysBetweenCuts (width : ℕ) (edges living : ℕ → ℕ) (sums : �
 abbrev pub one_at : ℕ → ℕ → ℕ
 one_at t u = if nat_eq t u then 1 else 0
 
--- the fields of a row of the result behind its key
+-- the fields of a row of the result after its key
 abbrev pub totals : Bool → ℕ → List ℕ → List Field
 totals counted living sums = (if counted then modular living ∷ [] else []) ++ map (λ n. Number (cast_signed w128 n)) sums
 
@@ -52,6 +52,7 @@ abbrev pub rows_after : Bool → List Field → Option (ℕ × List Field) → L
 rows_after counted key row [] = []
 rows_after counted key row (cut ∷ cuts) = ended_at row cut.0 ++ rows_after counted key (begun counted key cut.0 cut.1) cuts
 
+-- the rows of cut points, where none has begun before them
 abbrev pub rows_in : Bool → List Field → List (ℕ × Segment) → List Row
 rows_in counted key cuts = rows_after counted key None cuts
 
@@ -100,6 +101,7 @@ pub record IsCarried (cuts : List (ℕ × Segment)) (t width : ℕ) (s : Segment
 abbrev pub withdrawn_unless : List Row → Row → List Change
 withdrawn_unless rows r = if nat_lt 0 (count_of r rows) then [] else Cut r r.begin ∷ []
 
+-- a row of the result is added where it isn't among others
 abbrev pub added_unless : List Row → Row → List Change
 added_unless rows r = if nat_lt 0 (count_of r rows) then [] else Add r ∷ []
 

@@ -35,6 +35,7 @@ payload_exact a b h =
     let rows = exact_rows (record { end = 0; begin = 0; payload = a }) (record { end = 0; begin = 0; payload = b }) (from_is_eq (payload_cmp a b) h) in
     ap (λ (r : Row). r.payload) rows
 
+-- a payload is the same as itself
 pub payload_itself : (a : List Field) → same_payload a a ≡ true
 payload_itself a = ap is_eq (tied_itself payload_total a)
 
@@ -98,6 +99,7 @@ key_found g key living sums r wide is =
     ap (λ p. take (length p - (cond g.counted 1 0 + length g.sums)) p) is
     ∙ before_totals key (totals g.counted living sums) (cond g.counted 1 0 + length g.sums) (width_of g living sums wide)
 
+-- a row between neighbouring cut points of a group has the key of that group
 pub fits_key : (g : Grouping) (key : List Field) (rows : List Row) (is_cut : ℕ → Bool) (r : Row) → Fits g.counted key (living_of rows) (sums_of g.sums rows) is_cut r → key_in g r ≡ key
 fits_key g key rows is_cut r fits = key_found g key (living_of rows r.begin) (sums_of g.sums rows r.begin) r (length-map g.sums (λ column. sum_by (part_at (number_at column) r.begin) rows % 2 ^ 128)) fits.payload_is
 
@@ -118,9 +120,11 @@ grouped_count g rows r =
     (map (key_of g) rows)
     ∙ empty_at g (key_in g r) r rows (list_any (same_payload (key_in g r)) (map (key_of g) rows)) refl)
 
+-- each row of the result is one that its group makes between neighbouring cut points
 pub made_from_there : (g : Grouping) (rows : List Row) (r : Row) → 0 < count_of r (grouped g rows) → IsMade g rows r
 made_from_there g rows r there = segment_fits g (key_in g r) (rows_of g (key_in g r) rows) r (omega (arith, there, grouped_count g rows r))
 
+-- a row that its group makes between neighbouring cut points is in the result, once
 pub there_from_made : (g : Grouping) (rows : List Row) (r : Row) → IsMade g rows r → count_of r (grouped g rows) ≡ 1
 there_from_made g rows r made = grouped_count g rows r ∙ fits_segment g (key_in g r) (rows_of g (key_in g r) rows) r made
 
@@ -140,6 +144,7 @@ same_at g key xs ys t e l s = record {
   sums = map_alike (λ column. sum_by (part_at (number_at column) t) (rows_of g key xs) % 2 ^ 128) (λ column. sum_by (part_at (number_at column) t) (rows_of g key ys) % 2 ^ 128) g.sums (λ column. ap (λ n. n % 2 ^ 128) (s column));
 }
 
+-- where a group of one table is at a time the same as in another, it is so the other way round
 pub same_back_at : (g : Grouping) (key : List Field) (xs ys : List Row) (t : ℕ) → SameAt g key xs ys t → SameAt g key ys xs t
 same_back_at g key xs ys t same = record { edges = sym same.edges; living = sym same.living; sums = sym same.sums }
 
@@ -153,6 +158,7 @@ made_alike g xs ys r same made =
     (is_cut_of (rows_of g (key_in g r) xs)) (is_cut_of (rows_of g (key_in g r) ys)) r
     (λ t over under. ap (nat_lt 0) (same t over under).edges) first.living first.sums made
 
+-- a row is as often in the results of two tables where its group is the same from its begin to its end
 pub count_alike : (g : Grouping) (xs ys : List Row) (r : Row) → ((t : ℕ) → r.begin ≤ t → t ≤ r.end → SameAt g (key_in g r) xs ys t) → count_of r (grouped g xs) ≡ count_of r (grouped g ys)
 count_alike g xs ys r same = same_count (count_of r (grouped g xs)) (count_of r (grouped g ys))
     (λ some. there_from_made g ys r (made_alike g xs ys r same (made_from_there g xs r some)))

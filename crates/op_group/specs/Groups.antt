@@ -19,12 +19,15 @@ pub record Grouping : Type 0 where
   pub counted : Bool
   pub sums : List ℕ
 
+-- the grouping with these columns of the key, with a count or without, and with these summed columns
 abbrev pub grouping_by : List ℕ → Bool → List ℕ → Grouping
 grouping_by keys counted sums = record { keys = keys; counted = counted; sums = sums }
 
+-- the key of a row: the fields in the columns of the key
 abbrev pub key_of : Grouping → Row → List Field
 key_of grouping r = kept grouping.keys r.payload
 
+-- two payloads are the same where they compare as equal
 abbrev pub same_payload : List Field → List Field → Bool
 same_payload a b = is_eq (payload_cmp a b)
 
@@ -67,6 +70,7 @@ number_of None = 0
 number_of (Some (Number n)) = cast_unsigned w128 n % 2 ^ 128
 number_of (Some (Bytes text)) = 0
 
+-- what a row adds to the sum of a column
 abbrev pub number_at : ℕ → Row → ℕ
 number_at column r = number_of (slice_get r.payload column)
 
@@ -110,6 +114,8 @@ lives_at t r = nat_le r.begin t && nat_lt t r.end
 abbrev pub may_be_held : Grouping → List Row → ℕ → Row → Bool
 may_be_held grouping rows mark r = nat_le mark r.begin || (nat_le mark r.end && nat_lt 0 (count_by (lives_at r.begin) (rows_of grouping r.payload rows)))
 
+-- the meaning of a grouping: the rows of all groups, and as the bound the least of the mark and of the
+-- begins of open rows
 abbrev pub group_of : Grouping → Meaning
 group_of grouping = record {
   ports = 1;

@@ -13,12 +13,15 @@ edge_at t r = one_at r.begin t + one_at r.end t
 abbrev pub part_at : (Row → ℕ) → ℕ → Row → ℕ
 part_at weight t r = cond (lives_at t r) (weight r) 0
 
+-- how many begins and ends of rows stand at a time
 abbrev pub edges_of : List Row → ℕ → ℕ
 edges_of rows t = sum_by (edge_at t) rows
 
+-- how many rows are valid at a time
 abbrev pub living_of : List Row → ℕ → ℕ
 living_of rows t = sum_by (part_at (λ _. 1) t) rows
 
+-- the sums of columns over the rows that are valid at a time, modulo 2^128
 abbrev pub sums_of : List ℕ → List Row → ℕ → List ℕ
 sums_of columns rows t = map (λ column. sum_by (part_at (number_at column) t) rows % 2 ^ 128) columns
 
@@ -27,6 +30,7 @@ abbrev pub among : ℕ → List ℕ → Bool
 among t [] = false
 among t (s ∷ ts) = cond (nat_eq t s) true (among t ts)
 
+-- each of the times is above a time
 abbrev pub AllAbove : ℕ → List ℕ → Type 0
 AllAbove t [] = Unit {0}
 AllAbove t (s ∷ ts) = (t < s) × AllAbove t ts

@@ -11,6 +11,7 @@ use Rattle.op_group.specs.declared.points.CutPoint.{CutPoint}
 use Rattle.op_group.specs.Groups.{same_payload}
 use Rattle.op_group.specs.Cuts.{segment_at}
 
+-- cut points compare by their times, then by the keys of their groups
 abbrev pub point_cmp : CutPoint → CutPoint → Ordering
 point_cmp a b = ordering_then (nat_cmp a.at b.at) (payload_cmp a.key b.key)
 

@@ -41,10 +41,11 @@ length_is : (xs : List Row) → length xs ≡ sum_by (λ _. 1) xs
 length_is [] = refl
 length_is (x ∷ xs) = omega (arith, sum_by-cons (λ (_ : Row). 1) x xs, length_is xs)
 
--- a row's begin and end are cut points of its group
+-- a row's end is a cut point of its group
 pub edge_there : (rows : List Row) (r : Row) → 0 < count_of r rows → 0 < edges_of rows r.end
 edge_there rows r there = omega (arith, sum_by-without (edge_at r.end) r rows there, one_here r.end)
 
+-- a row's begin is a cut point of its group
 pub begin_there : (rows : List Row) (r : Row) → 0 < count_of r rows → 0 < edges_of rows r.begin
 begin_there rows r there = omega (arith, sum_by-without (edge_at r.begin) r rows there, one_here r.begin)
 
@@ -132,6 +133,7 @@ row_between_at g key p q (r ∷ rows) living sums e f =
     ap (λ y. record { end = q; begin = p; payload = key ++ y } ∷ []) f
     ∙ sym (ap {B = List Row} (λ b. cond b [] (record { end = q; begin = p; payload = key ++ totals g.counted living sums } ∷ [])) some)
 
+-- what is the same for each column makes the same list of all columns
 pub map_alike : (f h : ℕ → ℕ) (columns : List ℕ) → ((column : ℕ) → f column ≡ h column) → map f columns ≡ map h columns
 map_alike f h [] e = refl
 map_alike f h (column ∷ columns) e = ap (λ n. n ∷ map f columns) (e column) ∙ ap (λ ns. h column ∷ ns) (map_alike f h columns e)

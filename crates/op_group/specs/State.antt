@@ -24,6 +24,7 @@ abbrev pub entries_of : Option (BTreeMap ℕ Segment) → List (ℕ × Segment)
 entries_of None = []
 entries_of (Some cuts) = cuts.entries
 
+-- the cut points of the group with a key, none where there is no such group
 abbrev pub cuts_of : List (List Field × BTreeMap ℕ Segment) → List Field → List (ℕ × Segment)
 cuts_of groups key = entries_of (lookup (is_at (payload_cmp key)) groups)
 

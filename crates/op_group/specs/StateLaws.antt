@@ -42,6 +42,7 @@ keeps_rising g groups all due rows mark later rise h = record {
   passed = λ t key there gone. let is = h.passed t key there gone in record { past = (let low = is.past in omega arith); first = is.first; lives = is.lives };
 }
 
+-- a state that stands for some marks stands for greater ones, too
 pub stands_rising : (g : Grouping) (groups : List (List Field × BTreeMap ℕ Segment)) (points : Points) (tables : Tables) (marks later : List ℕ) → AllRise marks later → StandsForGroups g groups points tables marks → StandsForGroups g groups points tables later
 stands_rising g groups points tables marks later rise h = record { table = h.table; mark = rise_length marks later rise ∙ h.mark; rows = h.rows; keeps = keeps_rising g groups points.all.keys points.due.keys (table_at tables 0) (mark_at marks 0) (mark_at later 0) (rise_at 0 marks later rise) h.keeps }
 
@@ -64,6 +65,7 @@ from_alike sums mark from cuts xs ys e f g h = record {
   };
 }
 
+-- a group of two tables that are the same bag is the same at each time
 pub same_of_bags : (g : Grouping) (key : List Field) (xs ys : List Row) (t : ℕ) → SameRows xs ys → SameAt g key xs ys t
 same_of_bags g key xs ys t same = same_sums g key xs ys t (group_sum g key (edge_at t) xs ys same) (group_sum g key (part_at (λ _. 1) t) xs ys same) (λ column. group_sum g key (part_at (number_at column) t) xs ys same)
 
@@ -82,6 +84,7 @@ keeps_alike g groups all due xs ys mark same h = record {
   passed = λ t key there gone. let is = h.passed t key there gone in record { past = is.past; first = is.first; lives = subst (λ (n : ℕ). 0 < n) (same_of_bags g key xs ys t same).living is.lives };
 }
 
+-- a state that stands for some tables stands for others that are the same bags, too
 pub stands_alike : (g : Grouping) (groups : List (List Field × BTreeMap ℕ Segment)) (points : Points) (tables others : Tables) (marks : List ℕ) → SameTables tables others → StandsForGroups g groups points tables marks → StandsForGroups g groups points others marks
 stands_alike g groups points tables others marks same h =
     let rows = same_at 0 tables others same in
@@ -92,7 +95,7 @@ stands_alike g groups points tables others marks same h =
       keeps = keeps_alike g groups points.all.keys points.due.keys (table_at tables 0) (table_at others 0) (mark_at marks 0) rows h.keeps;
     }
 
--- the only port's mark is at most a change's sync
+-- a change that may come on the only port doesn't lower the bound
 pub bound_stays_on_one : (g : Grouping) (tables : Tables) (marks : List ℕ) (port : ℕ) (c : Change) (after : List Row) → length tables ≡ 1 → CanTake tables marks port c → IsMoved c (table_at tables port) after
     → open_from (mark_at marks 0) (grouped g (table_at tables 0)) ≤ open_from (mark_at marks 0) (grouped g (table_at (with_table tables port after) 0))
 bound_stays_on_one g tables marks port c after one can moved =
@@ -103,9 +106,11 @@ bound_stays_on_one g tables marks port c after one can moved =
     subst (λ (rows : List Row). open_from (mark_at marks 0) (grouped g (table_at tables 0)) ≤ open_from (mark_at marks 0) (grouped g rows)) (sym new_table)
     (open_stays g c (table_at tables 0) after (mark_at marks 0) (may_is (table_at tables 0) [] c can0.legal) moved0 can0.from)
 
+-- the bound isn't above FOREVER where the mark isn't
 pub open_is_time : (mark : ℕ) (rows : List Row) → mark ≤ FOREVER → open_from mark rows ≤ FOREVER
 open_is_time mark rows h = let below = open_below mark rows in omega arith
 
+-- the laws of the meaning of a grouping, and of what its state stands for
 pub group_laws : (g : Grouping) (groups : List (List Field × BTreeMap ℕ Segment)) (points : Points) → OperatorLaws (group_of g) (StandsForGroups g groups points)
 group_laws g groups points = record {
   sized = λ tables marks h. (h.table, h.mark);

@@ -26,8 +26,10 @@ fn begun(
     if segment.living == 0 {
         return Ok(None);
     }
-    let mut payload = key.copy(alloc)?;
-    segment.push_to(counted, &mut payload)?;
+    let mut fields = Vec::with_capacity(alloc, key.fields().len() + 2)?;
+    key.copy_fields(alloc, &mut fields)?;
+    segment.push_to(counted, &mut fields)?;
+    let payload = Payload::from_fields(alloc, fields)?;
     Ok(Some((at, payload)))
 }
 

@@ -91,8 +91,8 @@ fn settle_cuts(all: &mut BTreeSet<CutPoint>, cuts: &mut Cuts, point: &mut CutPoi
     cuts.len() == 0
 }
 
-/// A group loses what was before one of its cut points, and the cut point itself where nothing is valid from it on. Where
-/// no cut point is left the group goes.
+/// A group loses what was before one of its cut points, and the cut point itself where nothing is valid from it on.
+/// Where no cut point is left the group goes.
 fn settle(groups: &mut Groups, all: &mut BTreeSet<CutPoint>, point: CutPoint)
     ensures { Settles point.at point.key groups.old.entries groups.new.entries all.old.keys all.new.keys }
 {
@@ -106,8 +106,8 @@ fn settle(groups: &mut Groups, all: &mut BTreeSet<CutPoint>, point: CutPoint)
     }
 }
 
-/// Forgets what is before a mark: each group keeps of the cut points before it the last one, where some row is valid from
-/// it on. O(log n) for each cut point that it forgets or that the mark passes. It takes no memory.
+/// Forgets what is before a mark: each group keeps of the cut points before it the last one, where some row is valid
+/// from it on. O(log n) for each cut point that it forgets or that the mark passes. It takes no memory.
 pub(crate) fn forget(groups: &mut Groups, points: &mut Points, mark: Time)
     ensures keeps { (g : Grouping) (rows : List Row) → KeepsGroups g groups.old.entries points.old.all.keys points.old.due.keys rows mark → KeepsGroups g groups.new.entries points.new.all.keys points.new.due.keys rows mark }
     ensures passed { NoneBefore points.new.due.keys mark }

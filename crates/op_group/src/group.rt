@@ -31,8 +31,8 @@ pub(crate) type Groups = BTreeMap<Payload, Cuts>;
 /// it between which some of its rows are valid give one row, with the key, the count and the sums of these rows.
 ///
 /// It keeps no rows, but the cut points of each group with what is valid from each of them on. At a mark it forgets
-/// what no later change and no bound depends on: of the cut points before the mark a group keeps the last one, where some
-/// row is valid from it on, and a group that has no cut point left goes.
+/// what no later change and no bound depends on: of the cut points before the mark a group keeps the last one, where
+/// some row is valid from it on, and a group that has no cut point left goes.
 #[derive(Drop)]
 pub struct Group {
     keys: Keep,
@@ -190,7 +190,7 @@ impl Operator for Group {
         &mut self,
         alloc: Global,
         _port: usize,
-        change: &Change,
+        change: Change,
         out: &mut Vec<Change>,
     ) -> Result<(), OutOfMemory> {
         let before = out.len();
@@ -201,9 +201,10 @@ impl Operator for Group {
             self.sums.as_slice(),
             &mut self.groups,
             &mut self.points,
-            change,
+            &change,
             out,
         );
+        drop(change);
         if result.is_err() {
             out.truncate(before);
         }

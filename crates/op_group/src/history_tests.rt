@@ -30,7 +30,7 @@ fn bound_of<O: Operator>(op: &O, tables: &[Table], marks: &[Time]) -> Time
 }
 
 /// The answers come one after the other: each cuts a row that is there.
-fn apply_all(made: &mut Table, answers: &[Change]) -> Result<(), Fail> {
+fn apply_all(made: &mut Table, answers: Vec<Change>) -> Result<(), Fail> {
     for answer in answers {
         made.apply(answer)?;
     }
@@ -84,7 +84,7 @@ fn run(rt: &impl Abort, alloc: Global, seed: u64) -> Result<(), Fail> {
                 &mut out
             )?
         );
-        apply_all(&mut made, out.as_slice())?;
+        apply_all(&mut made, out)?;
         check(
             rt,
             alloc,

@@ -56,11 +56,11 @@ fn take(fed: &mut Fed, change: &Change) -> Result<(), Fail>
     )? {
         return Err("not legal")?;
     }
-    apply_all(&mut fed.made, out.as_slice())
+    apply_all(&mut fed.made, out)
 }
 
 /// The answers come one after the other: each cuts a row that is there.
-fn apply_all(made: &mut Table, answers: &[Change]) -> Result<(), Fail> {
+fn apply_all(made: &mut Table, answers: Vec<Change>) -> Result<(), Fail> {
     for answer in answers {
         made.apply(answer)?;
     }

@@ -59,11 +59,11 @@ impl Totals {
     }
 
     /// Appends the sums as fields.
-    fn push_to(&self, payload: &mut Payload) -> Result<(), OutOfMemory>
-        ensures { OnOk result (payload.new ≡ payload.old ++ totals false 0 self.now) }
+    fn push_to(&self, fields: &mut Vec<Field>) -> Result<(), OutOfMemory>
+        ensures { OnOk result (fields.new.items ≡ fields.old.items ++ totals false 0 self.now) }
     {
         for sum in &self.sums {
-            payload.push(Field::Number(sum.cast_signed()))?;
+            fields.push(Field::Number(sum.cast_signed()))?;
         }
         Ok(())
     }
@@ -100,14 +100,14 @@ impl Segment {
     }
 
     /// Appends the count, where it is asked for, and then the sums.
-    pub(crate) fn push_to(&self, counted: bool, payload: &mut Payload) -> Result<(), OutOfMemory>
-        ensures { OnOk result (payload.new ≡ payload.old ++ totals counted self.now.living self.now.totals) }
+    pub(crate) fn push_to(&self, counted: bool, fields: &mut Vec<Field>) -> Result<(), OutOfMemory>
+        ensures { OnOk result (fields.new.items ≡ fields.old.items ++ totals counted self.now.living self.now.totals) }
     {
         if counted {
             let count = self.living as u128;
-            payload.push(Field::Number(count.cast_signed()))?;
+            fields.push(Field::Number(count.cast_signed()))?;
         }
-        self.totals.push_to(payload)
+        self.totals.push_to(fields)
     }
 }
 

@@ -75,10 +75,11 @@ impl Counted {
             change,
             &mut out,
         )?;
-        for answered in &out {
+        let count = out.len();
+        for answered in out {
             self.made.apply(answered)?;
         }
-        Ok(out.len())
+        Ok(count)
     }
 
     /// Adds a row, and says how many changes that gave.

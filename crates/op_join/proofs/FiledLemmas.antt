@@ -1,63 +1,49 @@
--- Rows that are filed under keys, and what a change does to them.
+-- Rows that are filed under tags, and what a change does to them.
 use Rattle.std.proofs.Common.{◌≡◌, ◌≢◌, ℕ, ◌+◌, ◌<◌, ◌⊎◌, inl, inr, List, [], ◌∷◌, ◌++◌, Bool, true, false, cond, Option, Some, refl, ap, sym, ◌∙◌, subst, arith}
 use Rattle.std.specs.Prelude.{unwrap_or, nat_lt}
 use Rattle.std.specs.List.{AllByRecursion}
 use Rattle.std.specs.List.Sorted.{IsStrictlySortedBy}
 use Rattle.std.specs.Map.{lookup, keys_of}
 use Rattle.std.specs.BTreeMap.{is_at}
-use Rattle.std.specs.Ordering.{is_eq}
+use Rattle.std.specs.Ordering.{is_eq, nat_cmp}
 use Rattle.std.specs.declared.cmp.Ordering.TheVariants.{Less}
-use Rattle.std.proofs.lemmas.Cmp.{tied_itself}
-use Rattle.std.proofs.lemmas.Bool.{cases_lt}
+use Rattle.std.proofs.lemmas.Cmp.{tied_itself, nat_cmp_total}
+use Rattle.std.proofs.lemmas.Map.Lookups.{exact_unsigned}
+use Rattle.std.proofs.lemmas.Bool.{cases_lt, cases_eq}
 use Rattle.cedr_base.specs.declared.field.Field.{Field}
 use Rattle.cedr_base.specs.declared.row.Row.{Row}
 use Rattle.cedr_base.specs.declared.change.Change.{Change}
 use Rattle.cedr_base.specs.declared.change.Change.TheVariants.{Add, Cut}
-use Rattle.cedr_base.specs.Order.{payload_cmp}
-use Rattle.cedr_base.specs.OrderLaws.{payload_total}
 use Rattle.cedr_base.specs.Rows.{count_of, SameRows, in_order}
 use Rattle.cedr_base.specs.Changes.{puts, takes}
-use Rattle.cedr_base.proofs.RowLemmas.{exact_rows}
 use Rattle.cedr_base.proofs.Bags.{count_of-append, one_if_same_exact}
 use Rattle.cedr_base.proofs.Sorting.{in_order_counts}
 use Rattle.cedr_stream.specs.Repairs.{IsMoved}
 use Rattle.op_join.specs.Filed.{FiledRows, under, all_under, listed, Files}
 use Rattle.op_join.specs.Pairs.{changed_row}
-use Rattle.op_join.proofs.KeyLemmas.{from_is_eq}
+use Rattle.cedr_expr.proofs.TieLemmas.{from_is_eq}
 
--- payloads that compare as equal are one
-payload_exact : (p q : List Field) → is_eq (payload_cmp p q) ≡ true → p ≡ q
-payload_exact p q h =
-    let same = exact_rows (record { end = 0; begin = 0; payload = p }) (record { end = 0; begin = 0; payload = q }) (from_is_eq (payload_cmp p q) h) in
-    ap (λ (r : Row). r.payload) same
+-- a tag compares to itself as equal
+itself : (t : ℕ) → is_eq (nat_cmp t t) ≡ true
+itself t = ap is_eq (tied_itself nat_cmp_total t)
 
-payload_itself : (p : List Field) → is_eq (payload_cmp p p) ≡ true
-payload_itself p = ap is_eq (tied_itself payload_total p)
+differs_at : (t q : ℕ) (b : Bool) → is_eq (nat_cmp t q) ≡ b → q ≢ t → b ≡ false
+differs_at t q true h other = absurd (other (sym (exact_unsigned t q (from_is_eq (nat_cmp t q) h))))
+differs_at t q false h other = refl
 
-differs_at : (p q : List Field) (b : Bool) → is_eq (payload_cmp p q) ≡ b → q ≢ p → b ≡ false
-differs_at p q true h other = absurd (other (sym (payload_exact p q h)))
-differs_at p q false h other = refl
+-- other tags don't compare as equal
+pub differs : (t q : ℕ) → q ≢ t → is_eq (nat_cmp t q) ≡ false
+differs t q other = differs_at t q (is_eq (nat_cmp t q)) refl other
 
--- other payloads don't compare as equal
-payload_differs : (p q : List Field) → q ≢ p → is_eq (payload_cmp p q) ≡ false
-payload_differs p q other = differs_at p q (is_eq (payload_cmp p q)) refl other
+-- the new rows have these under the tag, and others under other tags stay
+abbrev pub IsFiledAt : ℕ → Option (List Row) → FiledRows → FiledRows → Type 0
+IsFiledAt t w old new = (q : ℕ) → lookup (is_at (nat_cmp q)) new ≡ cond (is_at (nat_cmp t) q) w (lookup (is_at (nat_cmp q)) old)
 
-same_or_not_at : (p q : List Field) (b : Bool) → is_eq (payload_cmp p q) ≡ b → (q ≡ p) ⊎ (q ≢ p)
-same_or_not_at p q true h = inl (sym (payload_exact p q h))
-same_or_not_at p q false h = inr (λ e. let itself = payload_itself p in let here = subst (λ (x : List Field). is_eq (payload_cmp p x) ≡ false) e h in cc)
-
-pub same_or_not : (p q : List Field) → (q ≡ p) ⊎ (q ≢ p)
-same_or_not p q = same_or_not_at p q (is_eq (payload_cmp p q)) refl
-
--- the new rows have these under the key, and others under other keys stay
-abbrev pub IsFiledAt : List Field → Option (List Row) → FiledRows → FiledRows → Type 0
-IsFiledAt key w old new = (q : List Field) → lookup (is_at (payload_cmp q)) new ≡ cond (is_at (payload_cmp key) q) w (lookup (is_at (payload_cmp q)) old)
-
--- an update of one key leaves the rows under others
-pub others_stay : (key : List Field) (w : Option (List Row)) (old new : FiledRows) → IsFiledAt key w old new → (q : List Field) → q ≢ key → under new q ≡ under old q
-others_stay key w old new h q other =
+-- an update of one tag leaves the rows under others
+pub others_stay : (t : ℕ) (w : Option (List Row)) (old new : FiledRows) → IsFiledAt t w old new → (q : ℕ) → q ≢ t → under new q ≡ under old q
+others_stay t w old new h q other =
     ap (λ o. unwrap_or o []) (h q)
-    ∙ ap (λ b. unwrap_or (cond b w (lookup (is_at (payload_cmp q)) old)) []) (payload_differs key q other)
+    ∙ ap (λ b. unwrap_or (cond b w (lookup (is_at (nat_cmp q)) old)) []) (differs t q other)
 
 -- rows that a change takes have its row's payload
 takes_payload : (c : Change) (r : Row) → 0 < count_of r (takes c) → r.payload ≡ (changed_row c).payload
@@ -73,89 +59,90 @@ puts_payload : (c : Change) (r : Row) → 0 < count_of r (puts c) → r.payload 
 puts_payload (Add a) r there = ap (λ (x : Row). x.payload) (one_if_same_exact r a (omega arith))
 puts_payload (Cut a e) r there = remnant_payload a r e (nat_lt a.begin e) there
 
+-- a number that isn't above 0 is 0
 pub none_else : (n : ℕ) → ((0 < n) → ⊥) → n ≡ 0
 none_else n h = elim (cases_lt 0 n) [ inl some ↦ absurd (h some) | inr none ↦ omega arith ]
 
-module _ (key_of : List Field → List Field) (c : Change) where
-  abbrev key : List Field
-  key = key_of (changed_row c).payload
+module _ (tag : List Field → ℕ) (c : Change) where
+  abbrev own : ℕ
+  own = tag (changed_row c).payload
 
-  -- a change has no row of another key
-  other_takes : (r : Row) → key_of r.payload ≢ key → count_of r (takes c) ≡ 0
-  other_takes r other = none_else (count_of r (takes c)) (λ there. other (ap key_of (takes_payload c r there)))
+  -- a change has no row of another tag
+  other_takes : (r : Row) → tag r.payload ≢ own → count_of r (takes c) ≡ 0
+  other_takes r other = none_else (count_of r (takes c)) (λ there. other (ap tag (takes_payload c r there)))
 
-  other_puts : (r : Row) → key_of r.payload ≢ key → count_of r (puts c) ≡ 0
-  other_puts r other = none_else (count_of r (puts c)) (λ there. other (ap key_of (puts_payload c r there)))
+  other_puts : (r : Row) → tag r.payload ≢ own → count_of r (puts c) ≡ 0
+  other_puts r other = none_else (count_of r (puts c)) (λ there. other (ap tag (puts_payload c r there)))
 
-  module _ (old new : FiledRows) (table after : List Row) (files : Files key_of old table)
-      (here : SameRows (under new key ++ takes c) (under old key ++ puts c))
-      (others : (q : List Field) → q ≢ key → under new q ≡ under old q)
+  module _ (old new : FiledRows) (table after : List Row) (files : Files tag old table)
+      (here : SameRows (under new own ++ takes c) (under old own ++ puts c))
+      (others : (q : ℕ) → q ≢ own → under new q ≡ under old q)
       (moved : IsMoved c table after) where
     abbrev sums : (r : Row) → count_of r after + count_of r (takes c) ≡ count_of r table + count_of r (puts c)
     sums r = sym (count_of-append r after (takes c)) ∙ (moved.sums.each r ∙ count_of-append r table (puts c))
 
-    abbrev under_sums : (r : Row) → count_of r (under new key) + count_of r (takes c) ≡ count_of r (under old key) + count_of r (puts c)
-    under_sums r = sym (count_of-append r (under new key) (takes c)) ∙ (here.each r ∙ count_of-append r (under old key) (puts c))
+    abbrev under_sums : (r : Row) → count_of r (under new own) + count_of r (takes c) ≡ count_of r (under old own) + count_of r (puts c)
+    under_sums r = sym (count_of-append r (under new own) (takes c)) ∙ (here.each r ∙ count_of-append r (under old own) (puts c))
 
-    there_at : (r : Row) → (key_of r.payload ≡ key) ⊎ (key_of r.payload ≢ key) → count_of r (under new (key_of r.payload)) ≡ count_of r after
+    there_at : (r : Row) → (tag r.payload ≡ own) ⊎ (tag r.payload ≢ own) → count_of r (under new (tag r.payload)) ≡ count_of r after
     there_at r (inl same) =
         let was = files.there r in
-        let old_is = ap (λ (k : List Field). count_of r (under old k)) same in
-        let new_is = ap (λ (k : List Field). count_of r (under new k)) same in
+        let old_is = ap (λ (k : ℕ). count_of r (under old k)) same in
+        let new_is = ap (λ (k : ℕ). count_of r (under new k)) same in
         omega (arith, was, old_is, new_is, sums r, under_sums r)
     there_at r (inr other) =
         let was = files.there r in
-        let stay = ap (count_of r) (others (key_of r.payload) other) in
+        let stay = ap (count_of r) (others (tag r.payload) other) in
         omega (arith, was, stay, sums r, other_takes r other, other_puts r other)
 
-    only_at : (q : List Field) (r : Row) → q ≢ key_of r.payload → (q ≡ key) ⊎ (q ≢ key) → count_of r (under new q) ≡ 0
+    only_at : (q : ℕ) (r : Row) → q ≢ tag r.payload → (q ≡ own) ⊎ (q ≢ own) → count_of r (under new q) ≡ 0
     only_at q r apart (inl same) =
         let was = files.only q r apart in
-        let other : key_of r.payload ≢ key = λ e. apart (same ∙ sym e) in
-        let old_is = ap (λ (k : List Field). count_of r (under old k)) same in
-        let new_is = ap (λ (k : List Field). count_of r (under new k)) same in
+        let other : tag r.payload ≢ own = λ e. apart (same ∙ sym e) in
+        let old_is = ap (λ (k : ℕ). count_of r (under old k)) same in
+        let new_is = ap (λ (k : ℕ). count_of r (under new k)) same in
         omega (arith, was, old_is, new_is, under_sums r, other_takes r other, other_puts r other)
     only_at q r apart (inr other) = ap (count_of r) (others q other) ∙ files.only q r apart
 
     -- what is filed goes through a change as its bag does
-    pub files_moved : Files key_of new after
+    pub files_moved : Files tag new after
     files_moved = record {
-      there = λ r. there_at r (same_or_not key (key_of r.payload));
-      only = λ q r apart. only_at q r apart (same_or_not key q);
+      there = λ r. there_at r (cases_eq (tag r.payload) own);
+      only = λ q r apart. only_at q r apart (cases_eq q own);
     }
 
-under_first : (e : List Field × List Row) (es : FiledRows) → under (e ∷ es) e.0 ≡ e.1
-under_first e es = ap (λ b. unwrap_or (cond b (Some e.1) (lookup (is_at (payload_cmp e.0)) es)) []) (payload_itself e.0)
+under_first : (e : ℕ × List Row) (es : FiledRows) → under (e ∷ es) e.0 ≡ e.1
+under_first e es = ap (λ b. unwrap_or (cond b (Some e.1) (lookup (is_at (nat_cmp e.0)) es)) []) (itself e.0)
 
-under_later : (e : List Field × List Row) (es : FiledRows) (q : List Field) → q ≢ e.0 → under (e ∷ es) q ≡ under es q
-under_later e es q other = ap (λ b. unwrap_or (cond b (Some e.1) (lookup (is_at (payload_cmp q)) es)) []) (payload_differs q e.0 (λ same. other (sym same)))
+under_later : (e : ℕ × List Row) (es : FiledRows) (q : ℕ) → q ≢ e.0 → under (e ∷ es) q ≡ under es q
+under_later e es q other = ap (λ b. unwrap_or (cond b (Some e.1) (lookup (is_at (nat_cmp q)) es)) []) (differs q e.0 (λ same. other (sym same)))
 
--- no row is under a key below all keys
-beyond : (x : List Field) (es : FiledRows) → AllByRecursion (λ y. payload_cmp x y ≡ Less) (keys_of es) → under es x ≡ []
+-- no row is under a tag below all tags
+beyond : (x : ℕ) (es : FiledRows) → AllByRecursion (λ y. nat_cmp x y ≡ Less) (keys_of es) → under es x ≡ []
 beyond x [] h = refl
-beyond x (e ∷ es) h = ap (λ o. unwrap_or (cond (is_eq o) (Some e.1) (lookup (is_at (payload_cmp x)) es)) []) h.0 ∙ beyond x es h.1
+beyond x (e ∷ es) h = ap (λ o. unwrap_or (cond (is_eq o) (Some e.1) (lookup (is_at (nat_cmp x)) es)) []) h.0 ∙ beyond x es h.1
 
--- a row that is under one key alone is under all keys as often as it is there
-pub count_all : (filed : FiledRows) → IsStrictlySortedBy payload_cmp (keys_of filed) → (k : List Field) (r : Row) → ((q : List Field) → q ≢ k → count_of r (under filed q) ≡ 0)
+-- a row that is under one tag alone is under all tags as often as it is there
+pub count_all : (filed : FiledRows) → IsStrictlySortedBy nat_cmp (keys_of filed) → (k : ℕ) (r : Row) → ((q : ℕ) → q ≢ k → count_of r (under filed q) ≡ 0)
     → count_of r (all_under filed) ≡ count_of r (under filed k)
 unfolding IsStrictlySortedBy
 count_all [] sorted k r only = refl
 count_all (e ∷ es) sorted k r only =
-    all_at e es k r (beyond e.0 es sorted.0) only (same_or_not e.0 k) (λ rest. count_all es sorted.1 k r rest) where
-      rest_only : (e : List Field × List Row) (es : FiledRows) (k : List Field) (r : Row) → under es e.0 ≡ [] → ((q : List Field) → q ≢ k → count_of r (under (e ∷ es) q) ≡ 0) → (q : List Field) → q ≢ k → (q ≡ e.0) ⊎ (q ≢ e.0) → count_of r (under es q) ≡ 0
-      rest_only e es k r gone only q apart (inl same) = ap (λ (x : List Field). count_of r (under es x)) same ∙ ap (count_of r) gone
+    all_at e es k r (beyond e.0 es sorted.0) only (cases_eq k e.0) (λ rest. count_all es sorted.1 k r rest) where
+      rest_only : (e : ℕ × List Row) (es : FiledRows) (k : ℕ) (r : Row) → under es e.0 ≡ [] → ((q : ℕ) → q ≢ k → count_of r (under (e ∷ es) q) ≡ 0) → (q : ℕ) → q ≢ k → (q ≡ e.0) ⊎ (q ≢ e.0) → count_of r (under es q) ≡ 0
+      rest_only e es k r gone only q apart (inl same) = ap (λ (x : ℕ). count_of r (under es x)) same ∙ ap (count_of r) gone
       rest_only e es k r gone only q apart (inr other) = sym (ap (count_of r) (under_later e es q other)) ∙ only q apart
 
-      all_at : (e : List Field × List Row) (es : FiledRows) (k : List Field) (r : Row) → under es e.0 ≡ [] → ((q : List Field) → q ≢ k → count_of r (under (e ∷ es) q) ≡ 0)
-          → (k ≡ e.0) ⊎ (k ≢ e.0) → (((q : List Field) → q ≢ k → count_of r (under es q) ≡ 0) → count_of r (all_under es) ≡ count_of r (under es k))
+      all_at : (e : ℕ × List Row) (es : FiledRows) (k : ℕ) (r : Row) → under es e.0 ≡ [] → ((q : ℕ) → q ≢ k → count_of r (under (e ∷ es) q) ≡ 0)
+          → (k ≡ e.0) ⊎ (k ≢ e.0) → (((q : ℕ) → q ≢ k → count_of r (under es q) ≡ 0) → count_of r (all_under es) ≡ count_of r (under es k))
           → count_of r (all_under (e ∷ es)) ≡ count_of r (under (e ∷ es) k)
       all_at e es k r gone only (inl same) rest =
-          let tail = rest (λ q apart. rest_only e es k r gone only q apart (same_or_not e.0 q)) in
-          let none = ap (λ (x : List Field). count_of r (under es x)) same ∙ ap (count_of r) gone in
-          let first = ap (λ (x : List Field). count_of r (under (e ∷ es) x)) same ∙ ap (count_of r) (under_first e es) in
+          let tail = rest (λ q apart. rest_only e es k r gone only q apart (cases_eq q e.0)) in
+          let none = ap (λ (x : ℕ). count_of r (under es x)) same ∙ ap (count_of r) gone in
+          let first = ap (λ (x : ℕ). count_of r (under (e ∷ es) x)) same ∙ ap (count_of r) (under_first e es) in
           omega (arith, tail, none, first, count_of-append r e.1 (all_under es))
       all_at e es k r gone only (inr other) rest =
-          let tail = rest (λ q apart. rest_only e es k r gone only q apart (same_or_not e.0 q)) in
+          let tail = rest (λ q apart. rest_only e es k r gone only q apart (cases_eq q e.0)) in
           let none = sym (ap (count_of r) (under_first e es)) ∙ only e.0 (λ same. other (sym same)) in
           let later = ap (count_of r) (under_later e es k other) in
           omega (arith, tail, none, later, count_of-append r e.1 (all_under es))

@@ -15,8 +15,8 @@ use Rattle.cedr_table.specs.Choices.{chosen}
 use Rattle.cedr_table.proofs.ChoiceLemmas.{sum_chosen, sum_chosen-cons, count_chosen}
 use Rattle.cedr_table.proofs.RowsLemmas.{first_is, others_are}
 use Rattle.std.proofs.Math.Nat.{max_comm, min_comm}
-use Rattle.op_join.specs.declared.side.Side.{Side}
-use Rattle.op_join.specs.declared.side.Side.TheVariants.{Left, Right}
+use Rattle.cedr_expr.specs.declared.side.Side.{Side}
+use Rattle.cedr_expr.specs.declared.side.Side.TheVariants.{Left, Right}
 use Rattle.op_join.specs.Joins.{PairTest, meet, joined, joined_rows}
 use Rattle.op_join.specs.Pairs.{met, passes_on, both_on, pair_changes, changed_row, all_changes}
 use Rattle.cedr_table.specs.Counted.{ends_after, SameAmong}
@@ -25,7 +25,8 @@ use Rattle.cedr_table.proofs.FilterLemmas.{sum_by-among}
 use Rattle.op_join.proofs.SumLemmas.{sum_by-alike, sum_by-plus, sum_by-zero, sum_by-turned}
 use Rattle.op_join.proofs.PairLemmas.{pair_sums, pair_there, cut_takes_late, cut_puts_early, pair_good}
 
--- whether a change may touch the row of its row's pair with another one: they pass, and that one ends after the change is seen
+-- a change may touch the row of its own row's pair with another one: the two pass, and the other one ends
+-- after the change is seen
 abbrev pub may_meet : PairTest → Side → Change → Row → Bool
 may_meet pass side c o = passes_on pass side (changed_row c).payload o.payload && ends_after (sync_of c) o
 
@@ -119,11 +120,13 @@ count_two p r xs ys =
     ∙ (sum_chosen-cons (λ rs. count_of r (joined_rows p rs)) xs (ys ∷ [])
     ∙ sum_by-alike _ _ xs (λ a. sum_chosen-cons (λ rs. count_of r (joined_rows p (a ∷ rs))) ys [] ∙ sum_by-alike _ _ ys (λ b. last_choice (λ rs. count_of r (joined_rows p (a ∷ b ∷ rs))))))
 
+-- the copies of a row in a join are those that all right rows make with the left ones
 pub count_left : (p : PairTest) (r : Row) (xs ys : List Row) → count_of r (chosen (joined_rows p) (xs ∷ ys ∷ [])) ≡ sum_by (λ o. sum_by (λ x. count_of r (met p Left x o)) xs) ys
 count_left p r xs ys = count_two p r xs ys ∙ sum_by-turned (λ a b. count_of r (joined p a b)) xs ys
 
 met_turned : (p : PairTest) (a b : Row) → joined p a b ≡ met p Right b a
 met_turned p a b = λ i. meet (p a.payload b.payload) (a.payload ++ b.payload) (max_comm a.begin b.begin i) (min_comm a.end b.end i)
 
+-- the copies of a row in a join are those that all left rows make with the right ones
 pub count_right : (p : PairTest) (r : Row) (xs ys : List Row) → count_of r (chosen (joined_rows p) (xs ∷ ys ∷ [])) ≡ sum_by (λ o. sum_by (λ x. count_of r (met p Right x o)) ys) xs
 count_right p r xs ys = count_two p r xs ys ∙ sum_by-alike _ _ xs (λ a. sum_by-alike _ _ ys (λ b. ap (count_of r) (met_turned p a b)))

@@ -3,12 +3,12 @@ use Rattle.std.proofs.Common.{◌≡◌, ◌≢◌, ℕ, ◌<◌, ◌≤◌, Lis
 use Rattle.std.specs.Prelude.{filter}
 use Rattle.std.specs.List.Sorted.{IsStrictlySortedBy}
 use Rattle.std.specs.Map.{keys_of}
+use Rattle.std.specs.Ordering.{nat_cmp}
 use Rattle.std.proofs.lemmas.Bool.{lt-ltb}
 use Rattle.cedr_base.specs.declared.field.Field.{Field}
 use Rattle.cedr_base.specs.declared.row.Row.{Row}
 use Rattle.cedr_base.specs.declared.change.Change.{Change}
 use Rattle.cedr_base.specs.declared.change.Change.TheVariants.{Add, Cut}
-use Rattle.cedr_base.specs.Order.{payload_cmp}
 use Rattle.cedr_base.specs.Rows.{count_of, SameRows}
 use Rattle.cedr_base.specs.Changes.{puts, takes, sync_of, MayFollow}
 use Rattle.cedr_stream.specs.Repairs.{IsMoved}
@@ -24,34 +24,35 @@ use Rattle.op_join.specs.Pairs.{changed_row}
 use Rattle.op_join.specs.Joins.{Keeps}
 use Rattle.op_join.proofs.FiledLemmas.{files_moved, count_all, count_listed}
 
--- what is filed goes through a change as its bag does, with the key as the code has it
-pub files_after : (key_of : List Field → List Field) (c : Change) (key : List Field) (old new : FiledRows) (table after : List Row) → key ≡ key_of (changed_row c).payload → Files key_of old table
-    → SameRows (under new key ++ takes c) (under old key ++ puts c) → ((q : List Field) → q ≢ key → under new q ≡ under old q) → IsMoved c table after → Files key_of new after
-files_after key_of c key old new table after is files here others moved =
-    subst (λ (k : List Field). SameRows (under new k ++ takes c) (under old k ++ puts c) → ((q : List Field) → q ≢ k → under new q ≡ under old q) → Files key_of new after) (sym is)
-    (λ here_at others_at. files_moved key_of c old new table after files here_at others_at moved) here others
+-- what is filed goes through a change as its bag does, with the tag as the code has it
+pub files_after : (tag : List Field → ℕ) (c : Change) (t : ℕ) (old new : FiledRows) (table after : List Row) → t ≡ tag (changed_row c).payload → Files tag old table
+    → SameRows (under new t ++ takes c) (under old t ++ puts c) → ((q : ℕ) → q ≢ t → under new q ≡ under old q) → IsMoved c table after → Files tag new after
+files_after tag c t old new table after is files here others moved =
+    subst (λ (k : ℕ). SameRows (under new k ++ takes c) (under old k ++ puts c) → ((q : ℕ) → q ≢ k → under new q ≡ under old q) → Files tag new after) (sym is)
+    (λ here_at others_at. files_moved tag c old new table after files here_at others_at moved) here others
 
--- a row that may be cut is under its key
-pub row_there : (key_of : List Field → List Field) (c : Change) (key : List Field) (filed : FiledRows) (rows : List Row) → key ≡ key_of (changed_row c).payload → Files key_of filed rows → MayFollow rows [] c → LacksRow (under filed key) c → ⊥
-row_there key_of (Add a) key filed rows is files may lacks = lacks
-row_there key_of (Cut a e) key filed rows is files may lacks =
+-- a row that may be cut is under its tag
+pub row_there : (tag : List Field → ℕ) (c : Change) (t : ℕ) (filed : FiledRows) (rows : List Row) → t ≡ tag (changed_row c).payload → Files tag filed rows → MayFollow rows [] c → LacksRow (under filed t) c → ⊥
+row_there tag (Add a) t filed rows is files may lacks = lacks
+row_there tag (Cut a e) t filed rows is files may lacks =
     let there = may.1 in
     let filed_there = files.there a in
-    let at = ap (λ (k : List Field). count_of a (under filed k)) is in
+    let at = ap (λ (k : ℕ). count_of a (under filed k)) is in
     omega (arith, lacks, filed_there, at, there)
 
--- the rows under all keys are those that are filed
-pub all_same : (key_of : List Field → List Field) (filed : FiledRows) (rows : List Row) → IsStrictlySortedBy payload_cmp (keys_of filed) → Files key_of filed rows → SameRows (all_under filed) rows
-all_same key_of filed rows sorted files = record { each = λ r. count_all filed sorted (key_of r.payload) r (λ q other. files.only q r other) ∙ files.there r }
+-- the rows under all tags are those that are filed
+pub all_same : (tag : List Field → ℕ) (filed : FiledRows) (rows : List Row) → IsStrictlySortedBy nat_cmp (keys_of filed) → Files tag filed rows → SameRows (all_under filed) rows
+all_same tag filed rows sorted files = record { each = λ r. count_all filed sorted (tag r.payload) r (λ q other. files.only q r other) ∙ files.there r }
 
-pub listed_same : (key_of : List Field → List Field) (filed : FiledRows) (rows : List Row) → IsStrictlySortedBy payload_cmp (keys_of filed) → Files key_of filed rows → SameRows (listed filed) rows
-listed_same key_of filed rows sorted files = record { each = λ r. count_listed filed r ∙ (all_same key_of filed rows sorted files).each r }
+-- the list of the rows under all tags has the rows that are filed
+pub listed_same : (tag : List Field → ℕ) (filed : FiledRows) (rows : List Row) → IsStrictlySortedBy nat_cmp (keys_of filed) → Files tag filed rows → SameRows (listed filed) rows
+listed_same tag filed rows sorted files = record { each = λ r. count_listed filed r ∙ (all_same tag filed rows sorted files).each r }
 
 -- of no row nothing is filed
-pub none_filed : (key_of : List Field → List Field) (filed : FiledRows) → ((q : List Field) → under filed q ≡ []) → Files key_of filed []
-none_filed key_of filed none = record { there = λ r. ap (count_of r) (none (key_of r.payload)); only = λ key r apart. ap (count_of r) (none key) }
+pub none_filed : (tag : List Field → ℕ) (filed : FiledRows) → ((q : ℕ) → under filed q ≡ []) → Files tag filed []
+none_filed tag filed none = record { there = λ r. ap (count_of r) (none (tag r.payload)); only = λ t r apart. ap (count_of r) (none t) }
 
-module _ (key_of : List Field → List Field) (filed : Filed) (time : ℕ) (table : List Row) (h : Keeps key_of filed time table) where
+module _ (tag : List Field → ℕ) (filed : Filed) (time : ℕ) (table : List Row) (h : Keeps tag filed time table) where
   -- of a row that ends later all copies are kept
   pub kept_later : (r : Row) → time < r.end → count_of r h.kept ≡ count_of r table
   kept_later r later = h.same.each r (lt-ltb time r.end later)
@@ -64,28 +65,28 @@ module _ (key_of : List Field → List Field) (filed : Filed) (time : ℕ) (tabl
       let there = may.1 in
       (may.0, omega (arith, kept_later a (omega arith), there))
 
-  module _ (c : Change) (key : List Field) (after : List Row) (new : Filed) (from : time ≤ sync_of c) (may : MayFollow table [] c) (moved : IsMoved c table after) (is : key ≡ key_of (changed_row c).payload)
-      (here : SameRows (under new.by_key.entries key ++ takes c) (under filed.by_key.entries key ++ puts c))
-      (others : (q : List Field) → q ≢ key → under new.by_key.entries q ≡ under filed.by_key.entries q)
-      (ends : AreEnds new.by_key.entries new.ends) (ordered : IsStrictlySortedBy payload_cmp (keys_of new.by_key.entries)) where
+  module _ (c : Change) (t : ℕ) (after : List Row) (new : Filed) (from : time ≤ sync_of c) (may : MayFollow table [] c) (moved : IsMoved c table after) (is : t ≡ tag (changed_row c).payload)
+      (here : SameRows (under new.by_tag.entries t ++ takes c) (under filed.by_tag.entries t ++ puts c))
+      (others : (q : ℕ) → q ≢ t → under new.by_tag.entries q ≡ under filed.by_tag.entries q)
+      (ends : AreEnds new.by_tag.entries new.ends) (ordered : IsStrictlySortedBy nat_cmp (keys_of new.by_tag.entries)) where
     -- what is kept goes through a change as the table does
-    pub keeps_moved : Keeps key_of new time after
+    pub keeps_moved : Keeps tag new time after
     keeps_moved =
         let follows = may_follow_kept c from may in
         record {
           kept = applied c h.kept;
           same = among_moved (ends_after time) c h.kept table after h.same follows moved;
           rows = moved_are c h.kept (applied c h.kept) (may_is table [] c may) (applied_moves c h.kept follows) h.rows;
-          files = files_after key_of c key filed.by_key.entries new.by_key.entries h.kept (applied c h.kept) is h.files here others (applied_moves c h.kept follows);
+          files = files_after tag c t filed.by_tag.entries new.by_tag.entries h.kept (applied c h.kept) is h.files here others (applied_moves c h.kept follows);
           ends = ends;
           ordered = ordered;
         }
 
   module _ (later : ℕ) (rise : time ≤ later) (new : Filed)
-      (left : (q : List Field) → SameRows (under new.by_key.entries q) (filter (ends_after later) (under filed.by_key.entries q)))
-      (ends : AreEnds new.by_key.entries new.ends) (ordered : IsStrictlySortedBy payload_cmp (keys_of new.by_key.entries)) where
-    left_count : (q : List Field) (r : Row) → count_of r (under new.by_key.entries q) ≡ cond (ends_after later r) (count_of r (under filed.by_key.entries q)) 0
-    left_count q r = (left q).each r ∙ count-filter r (ends_after later) (under filed.by_key.entries q)
+      (left : (q : ℕ) → SameRows (under new.by_tag.entries q) (filter (ends_after later) (under filed.by_tag.entries q)))
+      (ends : AreEnds new.by_tag.entries new.ends) (ordered : IsStrictlySortedBy nat_cmp (keys_of new.by_tag.entries)) where
+    left_count : (q : ℕ) (r : Row) → count_of r (under new.by_tag.entries q) ≡ cond (ends_after later r) (count_of r (under filed.by_tag.entries q)) 0
+    left_count q r = (left q).each r ∙ count-filter r (ends_after later) (under filed.by_tag.entries q)
 
     some_at : (b : Bool) (n : ℕ) → 0 < cond b n 0 → 0 < n
     some_at true n there = there
@@ -96,7 +97,7 @@ module _ (key_of : List Field → List Field) (filed : Filed) (time : ℕ) (tabl
     cond_nothing false = refl
 
     -- where the rows that end by a later time are forgotten, the others are kept
-    pub keeps_forgotten : Keeps key_of new later table
+    pub keeps_forgotten : Keeps tag new later table
     keeps_forgotten = record {
       kept = filter (ends_after later) h.kept;
       same =
@@ -104,19 +105,19 @@ module _ (key_of : List Field → List Field) (filed : Filed) (time : ℕ) (tabl
           (among_fewer (ends_after time) (ends_after later) h.kept table (λ r late. ends_earlier time later r rise late) h.same);
       rows = fewer_are (filter (ends_after later) h.kept) h.kept (λ r there. some_at (ends_after later r) (count_of r h.kept) (omega (arith, count-filter r (ends_after later) h.kept))) h.rows;
       files = record {
-        there = λ r. left_count (key_of r.payload) r ∙ (ap (λ n. cond (ends_after later r) n 0) (h.files.there r) ∙ sym (count-filter r (ends_after later) h.kept));
+        there = λ r. left_count (tag r.payload) r ∙ (ap (λ n. cond (ends_after later r) n 0) (h.files.there r) ∙ sym (count-filter r (ends_after later) h.kept));
         only = λ q r apart. left_count q r ∙ (ap (λ n. cond (ends_after later r) n 0) (h.files.only q r apart) ∙ cond_nothing (ends_after later r));
       };
       ends = ends;
       ordered = ordered;
     }
 
-    held_at : (r : Row) (b : Bool) → ends_after later r ≡ b → 0 < cond b (count_of r (under filed.by_key.entries (key_of r.payload))) 0 → b ≡ true
+    held_at : (r : Row) (b : Bool) → ends_after later r ≡ b → 0 < cond b (count_of r (under filed.by_tag.entries (tag r.payload))) 0 → b ≡ true
     held_at r true is there = refl
     held_at r false is there = absurd (omega arith)
 
     -- each row that is held then ends later
-    pub held_ends_later : (r : Row) → 0 < count_of r (all_under new.by_key.entries) → ends_after later r ≡ true
+    pub held_ends_later : (r : Row) → 0 < count_of r (all_under new.by_tag.entries) → ends_after later r ≡ true
     held_ends_later r there =
-        let one = count_all new.by_key.entries ordered (key_of r.payload) r (λ q other. keeps_forgotten.files.only q r other) in
-        held_at r (ends_after later r) refl (omega (arith, one, left_count (key_of r.payload) r))
+        let one = count_all new.by_tag.entries ordered (tag r.payload) r (λ q other. keeps_forgotten.files.only q r other) in
+        held_at r (ends_after later r) refl (omega (arith, one, left_count (tag r.payload) r))

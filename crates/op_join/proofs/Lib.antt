@@ -1,4 +1,3 @@
-pub mod KeyLemmas
 pub mod FiledLemmas
 pub mod EndLemmas
 pub mod SumLemmas

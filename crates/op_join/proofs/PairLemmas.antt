@@ -13,7 +13,7 @@ use Rattle.cedr_stream.specs.Repairs.{AllFrom}
 use Rattle.cedr_base.proofs.Bags.{same_row_exact}
 use Rattle.cedr_stream.proofs.Moves.{count_one, sum_one}
 use Rattle.cedr_stream.proofs.RepairLemmas.{AllChanges, takes_adds, puts_adds}
-use Rattle.op_join.specs.declared.side.Side.{Side}
+use Rattle.cedr_expr.specs.declared.side.Side.{Side}
 use Rattle.op_join.specs.Joins.{PairTest}
 use Rattle.op_join.specs.Pairs.{passes_on, both_on, met, cut_to, pair_changes, changed_row}
 use Rattle.op_join.proofs.CutLemmas.{weighed}

@@ -3,12 +3,12 @@ use Rattle.std.proofs.Common.{◌≡◌, ◌≢◌, ℕ, ◌+◌, ◌<◌, ◌�
 use Rattle.std.specs.Prelude.{nat_eq, filter}
 use Rattle.std.specs.List.Sorted.{IsStrictlySortedBy}
 use Rattle.std.specs.Map.{keys_of}
-use Rattle.std.proofs.lemmas.Bool.{eqb-true, ltb-true, cases_lt, and_parts}
+use Rattle.std.specs.Ordering.{nat_cmp}
+use Rattle.std.proofs.lemmas.Bool.{eqb-true, ltb-true, ne_eqb, cases_lt, cases_eq, and_parts}
 use Rattle.cedr_base.specs.declared.field.Field.{Field}
 use Rattle.cedr_base.specs.declared.row.Row.{Row}
 use Rattle.cedr_base.specs.declared.change.Change.{Change}
 use Rattle.cedr_base.specs.declared.change.Change.TheVariants.{Add}
-use Rattle.cedr_base.specs.Order.{payload_cmp}
 use Rattle.cedr_base.specs.Rows.{count_of, AreRows, SameRows}
 use Rattle.cedr_base.specs.Changes.{puts, takes, sync_of}
 use Rattle.cedr_base.proofs.Bags.{count_of-append}
@@ -24,14 +24,14 @@ use Rattle.cedr_table.proofs.ChoiceLemmas.{chosen_repairs}
 use Rattle.cedr_table.proofs.FilterLemmas.{among_itself, among_along, among_same}
 use Rattle.cedr_table.proofs.RowsLemmas.{same_are}
 use Rattle.op_join.specs.declared.filed.Filed.{Filed}
-use Rattle.op_join.specs.declared.side.Side.TheVariants.{Left, Right}
-use Rattle.op_join.specs.Keys.{full_key, left_key, right_key}
+use Rattle.cedr_expr.specs.declared.side.Side.TheVariants.{Left, Right}
+use Rattle.cedr_expr.specs.Tags.{tag_of}
+use Rattle.op_join.specs.Tags.{left_tag, right_tag}
 use Rattle.op_join.specs.Filed.{FiledRows, under, all_under, listed, Files, right_partners, left_partners}
 use Rattle.op_join.specs.Ends.{AreEnds}
 use Rattle.op_join.specs.Pairs.{passes_on, changed_row, all_changes}
 use Rattle.op_join.specs.Joins.{join_of, joined_rows, Keeps, StandsOnTwo}
-use Rattle.op_join.proofs.KeyLemmas.{keys_same}
-use Rattle.op_join.proofs.FiledLemmas.{same_or_not}
+use Rattle.cedr_expr.proofs.TagLemmas.{tag_same}
 use Rattle.op_join.proofs.KeepLemmas.{all_same, listed_same, none_filed, kept_later, keeps_moved, keeps_forgotten, held_ends_later}
 use Rattle.op_join.proofs.JoinLemmas.{may_meet, pairs_turn, count_left, count_right}
 
@@ -39,19 +39,19 @@ use Rattle.op_join.proofs.JoinLemmas.{may_meet, pairs_turn, count_left, count_ri
 pub pushed_moves : (rows : List Row) (row : Row) → IsMoved (Add row) rows (rows ++ row ∷ [])
 pushed_moves rows row = record { sums = record { each = λ r. omega (arith, count_of-append r (rows ++ row ∷ []) []) } }
 
-none_left : (key_of : List Field → List Field) (filed : FiledRows) (rows : List Row) → length filed ≡ 0 → Files key_of filed rows → (r : Row) → count_of r rows ≡ 0
-none_left key_of [] rows empty files r = sym (files.there r)
-none_left key_of (e ∷ es) rows empty files r = absurd (omega arith)
+none_left : (tag : List Field → ℕ) (filed : FiledRows) (rows : List Row) → length filed ≡ 0 → Files tag filed rows → (r : Row) → count_of r rows ≡ 0
+none_left tag [] rows empty files r = sym (files.there r)
+none_left tag (e ∷ es) rows empty files r = absurd (omega arith)
 
-filed_anew : (old_key new_key : List Field → List Field) (filed : FiledRows) (rows : List Row) → length filed ≡ 0 → Files old_key filed rows → Files new_key filed rows
-filed_anew old_key new_key [] rows empty files = record { there = λ r. sym (none_left old_key [] rows empty files r); only = λ q r apart. refl }
-filed_anew old_key new_key (e ∷ es) rows empty files = absurd (omega arith)
+filed_anew : (old_tag new_tag : List Field → ℕ) (filed : FiledRows) (rows : List Row) → length filed ≡ 0 → Files old_tag filed rows → Files new_tag filed rows
+filed_anew old_tag new_tag [] rows empty files = record { there = λ r. sym (none_left old_tag [] rows empty files r); only = λ q r apart. refl }
+filed_anew old_tag new_tag (e ∷ es) rows empty files = absurd (omega arith)
 
 -- where no left row is held the right rows may be filed anew
-pub stands_settled : (tests : List Test) (width later : ℕ) (left right filed : Filed) (tables : Tables) (marks : List ℕ) → length left.by_key.entries ≡ 0 → IsStrictlySortedBy payload_cmp (keys_of right.by_key.entries) → Files (right_key later tests) filed.by_key.entries (listed right.by_key.entries)
-    → AreEnds filed.by_key.entries filed.ends → IsStrictlySortedBy payload_cmp (keys_of filed.by_key.entries) → StandsOnTwo tests width left right tables marks → StandsOnTwo tests later left filed tables marks
+pub stands_settled : (tests : List Test) (width later : ℕ) (left right filed : Filed) (tables : Tables) (marks : List ℕ) → length left.by_tag.entries ≡ 0 → IsStrictlySortedBy nat_cmp (keys_of right.by_tag.entries) → Files (right_tag later tests) filed.by_tag.entries (listed right.by_tag.entries)
+    → AreEnds filed.by_tag.entries filed.ends → IsStrictlySortedBy nat_cmp (keys_of filed.by_tag.entries) → StandsOnTwo tests width left right tables marks → StandsOnTwo tests later left filed tables marks
 stands_settled tests width later left right filed tables marks empty sorted files ends ordered h =
-    let rows = listed_same (right_key width tests) right.by_key.entries h.rights.kept sorted h.rights.files in
+    let rows = listed_same (right_tag width tests) right.by_tag.entries h.rights.kept sorted h.rights.files in
     record {
       table = h.table;
       mark = h.mark;
@@ -59,47 +59,47 @@ stands_settled tests width later left right filed tables marks empty sorted file
         kept = h.lefts.kept;
         same = h.lefts.same;
         rows = h.lefts.rows;
-        files = filed_anew (left_key width tests) (left_key later tests) left.by_key.entries h.lefts.kept empty h.lefts.files;
+        files = filed_anew (left_tag width tests) (left_tag later tests) left.by_tag.entries h.lefts.kept empty h.lefts.files;
         ends = h.lefts.ends;
         ordered = h.lefts.ordered;
       };
       rights = record {
-        kept = listed right.by_key.entries;
-        same = among_along (ends_after (least_of marks)) (listed right.by_key.entries) h.rights.kept (table_at tables 1) (among_same (ends_after (least_of marks)) (listed right.by_key.entries) h.rights.kept rows) h.rights.same;
-        rows = same_are (listed right.by_key.entries) h.rights.kept rows h.rights.rows;
+        kept = listed right.by_tag.entries;
+        same = among_along (ends_after (least_of marks)) (listed right.by_tag.entries) h.rights.kept (table_at tables 1) (among_same (ends_after (least_of marks)) (listed right.by_tag.entries) h.rights.kept rows) h.rights.same;
+        rows = same_are (listed right.by_tag.entries) h.rights.kept rows h.rights.rows;
         files = files;
         ends = ends;
         ordered = ordered;
       };
     }
 
-nothing_kept : (key_of : List Field → List Field) (filed : Filed) → AreEnds filed.by_key.entries filed.ends → ((q : List Field) → under filed.by_key.entries q ≡ []) → IsStrictlySortedBy payload_cmp (keys_of filed.by_key.entries) → Keeps key_of filed 0 []
-nothing_kept key_of filed ends none ordered = record {
+nothing_kept : (tag : List Field → ℕ) (filed : Filed) → AreEnds filed.by_tag.entries filed.ends → ((q : ℕ) → under filed.by_tag.entries q ≡ []) → IsStrictlySortedBy nat_cmp (keys_of filed.by_tag.entries) → Keeps tag filed 0 []
+nothing_kept tag filed ends none ordered = record {
   kept = [];
   same = among_itself (ends_after 0) [];
   rows = record { each = λ r there. absurd (omega arith) };
-  files = none_filed key_of filed.by_key.entries none;
+  files = none_filed tag filed.by_tag.entries none;
   ends = ends;
   ordered = ordered;
 }
 
 -- what is filed of no row stands for empty tables
-pub stands_first : (tests : List Test) (left right : Filed) → AreEnds left.by_key.entries left.ends → ((q : List Field) → under left.by_key.entries q ≡ []) → IsStrictlySortedBy payload_cmp (keys_of left.by_key.entries)
-    → AreEnds right.by_key.entries right.ends → ((q : List Field) → under right.by_key.entries q ≡ []) → IsStrictlySortedBy payload_cmp (keys_of right.by_key.entries) → StandsOnTwo tests 0 left right ([] ∷ [] ∷ []) (0 ∷ 0 ∷ [])
+pub stands_first : (tests : List Test) (left right : Filed) → AreEnds left.by_tag.entries left.ends → ((q : ℕ) → under left.by_tag.entries q ≡ []) → IsStrictlySortedBy nat_cmp (keys_of left.by_tag.entries)
+    → AreEnds right.by_tag.entries right.ends → ((q : ℕ) → under right.by_tag.entries q ≡ []) → IsStrictlySortedBy nat_cmp (keys_of right.by_tag.entries) → StandsOnTwo tests 0 left right ([] ∷ [] ∷ []) (0 ∷ 0 ∷ [])
 stands_first tests left right left_ends left_none left_ordered right_ends right_none right_ordered = record {
   table = refl;
   mark = refl;
-  lefts = nothing_kept (left_key 0 tests) left left_ends left_none left_ordered;
-  rights = nothing_kept (right_key 0 tests) right right_ends right_none right_ordered;
+  lefts = nothing_kept (left_tag 0 tests) left left_ends left_none left_ordered;
+  rights = nothing_kept (right_tag 0 tests) right right_ends right_none right_ordered;
 }
 
-under_at : (key_of : List Field → List Field) (filed : FiledRows) (rows : List Row) (key : List Field) (r : Row) → Files key_of filed rows → (key ≡ key_of r.payload) ⊎ (key ≢ key_of r.payload) → count_of r (under filed key) ≤ count_of r rows
-under_at key_of filed rows key r files (inl same) = let there = files.there r in let at = ap (λ (k : List Field). count_of r (under filed k)) same in omega (arith, there, at)
-under_at key_of filed rows key r files (inr other) = let nothing = files.only key r other in omega (arith, nothing)
+under_at : (tag : List Field → ℕ) (filed : FiledRows) (rows : List Row) (t : ℕ) (r : Row) → Files tag filed rows → (t ≡ tag r.payload) ⊎ (t ≢ tag r.payload) → count_of r (under filed t) ≤ count_of r rows
+under_at tag filed rows t r files (inl same) = let there = files.there r in let at = ap (λ (k : ℕ). count_of r (under filed k)) same in omega (arith, there, at)
+under_at tag filed rows t r files (inr other) = let nothing = files.only t r other in omega (arith, nothing)
 
--- no row is under a key more often than in the bag
-under_most : (key_of : List Field → List Field) (filed : FiledRows) (rows : List Row) (key : List Field) (r : Row) → Files key_of filed rows → count_of r (under filed key) ≤ count_of r rows
-under_most key_of filed rows key r files = under_at key_of filed rows key r files (same_or_not (key_of r.payload) key)
+-- no row is under a tag more often than in the bag
+under_most : (tag : List Field → ℕ) (filed : FiledRows) (rows : List Row) (t : ℕ) (r : Row) → Files tag filed rows → count_of r (under filed t) ≤ count_of r rows
+under_most tag filed rows t r files = under_at tag filed rows t r files (cases_eq t (tag r.payload))
 
 two_left : (tables : Tables) (xs : List Row) → length tables ≡ 2 → with_table tables 0 xs ≡ xs ∷ table_at tables 1 ∷ []
 two_left [] xs h = absurd (omega arith)
@@ -122,70 +122,66 @@ from_least tables marks port c two tables_two can =
     omega arith
 
 module _ (tests : List Test) (width : ℕ) (left right : Filed) (tables : Tables) (marks : List ℕ) (h : StandsOnTwo tests width left right tables marks) where
-  -- a right row that may meet a left one is under its key as often as in the table
+  -- a right row that may meet a left one is under its tag as often as in the table
   right_under : (c : Change) (o : Row) → least_of marks ≤ sync_of c → may_meet (passes tests) Left c o ≡ true → count_of o h.rights.kept ≡ count_of o (table_at tables 1)
   right_under c o from meet =
       let late = ltb-true (sync_of c) o.end (and_parts (passes_on (passes tests) Left (changed_row c).payload o.payload) (ends_after (sync_of c) o) meet).1 in
-      kept_later (right_key width tests) right (least_of marks) (table_at tables 1) h.rights o (omega arith)
+      kept_later (right_tag width tests) right (least_of marks) (table_at tables 1) h.rights o (omega arith)
 
   left_under : (c : Change) (o : Row) → least_of marks ≤ sync_of c → may_meet (passes tests) Right c o ≡ true → count_of o h.lefts.kept ≡ count_of o (table_at tables 0)
   left_under c o from meet =
       let late = ltb-true (sync_of c) o.end (and_parts (passes_on (passes tests) Right (changed_row c).payload o.payload) (ends_after (sync_of c) o) meet).1 in
-      kept_later (left_key width tests) left (least_of marks) (table_at tables 0) h.lefts o (omega arith)
+      kept_later (left_tag width tests) left (least_of marks) (table_at tables 0) h.lefts o (omega arith)
 
   right_at : (c : Change) (b : Bool) → least_of marks ≤ sync_of c → nat_eq (length (changed_row c).payload) width ≡ b
-      → SameAmong (may_meet (passes tests) Left c) (right_partners right.by_key.entries (cond b (full_key Left width tests (changed_row c).payload) [])) (table_at tables 1) × AreRows (right_partners right.by_key.entries (cond b (full_key Left width tests (changed_row c).payload) []))
+      → SameAmong (may_meet (passes tests) Left c) (right_partners right.by_tag.entries (cond b (tag_of Left width tests (changed_row c).payload) 0)) (table_at tables 1) × AreRows (right_partners right.by_tag.entries (cond b (tag_of Left width tests (changed_row c).payload) 0))
   right_at c true from is =
       let a = changed_row c in
-      let fits = eqb-true (length a.payload) width is in
-      let key = full_key Left width tests a.payload in (
+      let t = tag_of Left width tests a.payload in
+      let some : nat_eq t 0 ≡ false = ne_eqb t 0 (λ e. omega (arith, e)) in
+      subst (λ (b : Bool). SameAmong (may_meet (passes tests) Left c) (cond b (all_under right.by_tag.entries) (under right.by_tag.entries t)) (table_at tables 1) × AreRows (cond b (all_under right.by_tag.entries) (under right.by_tag.entries t))) (sym some) (
         record {
           each = λ o meet.
-              let pass = (and_parts (passes_on (passes tests) Left (changed_row c).payload o.payload) (ends_after (sync_of c) o) meet).0 in
-              let one : full_key Left width tests (changed_row c).payload ≡ right_key width tests o.payload = subst (λ (w : ℕ). full_key Left w tests (changed_row c).payload ≡ right_key w tests o.payload) fits (keys_same (changed_row c).payload o.payload tests pass) in
-              let at = ap (λ (k : List Field). count_of o (under right.by_key.entries k)) one in
+              let pass = (and_parts (passes_on (passes tests) Left a.payload o.payload) (ends_after (sync_of c) o) meet).0 in
+              let one : t ≡ right_tag width tests o.payload = subst (λ (w : ℕ). tag_of Left w tests a.payload ≡ right_tag w tests o.payload) (eqb-true (length a.payload) width is) (tag_same tests a.payload o.payload pass) in
+              let at = ap (λ (k : ℕ). count_of o (under right.by_tag.entries k)) one in
               let there = h.rights.files.there o in
               omega (arith, at, there, right_under c o from meet);
         },
-        record {
-          each = λ o there.
-              let most = under_most (right_key width tests) right.by_key.entries h.rights.kept (full_key Left width tests (changed_row c).payload) o h.rights.files in
-              h.rights.rows.each o (omega (arith, most));
-        },
+        record { each = λ o there. let most = under_most (right_tag width tests) right.by_tag.entries h.rights.kept t o h.rights.files in h.rights.rows.each o (omega (arith, most)) },
       )
   right_at c false from is =
-      let same = all_same (right_key width tests) right.by_key.entries h.rights.kept h.rights.ordered h.rights.files in (
+      let same = all_same (right_tag width tests) right.by_tag.entries h.rights.kept h.rights.ordered h.rights.files in (
         record { each = λ o meet. same.each o ∙ right_under c o from meet },
-        same_are (all_under right.by_key.entries) h.rights.kept same h.rights.rows,
+        same_are (all_under right.by_tag.entries) h.rights.kept same h.rights.rows,
       )
 
   -- the right rows that may meet a left row are found
-  pub right_finds : (c : Change) (key : List Field) → least_of marks ≤ sync_of c → key ≡ left_key width tests (changed_row c).payload
-      → SameAmong (may_meet (passes tests) Left c) (right_partners right.by_key.entries key) (table_at tables 1) × AreRows (right_partners right.by_key.entries key)
-  right_finds c key from is =
-      subst (λ (k : List Field). SameAmong (may_meet (passes tests) Left c) (right_partners right.by_key.entries k) (table_at tables 1) × AreRows (right_partners right.by_key.entries k)) (sym is)
+  pub right_finds : (c : Change) (t : ℕ) → least_of marks ≤ sync_of c → t ≡ left_tag width tests (changed_row c).payload
+      → SameAmong (may_meet (passes tests) Left c) (right_partners right.by_tag.entries t) (table_at tables 1) × AreRows (right_partners right.by_tag.entries t)
+  right_finds c t from is =
+      subst (λ (k : ℕ). SameAmong (may_meet (passes tests) Left c) (right_partners right.by_tag.entries k) (table_at tables 1) × AreRows (right_partners right.by_tag.entries k)) (sym is)
       (right_at c (nat_eq (length (changed_row c).payload) width) from refl)
 
-  left_counts : (o b : Row) → count_of o (left_partners left.by_key.entries (right_key width tests b.payload)) ≡ count_of o (under left.by_key.entries (right_key width tests b.payload)) + count_of o (under left.by_key.entries [])
-  left_counts o b = count_of-append o (under left.by_key.entries (right_key width tests b.payload)) (under left.by_key.entries [])
+  left_counts : (o b : Row) → count_of o (left_partners left.by_tag.entries (right_tag width tests b.payload)) ≡ count_of o (under left.by_tag.entries (right_tag width tests b.payload)) + count_of o (under left.by_tag.entries 0)
+  left_counts o b = count_of-append o (under left.by_tag.entries (right_tag width tests b.payload)) (under left.by_tag.entries 0)
 
-  left_at : (o b : Row) (fits : Bool) → nat_eq (length o.payload) width ≡ fits → left_key width tests o.payload ≡ cond fits (full_key Left width tests o.payload) [] → passes tests o.payload b.payload ≡ true
-      → count_of o (under left.by_key.entries (right_key width tests b.payload)) + count_of o (under left.by_key.entries []) ≡ count_of o h.lefts.kept
-  left_at o b true is key pass =
-      let fits = eqb-true (length o.payload) width is in
-      let one : full_key Left width tests o.payload ≡ right_key width tests b.payload = subst (λ (w : ℕ). full_key Left w tests o.payload ≡ right_key w tests b.payload) fits (keys_same o.payload b.payload tests pass) in
-      let at = ap (λ (k : List Field). count_of o (under left.by_key.entries k)) (key ∙ one) in
+  left_at : (o b : Row) (fits : Bool) → nat_eq (length o.payload) width ≡ fits → left_tag width tests o.payload ≡ cond fits (tag_of Left width tests o.payload) 0 → passes tests o.payload b.payload ≡ true
+      → count_of o (under left.by_tag.entries (right_tag width tests b.payload)) + count_of o (under left.by_tag.entries 0) ≡ count_of o h.lefts.kept
+  left_at o b true is t pass =
+      let one : tag_of Left width tests o.payload ≡ right_tag width tests b.payload = subst (λ (w : ℕ). tag_of Left w tests o.payload ≡ right_tag w tests b.payload) (eqb-true (length o.payload) width is) (tag_same tests o.payload b.payload pass) in
+      let at = ap (λ (k : ℕ). count_of o (under left.by_tag.entries k)) (t ∙ one) in
       let there = h.lefts.files.there o in
-      let nothing = h.lefts.files.only [] o (λ e. let wrong = e ∙ key in cc) in
+      let nothing = h.lefts.files.only 0 o (λ e. omega (arith, e, t)) in
       omega (arith, at, there, nothing)
-  left_at o b false is key pass =
-      let at = ap (λ (k : List Field). count_of o (under left.by_key.entries k)) key in
+  left_at o b false is t pass =
+      let at = ap (λ (k : ℕ). count_of o (under left.by_tag.entries k)) t in
       let there = h.lefts.files.there o in
-      let nothing = h.lefts.files.only (right_key width tests b.payload) o (λ e. let wrong = e ∙ key in cc) in
+      let nothing = h.lefts.files.only (right_tag width tests b.payload) o (λ e. omega (arith, e, t)) in
       omega (arith, at, there, nothing)
 
   -- the left rows that may meet a right row are found
-  left_finds_at : (c : Change) → least_of marks ≤ sync_of c → SameAmong (may_meet (passes tests) Right c) (left_partners left.by_key.entries (right_key width tests (changed_row c).payload)) (table_at tables 0) × AreRows (left_partners left.by_key.entries (right_key width tests (changed_row c).payload))
+  left_finds_at : (c : Change) → least_of marks ≤ sync_of c → SameAmong (may_meet (passes tests) Right c) (left_partners left.by_tag.entries (right_tag width tests (changed_row c).payload)) (table_at tables 0) × AreRows (left_partners left.by_tag.entries (right_tag width tests (changed_row c).payload))
   left_finds_at c from = (
     record {
       each = λ o meet.
@@ -194,72 +190,72 @@ module _ (tests : List Test) (width : ℕ) (left right : Filed) (tables : Tables
     },
     record {
       each = λ o there.
-          let most = under_most (left_key width tests) left.by_key.entries h.lefts.kept (right_key width tests (changed_row c).payload) o h.lefts.files in
-          let most_else = under_most (left_key width tests) left.by_key.entries h.lefts.kept [] o h.lefts.files in
-          elim (cases_lt 0 (count_of o (under left.by_key.entries []))) [
+          let most = under_most (left_tag width tests) left.by_tag.entries h.lefts.kept (right_tag width tests (changed_row c).payload) o h.lefts.files in
+          let most_else = under_most (left_tag width tests) left.by_tag.entries h.lefts.kept 0 o h.lefts.files in
+          elim (cases_lt 0 (count_of o (under left.by_tag.entries 0))) [
             | inl some ↦ h.lefts.rows.each o (omega arith)
             | inr nothing ↦ h.lefts.rows.each o (omega (arith, left_counts o (changed_row c)))
           ];
     },
   )
 
-  pub left_finds : (c : Change) (key : List Field) → least_of marks ≤ sync_of c → key ≡ right_key width tests (changed_row c).payload
-      → SameAmong (may_meet (passes tests) Right c) (left_partners left.by_key.entries key) (table_at tables 0) × AreRows (left_partners left.by_key.entries key)
-  left_finds c key from is = subst (λ (k : List Field). SameAmong (may_meet (passes tests) Right c) (left_partners left.by_key.entries k) (table_at tables 0) × AreRows (left_partners left.by_key.entries k)) (sym is) (left_finds_at c from)
+  pub left_finds : (c : Change) (t : ℕ) → least_of marks ≤ sync_of c → t ≡ right_tag width tests (changed_row c).payload
+      → SameAmong (may_meet (passes tests) Right c) (left_partners left.by_tag.entries t) (table_at tables 0) × AreRows (left_partners left.by_tag.entries t)
+  left_finds c t from is = subst (λ (k : ℕ). SameAmong (may_meet (passes tests) Right c) (left_partners left.by_tag.entries k) (table_at tables 0) × AreRows (left_partners left.by_tag.entries k)) (sym is) (left_finds_at c from)
 
-  module _ (c : Change) (after : List Row) (key : List Field) where
-    module _ (new : Filed) (ends : AreEnds new.by_key.entries new.ends) (ordered : IsStrictlySortedBy payload_cmp (keys_of new.by_key.entries)) where
-      pub left_stands : CanTake tables marks 0 c → IsMoved c (table_at tables 0) after → key ≡ left_key width tests (changed_row c).payload
-          → SameRows (under new.by_key.entries key ++ takes c) (under left.by_key.entries key ++ puts c) → ((q : List Field) → q ≢ key → under new.by_key.entries q ≡ under left.by_key.entries q) → StandsOnTwo tests width new right (with_table tables 0 after) marks
+  module _ (c : Change) (after : List Row) (t : ℕ) where
+    module _ (new : Filed) (ends : AreEnds new.by_tag.entries new.ends) (ordered : IsStrictlySortedBy nat_cmp (keys_of new.by_tag.entries)) where
+      pub left_stands : CanTake tables marks 0 c → IsMoved c (table_at tables 0) after → t ≡ left_tag width tests (changed_row c).payload
+          → SameRows (under new.by_tag.entries t ++ takes c) (under left.by_tag.entries t ++ puts c) → ((q : ℕ) → q ≢ t → under new.by_tag.entries q ≡ under left.by_tag.entries q) → StandsOnTwo tests width new right (with_table tables 0 after) marks
       left_stands can moved is here others =
           let at = table_at-with tables 0 after can.port_is in
           let other = table_at-with_other tables 0 1 after (λ e. cc) in
           record {
             table = length-set tables 0 after ∙ h.table;
             mark = h.mark;
-            lefts = subst (Keeps (left_key width tests) new (least_of marks)) (sym at)
-                (keeps_moved (left_key width tests) left (least_of marks) (table_at tables 0) h.lefts c key after new (from_least tables marks 0 c h.mark h.table can) can.legal moved is here others ends ordered);
-            rights = subst (Keeps (right_key width tests) right (least_of marks)) (sym other) h.rights;
+            lefts = subst (Keeps (left_tag width tests) new (least_of marks)) (sym at)
+                (keeps_moved (left_tag width tests) left (least_of marks) (table_at tables 0) h.lefts c t after new (from_least tables marks 0 c h.mark h.table can) can.legal moved is here others ends ordered);
+            rights = subst (Keeps (right_tag width tests) right (least_of marks)) (sym other) h.rights;
           }
 
-      pub right_stands : CanTake tables marks 1 c → IsMoved c (table_at tables 1) after → key ≡ right_key width tests (changed_row c).payload
-          → SameRows (under new.by_key.entries key ++ takes c) (under right.by_key.entries key ++ puts c) → ((q : List Field) → q ≢ key → under new.by_key.entries q ≡ under right.by_key.entries q) → StandsOnTwo tests width left new (with_table tables 1 after) marks
+      pub right_stands : CanTake tables marks 1 c → IsMoved c (table_at tables 1) after → t ≡ right_tag width tests (changed_row c).payload
+          → SameRows (under new.by_tag.entries t ++ takes c) (under right.by_tag.entries t ++ puts c) → ((q : ℕ) → q ≢ t → under new.by_tag.entries q ≡ under right.by_tag.entries q) → StandsOnTwo tests width left new (with_table tables 1 after) marks
       right_stands can moved is here others =
           let at = table_at-with tables 1 after can.port_is in
           let other = table_at-with_other tables 1 0 after (λ e. cc) in
           record {
             table = length-set tables 1 after ∙ h.table;
             mark = h.mark;
-            lefts = subst (Keeps (left_key width tests) left (least_of marks)) (sym other) h.lefts;
-            rights = subst (Keeps (right_key width tests) new (least_of marks)) (sym at)
-                (keeps_moved (right_key width tests) right (least_of marks) (table_at tables 1) h.rights c key after new (from_least tables marks 1 c h.mark h.table can) can.legal moved is here others ends ordered);
+            lefts = subst (Keeps (left_tag width tests) left (least_of marks)) (sym other) h.lefts;
+            rights = subst (Keeps (right_tag width tests) new (least_of marks)) (sym at)
+                (keeps_moved (right_tag width tests) right (least_of marks) (table_at tables 1) h.rights c t after new (from_least tables marks 1 c h.mark h.table can) can.legal moved is here others ends ordered);
           }
 
-    pub left_gains : (outs outs' : List Change) → CanTake tables marks 0 c → IsMoved c (table_at tables 0) after → key ≡ left_key width tests (changed_row c).payload
-        → outs' ≡ outs ++ all_changes (passes tests) Left c (right_partners right.by_key.entries key) → Gains (chosen (joined_rows (passes tests)) tables) (chosen (joined_rows (passes tests)) (with_table tables 0 after)) (least_of marks) outs outs'
+    pub left_gains : (outs outs' : List Change) → CanTake tables marks 0 c → IsMoved c (table_at tables 0) after → t ≡ left_tag width tests (changed_row c).payload
+        → outs' ≡ outs ++ all_changes (passes tests) Left c (right_partners right.by_tag.entries t) → Gains (chosen (joined_rows (passes tests)) tables) (chosen (joined_rows (passes tests)) (with_table tables 0 after)) (least_of marks) outs outs'
     left_gains outs outs' can moved is appended =
         let from = from_least tables marks 0 c h.mark h.table can in
-        let finds = right_finds c key from is in
+        let finds = right_finds c t from is in
         record {
-          changes = all_changes (passes tests) Left c (right_partners right.by_key.entries key);
+          changes = all_changes (passes tests) Left c (right_partners right.by_tag.entries t);
           appended = appended;
-          repair = chosen_repairs (joined_rows (passes tests)) tables 0 c after (least_of marks) (all_changes (passes tests) Left c (right_partners right.by_key.entries key)) can.port_is can.legal moved
-              (pairs_turn (passes tests) Left c (least_of marks) (right_partners right.by_key.entries key) (table_at tables 1) (chosen (joined_rows (passes tests)) (with_table tables 0 (takes c))) (chosen (joined_rows (passes tests)) (with_table tables 0 (puts c)))
+          repair = chosen_repairs (joined_rows (passes tests)) tables 0 c after (least_of marks) (all_changes (passes tests) Left c (right_partners right.by_tag.entries t)) can.port_is can.legal moved
+              (pairs_turn (passes tests) Left c (least_of marks) (right_partners right.by_tag.entries t) (table_at tables 1) (chosen (joined_rows (passes tests)) (with_table tables 0 (takes c))) (chosen (joined_rows (passes tests)) (with_table tables 0 (puts c)))
               (may_is (table_at tables 0) [] c can.legal) from finds.1 finds.0
               (λ r. ap (λ (ts : Tables). count_of r (chosen (joined_rows (passes tests)) ts)) (two_left tables (takes c) h.table) ∙ count_left (passes tests) r (takes c) (table_at tables 1))
               (λ r. ap (λ (ts : Tables). count_of r (chosen (joined_rows (passes tests)) ts)) (two_left tables (puts c) h.table) ∙ count_left (passes tests) r (puts c) (table_at tables 1)));
         }
 
-    pub right_gains : (outs outs' : List Change) → CanTake tables marks 1 c → IsMoved c (table_at tables 1) after → key ≡ right_key width tests (changed_row c).payload
-        → outs' ≡ outs ++ all_changes (passes tests) Right c (left_partners left.by_key.entries key) → Gains (chosen (joined_rows (passes tests)) tables) (chosen (joined_rows (passes tests)) (with_table tables 1 after)) (least_of marks) outs outs'
+    pub right_gains : (outs outs' : List Change) → CanTake tables marks 1 c → IsMoved c (table_at tables 1) after → t ≡ right_tag width tests (changed_row c).payload
+        → outs' ≡ outs ++ all_changes (passes tests) Right c (left_partners left.by_tag.entries t) → Gains (chosen (joined_rows (passes tests)) tables) (chosen (joined_rows (passes tests)) (with_table tables 1 after)) (least_of marks) outs outs'
     right_gains outs outs' can moved is appended =
         let from = from_least tables marks 1 c h.mark h.table can in
-        let finds = left_finds c key from is in
+        let finds = left_finds c t from is in
         record {
-          changes = all_changes (passes tests) Right c (left_partners left.by_key.entries key);
+          changes = all_changes (passes tests) Right c (left_partners left.by_tag.entries t);
           appended = appended;
-          repair = chosen_repairs (joined_rows (passes tests)) tables 1 c after (least_of marks) (all_changes (passes tests) Right c (left_partners left.by_key.entries key)) can.port_is can.legal moved
-              (pairs_turn (passes tests) Right c (least_of marks) (left_partners left.by_key.entries key) (table_at tables 0) (chosen (joined_rows (passes tests)) (with_table tables 1 (takes c))) (chosen (joined_rows (passes tests)) (with_table tables 1 (puts c)))
+          repair = chosen_repairs (joined_rows (passes tests)) tables 1 c after (least_of marks) (all_changes (passes tests) Right c (left_partners left.by_tag.entries t)) can.port_is can.legal moved
+              (pairs_turn (passes tests) Right c (least_of marks) (left_partners left.by_tag.entries t) (table_at tables 0) (chosen (joined_rows (passes tests)) (with_table tables 1 (takes c))) (chosen (joined_rows (passes tests)) (with_table tables 1 (puts c)))
               (may_is (table_at tables 1) [] c can.legal) from finds.1 finds.0
               (λ r. ap (λ (ts : Tables). count_of r (chosen (joined_rows (passes tests)) ts)) (two_right tables (takes c) h.table) ∙ count_right (passes tests) r (table_at tables 0) (takes c))
               (λ r. ap (λ (ts : Tables). count_of r (chosen (joined_rows (passes tests)) ts)) (two_right tables (puts c) h.table) ∙ count_right (passes tests) r (table_at tables 0) (puts c)));
@@ -271,8 +267,8 @@ only_on_two p xs ys left right (suc zero) r there = right r there
 only_on_two p xs ys left right (suc (suc port)) r there = absurd (omega arith)
 
 module _ (tests : List Test) (width : ℕ) (left right left' right' : Filed) (tables : Tables) (earlier marks : List ℕ) (least : ℕ) (rise : AllRise earlier marks) (is : least ≡ least_of marks) (h : StandsOnTwo tests width left right tables earlier)
-    (left_rows : (q : List Field) → SameRows (under left'.by_key.entries q) (filter (ends_after least) (under left.by_key.entries q))) (left_ends : AreEnds left'.by_key.entries left'.ends) (left_ordered : IsStrictlySortedBy payload_cmp (keys_of left'.by_key.entries))
-    (right_rows : (q : List Field) → SameRows (under right'.by_key.entries q) (filter (ends_after least) (under right.by_key.entries q))) (right_ends : AreEnds right'.by_key.entries right'.ends) (right_ordered : IsStrictlySortedBy payload_cmp (keys_of right'.by_key.entries)) where
+    (left_rows : (q : ℕ) → SameRows (under left'.by_tag.entries q) (filter (ends_after least) (under left.by_tag.entries q))) (left_ends : AreEnds left'.by_tag.entries left'.ends) (left_ordered : IsStrictlySortedBy nat_cmp (keys_of left'.by_tag.entries))
+    (right_rows : (q : ℕ) → SameRows (under right'.by_tag.entries q) (filter (ends_after least) (under right.by_tag.entries q))) (right_ends : AreEnds right'.by_tag.entries right'.ends) (right_ordered : IsStrictlySortedBy nat_cmp (keys_of right'.by_tag.entries)) where
   rises : least_of earlier ≤ least
   rises = let up = least_rises earlier marks rise in omega arith
 
@@ -281,14 +277,14 @@ module _ (tests : List Test) (width : ℕ) (left right left' right' : Filed) (ta
   stands_trimmed = record {
     table = h.table;
     mark = rise_length earlier marks rise ∙ h.mark;
-    lefts = subst (λ (t : ℕ). Keeps (left_key width tests) left' t (table_at tables 0)) is (keeps_forgotten (left_key width tests) left (least_of earlier) (table_at tables 0) h.lefts least rises left' left_rows left_ends left_ordered);
-    rights = subst (λ (t : ℕ). Keeps (right_key width tests) right' t (table_at tables 1)) is (keeps_forgotten (right_key width tests) right (least_of earlier) (table_at tables 1) h.rights least rises right' right_rows right_ends right_ordered);
+    lefts = subst (λ (t : ℕ). Keeps (left_tag width tests) left' t (table_at tables 0)) is (keeps_forgotten (left_tag width tests) left (least_of earlier) (table_at tables 0) h.lefts least rises left' left_rows left_ends left_ordered);
+    rights = subst (λ (t : ℕ). Keeps (right_tag width tests) right' t (table_at tables 1)) is (keeps_forgotten (right_tag width tests) right (least_of earlier) (table_at tables 1) h.rights least rises right' right_rows right_ends right_ordered);
   }
 
   -- and each row that is held ends after it
-  pub holds_trimmed : OnlyHolds (join_of tests) tables marks (all_under left'.by_key.entries ∷ all_under right'.by_key.entries ∷ [])
+  pub holds_trimmed : OnlyHolds (join_of tests) tables marks (all_under left'.by_tag.entries ∷ all_under right'.by_tag.entries ∷ [])
   holds_trimmed = record {
-    each = only_on_two (ends_after (least_of marks)) (all_under left'.by_key.entries) (all_under right'.by_key.entries)
-        (λ r there. subst (λ (t : ℕ). ends_after t r ≡ true) is (held_ends_later (left_key width tests) left (least_of earlier) (table_at tables 0) h.lefts least rises left' left_rows left_ends left_ordered r there))
-        (λ r there. subst (λ (t : ℕ). ends_after t r ≡ true) is (held_ends_later (right_key width tests) right (least_of earlier) (table_at tables 1) h.rights least rises right' right_rows right_ends right_ordered r there));
+    each = only_on_two (ends_after (least_of marks)) (all_under left'.by_tag.entries) (all_under right'.by_tag.entries)
+        (λ r there. subst (λ (t : ℕ). ends_after t r ≡ true) is (held_ends_later (left_tag width tests) left (least_of earlier) (table_at tables 0) h.lefts least rises left' left_rows left_ends left_ordered r there))
+        (λ r there. subst (λ (t : ℕ). ends_after t r ≡ true) is (held_ends_later (right_tag width tests) right (least_of earlier) (table_at tables 1) h.rights least rises right' right_rows right_ends right_ordered r there));
   }

@@ -8,7 +8,7 @@ use Rattle.cedr_base.specs.declared.row.Row.{Row}
 use Rattle.cedr_base.specs.declared.change.Change.{Change}
 use Rattle.cedr_base.specs.declared.change.Change.TheVariants.{Add, Cut}
 use Rattle.cedr_base.specs.Changes.{sync_of}
-use Rattle.op_join.specs.declared.side.Side.{Side}
+use Rattle.cedr_expr.specs.declared.side.Side.{Side}
 use Rattle.op_join.specs.Joins.{PairTest, meet}
 use Rattle.cedr_table.specs.Counted.{ends_after}
 use Rattle.op_join.specs.Pairs.{met, passes_on, both_on, cut_to, pair_changes, changed_row, all_changes}

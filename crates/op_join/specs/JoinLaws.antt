@@ -15,8 +15,8 @@ use Rattle.op_join.specs.declared.filed.Filed.{Filed}
 use Rattle.op_join.specs.Joins.{Keeps, StandsOnTwo, join_of, joined_rows}
 
 -- what is kept of a table is kept of each list of it
-keeps_alike : (key_of : List Field → List Field) (filed : Filed) (time : ℕ) (table other : List Row) → SameRows table other → Keeps key_of filed time table → Keeps key_of filed time other
-keeps_alike key_of filed time table other same h = record {
+keeps_alike : (tag : List Field → ℕ) (filed : Filed) (time : ℕ) (table other : List Row) → SameRows table other → Keeps tag filed time table → Keeps tag filed time other
+keeps_alike tag filed time table other same h = record {
   kept = h.kept;
   same = among_along (ends_after time) h.kept table other h.same (among_same (ends_after time) table other same);
   rows = h.rows;
@@ -26,8 +26,8 @@ keeps_alike key_of filed time table other same h = record {
 }
 
 -- and at each later time
-keeps_later : (key_of : List Field → List Field) (filed : Filed) (time later : ℕ) (table : List Row) → time ≤ later → Keeps key_of filed time table → Keeps key_of filed later table
-keeps_later key_of filed time later table rise h = record {
+keeps_later : (tag : List Field → ℕ) (filed : Filed) (time later : ℕ) (table : List Row) → time ≤ later → Keeps tag filed time table → Keeps tag filed later table
+keeps_later tag filed time later table rise h = record {
   kept = h.kept;
   same = among_fewer (ends_after time) (ends_after later) h.kept table (λ r late. ends_earlier time later r rise late) h.same;
   rows = h.rows;
@@ -45,6 +45,7 @@ stands_alike tests width left right tables others marks k h = record {
   rights = keeps_alike _ right _ _ _ (same_at 1 tables others k) h.rights;
 }
 
+-- what stands for two tables at some marks stands for them at greater ones
 pub stands_later : (tests : List Test) (width : ℕ) (left right : Filed) (tables : Tables) (marks later : List ℕ) → AllRise marks later
     → StandsOnTwo tests width left right tables marks → StandsOnTwo tests width left right tables later
 stands_later tests width left right tables marks later k h = record {
@@ -54,6 +55,7 @@ stands_later tests width left right tables marks later k h = record {
   rights = keeps_later _ right _ _ _ (least_rises marks later k) h.rights;
 }
 
+-- the laws of the meaning of a join, and of what its state stands for
 pub join_laws : (tests : List Test) (width : ℕ) (left right : Filed) → OperatorLaws (join_of tests) (StandsOnTwo tests width left right)
 join_laws tests width left right = record {
   sized = λ tables marks h. (h.table, h.mark);

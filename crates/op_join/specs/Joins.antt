@@ -2,9 +2,9 @@
 use Rattle.std.specs.Prelude.{ℕ, ◌≡◌, List, [], ◌∷◌, ◌++◌, length, Bool, false, nat_lt, min, max, ◌&&◌, if◌then◌else◌}
 use Rattle.std.specs.List.Sorted.{IsStrictlySortedBy}
 use Rattle.std.specs.Map.{keys_of}
+use Rattle.std.specs.Ordering.{nat_cmp}
 use Rattle.cedr_base.specs.declared.field.Field.{Field}
 use Rattle.cedr_base.specs.declared.row.Row.{Row}
-use Rattle.cedr_base.specs.Order.{payload_cmp}
 use Rattle.cedr_base.specs.Rows.{AreRows}
 use Rattle.cedr_expr.specs.declared.test.Test.{Test}
 use Rattle.cedr_expr.specs.Tests.{passes}
@@ -14,7 +14,7 @@ use Rattle.cedr_table.specs.Operators.{Tables, Meaning, table_at, with_table, le
 use Rattle.cedr_table.specs.Choices.{chosen}
 use Rattle.cedr_table.specs.Counted.{ends_after, SameAmong}
 use Rattle.op_join.specs.declared.filed.Filed.{Filed}
-use Rattle.op_join.specs.Keys.{left_key, right_key}
+use Rattle.op_join.specs.Tags.{left_tag, right_tag}
 use Rattle.op_join.specs.Filed.{Files}
 use Rattle.op_join.specs.Ends.{AreEnds}
 
@@ -47,21 +47,21 @@ join_of tests = record {
   stateless = false;
 }
 
--- Rows are filed under their keys, with their ends. They are those of a table, but for rows that end by a time.
-pub record Keeps (key_of : List Field → List Field) (filed : Filed) (time : ℕ) (table : List Row) : Type 0 where
+-- Rows are filed under their tags, with their ends. They are those of a table, but for rows that end by a time.
+pub record Keeps (tag : List Field → ℕ) (filed : Filed) (time : ℕ) (table : List Row) : Type 0 where
   pub kept : List Row
   pub same : SameAmong (ends_after time) kept table
   pub rows : AreRows kept
-  pub files : Files key_of filed.by_key.entries kept
-  pub ends : AreEnds filed.by_key.entries filed.ends
-  pub ordered : IsStrictlySortedBy payload_cmp (keys_of filed.by_key.entries)
+  pub files : Files tag filed.by_tag.entries kept
+  pub ends : AreEnds filed.by_tag.entries filed.ends
+  pub ordered : IsStrictlySortedBy nat_cmp (keys_of filed.by_tag.entries)
 
--- both tables are filed under the fields that equality tests compare, but for rows that end by the least mark
+-- both tables are filed under the tags beside left payloads of the width, but for rows that end by the least mark
 pub record StandsOnTwo (tests : List Test) (width : ℕ) (left right : Filed) (tables : Tables) (marks : List ℕ) : Type 0 where
   pub table : length tables ≡ 2
   pub mark : length marks ≡ 2
-  pub lefts : Keeps (left_key width tests) left (least_of marks) (table_at tables 0)
-  pub rights : Keeps (right_key width tests) right (least_of marks) (table_at tables 1)
+  pub lefts : Keeps (left_tag width tests) left (least_of marks) (table_at tables 0)
+  pub rights : Keeps (right_tag width tests) right (least_of marks) (table_at tables 1)
 
 -- a state stands for what a legal change of a port makes of the tables
 abbrev pub StandsAfter : (Tables → List ℕ → Type 0) → (Tables → List ℕ → Type 0) → ℕ → Change → Type 0

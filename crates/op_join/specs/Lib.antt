@@ -1,4 +1,4 @@
-pub mod Keys
+pub mod Tags
 pub mod Filed
 pub mod Ends
 pub mod Pairs

@@ -5,15 +5,16 @@ use Rattle.cedr_base.specs.declared.field.Field.{Field}
 use Rattle.cedr_base.specs.declared.row.Row.{Row}
 use Rattle.cedr_base.specs.declared.change.Change.{Change}
 use Rattle.cedr_base.specs.declared.change.Change.TheVariants.{Add, Cut}
-use Rattle.op_join.specs.declared.side.Side.{Side}
-use Rattle.op_join.specs.declared.side.Side.TheVariants.{Left, Right}
+use Rattle.cedr_expr.specs.declared.side.Side.{Side}
+use Rattle.cedr_expr.specs.declared.side.Side.TheVariants.{Left, Right}
 use Rattle.op_join.specs.Joins.{PairTest, meet}
 
--- a test and a payload, seen from the side of the first row
+-- whether two payloads pass, seen from the side of the first row
 abbrev pub passes_on : PairTest → Side → List Field → List Field → Bool
 passes_on pass Left x y = pass x y
 passes_on pass Right x y = pass y x
 
+-- two payloads joined, the left one first, seen from the side of the first row
 abbrev pub both_on : Side → List Field → List Field → List Field
 both_on Left x y = x ++ y
 both_on Right x y = y ++ x
@@ -31,6 +32,7 @@ abbrev pub pair_changes : Change → List Row → List Change
 pair_changes (Add a) rows = map (λ r. Add r) rows
 pair_changes (Cut a e) rows = flat_map (cut_to e) rows
 
+-- the row that a change adds or cuts
 abbrev pub changed_row : Change → Row
 changed_row (Add a) = a
 changed_row (Cut a e) = a

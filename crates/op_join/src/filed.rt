@@ -1,164 +1,195 @@
-ghost use Rattle.std.specs.Prelude.{◌≡◌, ◌≢◌, ◌<◌, ◌++◌, [], List, true, IfOk, OnOk};
+ghost use Rattle.std.specs.Prelude.{ℕ, ◌≡◌, ◌≢◌, ◌<◌, ◌++◌, ◌∷◌, [], true, IfOk, OnOk};
 ghost use Rattle.std.specs.List.{filter};
 ghost use Rattle.std.specs.BTreeMap.{IsOrdered};
-ghost use Rattle.cedr_base.specs.declared.field.Field.{Field};
+ghost use Rattle.std.specs.Ordering.{nat_cmp};
 ghost use Rattle.cedr_base.specs.declared.row.Row.{Row as RowValue};
-ghost use Rattle.cedr_base.specs.Order.{payload_cmp};
 ghost use Rattle.cedr_base.specs.Rows.{in_order, count_of, SameRows};
-ghost use Rattle.cedr_base.specs.Changes.{puts, takes};
+ghost use Rattle.cedr_base.specs.Changes.{puts, takes, remnant};
 ghost use Rattle.cedr_table.specs.Counted.{LacksRow, ends_after};
 ghost use Rattle.op_join.specs.Filed.{under, listed};
 ghost use Rattle.op_join.specs.Ends.{end_row, end_rows, AreEnds};
 
 use cedr_base::{Change, OutOfMemory, Payload, Row, Time};
-use cedr_table::{Table, TableFault};
+use cedr_table::Table;
 use std::alloc::Global;
 use std::collections::BTreeMap;
 
-/// Rows by their keys. No key stands there without a row.
-pub(crate) type ByKey = BTreeMap<Payload, Table>;
+/// Rows by their tags. No tag stands there without a row.
+pub(crate) type ByTag = BTreeMap<u64, Table>;
 
-/// Rows by their keys, and the ends of all of them in order of time, each with its row's key: by these the rows that
+/// Rows by their tags, and the ends of all of them in order of time, each with its row's tag: by these the rows that
 /// ended are found without a look at the others.
 #[derive(Drop)]
 pub(crate) struct Filed {
-    pub(crate) by_key: ByKey,
+    pub(crate) by_tag: ByTag,
     pub(crate) ends: Table,
 }
 
-/// Applies a change whose row is there.
-fn change_table(table: &mut Table, change: &Change) -> Result<(), OutOfMemory>
-    requires { LacksRow table.old change.now → ⊥ }
-    ensures { OnOk result (SameRows (table.new ++ takes change.now) (table.old ++ puts change.now)) }
+/// Cuts a row that is there. Where memory runs out it may be lost.
+fn cut_row(table: &mut Table, mut row: Row, end: Time) -> Result<(), OutOfMemory>
+    requires { 0 < count_of row table.old }
+    ensures { OnOk result (SameRows (table.new ++ row ∷ []) (table.old ++ remnant row end)) }
 {
-    match table.apply(change) {
-        Ok(()) => Ok(()),
-        Err(TableFault::OutOfMemory) => Err(OutOfMemory),
-        Err(TableFault::NoSuchRow) => unreachable!(),
-    }
-}
-
-/// Applies a change to the rows under its row's key. Where memory runs out these rows are lost.
-/// O(log n) comparisons.
-fn note_row(
-    alloc: Global,
-    by_key: &mut ByKey,
-    key: Payload,
-    change: &Change,
-) -> Result<(), OutOfMemory>
-    requires { LacksRow (under by_key.old.entries key) change.now → ⊥ }
-    ensures here { OnOk result (SameRows (under by_key.new.entries key ++ takes change.now) (under by_key.old.entries key ++ puts change.now)) }
-    ensures others { OnOk result ((q : List Field) → q ≢ key → under by_key.new.entries q ≡ under by_key.old.entries q) }
-    ensures ordered { OnOk result (IsOrdered payload_cmp by_key.new) }
-{
-    let mut table = by_key.remove(&key).unwrap_or(Table::new(alloc));
-    change_table(&mut table, change)?;
-    if table.len() > 0 {
-        by_key.insert(key, table)?;
+    table.take(&row);
+    if row.begin < end {
+        row.end = end;
+        table.insert(row)?;
     }
     Ok(())
 }
 
-/// Applies a change to the ends of the rows under its row's key. Where memory runs out an end may be lost.
-/// O(log n) comparisons.
-fn note_end(
-    alloc: Global,
-    ends: &mut Table,
-    key: &Payload,
-    change: &Change,
-) -> Result<(), OutOfMemory>
-    requires { (r : RowValue) → 0 < count_of r (takes change.now) → 0 < count_of (end_row key.now r.end) ends.old }
-    ensures { OnOk result (SameRows (ends.new ++ end_rows key.now (takes change.now)) (ends.old ++ end_rows key.now (puts change.now))) }
+/// Adds a row under its tag. Where memory runs out the rows there may be lost. One search for the tag.
+fn add_under(alloc: Global, by_tag: &mut ByTag, tag: u64, row: Row) -> Result<(), OutOfMemory>
+    ensures here { OnOk result (SameRows (under by_tag.new.entries tag) (row ∷ under by_tag.old.entries tag)) }
+    ensures others { OnOk result ((q : ℕ) → q ≢ tag → under by_tag.new.entries q ≡ under by_tag.old.entries q) }
+    ensures ordered { OnOk result (IsOrdered nat_cmp by_tag.new) }
 {
-    let mut at = Row {
-        end: 0,
-        begin: 0,
-        payload: key.copy(alloc)?,
-    };
+    let table = by_tag.entry(tag)?.or_insert(Table::new(alloc));
+    table.insert(row)?;
+    Ok(())
+}
+
+/// Cuts a row under its tag, and says whether no row is left there. Where memory runs out the rows there may be lost.
+fn cut_there(by_tag: &mut ByTag, tag: u64, row: Row, end: Time) -> Result<bool, OutOfMemory>
+    requires { 0 < count_of row (under by_tag.old.entries tag) }
+    ensures here { OnOk result (SameRows (under by_tag.new.entries tag ++ row ∷ []) (under by_tag.old.entries tag ++ remnant row end)) }
+    ensures others { OnOk result ((q : ℕ) → q ≢ tag → under by_tag.new.entries q ≡ under by_tag.old.entries q) }
+    ensures emptied { IfOk result (λ emptied. emptied ≡ true → under by_tag.new.entries tag ≡ []) }
+    ensures ordered { OnOk result (IsOrdered nat_cmp by_tag.new) }
+{
+    match by_tag.get_mut(&tag) {
+        Some(table) => {
+            cut_row(table, row, end)?;
+            Ok(table.len() == 0)
+        }
+        None => Ok(false),
+    }
+}
+
+/// Cuts a row under its tag. Where memory runs out the rows there may be lost. One search for the tag, and one more
+/// where no row is left there.
+fn cut_under(by_tag: &mut ByTag, tag: u64, row: Row, end: Time) -> Result<(), OutOfMemory>
+    requires { 0 < count_of row (under by_tag.old.entries tag) }
+    ensures here { OnOk result (SameRows (under by_tag.new.entries tag ++ row ∷ []) (under by_tag.old.entries tag ++ remnant row end)) }
+    ensures others { OnOk result ((q : ℕ) → q ≢ tag → under by_tag.new.entries q ≡ under by_tag.old.entries q) }
+    ensures ordered { OnOk result (IsOrdered nat_cmp by_tag.new) }
+{
+    if cut_there(by_tag, tag, row, end)? {
+        by_tag.remove(&tag);
+    }
+    Ok(())
+}
+
+/// Applies a change to the rows under its row's tag. Where memory runs out rows there may be lost.
+/// O(log n) comparisons.
+fn note_row(alloc: Global, by_tag: &mut ByTag, tag: u64, change: Change) -> Result<(), OutOfMemory>
+    requires { LacksRow (under by_tag.old.entries tag) change → ⊥ }
+    ensures here { OnOk result (SameRows (under by_tag.new.entries tag ++ takes change) (under by_tag.old.entries tag ++ puts change)) }
+    ensures others { OnOk result ((q : ℕ) → q ≢ tag → under by_tag.new.entries q ≡ under by_tag.old.entries q) }
+    ensures ordered { OnOk result (IsOrdered nat_cmp by_tag.new) }
+{
     match change {
-        Change::Add(row) => {
-            at.end = row.end;
-            ends.insert(at)?;
-        }
+        Change::Add(row) => add_under(alloc, by_tag, tag, row),
+        Change::Cut(row, end) => cut_under(by_tag, tag, row, end),
+    }
+}
+
+/// The end of a row, with its tag.
+fn end_row(alloc: Global, tag: u64, time: Time) -> Row
+    ensures { result ≡ end_row tag time }
+{
+    Row {
+        end: time,
+        begin: tag,
+        payload: Payload::new(alloc),
+    }
+}
+
+/// Applies a change to the ends of the rows under its row's tag. Where memory runs out an end may be lost.
+/// O(log n) comparisons.
+fn note_end(alloc: Global, ends: &mut Table, tag: u64, change: &Change) -> Result<(), OutOfMemory>
+    requires { (r : RowValue) → 0 < count_of r (takes change.now) → 0 < count_of (end_row tag r.end) ends.old }
+    ensures { OnOk result (SameRows (ends.new ++ end_rows tag (takes change.now)) (ends.old ++ end_rows tag (puts change.now))) }
+{
+    match change {
+        Change::Add(row) => ends.insert(end_row(alloc, tag, row.end)),
         Change::Cut(row, end) => {
-            at.end = row.end;
-            ends.take(&at);
+            ends.take(&end_row(alloc, tag, row.end));
             if row.begin < *end {
-                at.end = *end;
-                ends.insert(at)?;
+                ends.insert(end_row(alloc, tag, *end))?;
             }
+            Ok(())
         }
     }
-    Ok(())
 }
 
 impl Filed {
     /// No row. It takes no memory.
     pub(crate) fn new(alloc: Global) -> Filed
-        ensures ends { AreEnds result.by_key.entries result.ends }
-        ensures none { (q : List Field) → under result.by_key.entries q ≡ [] }
-        ensures ordered { IsOrdered payload_cmp result.by_key }
+        ensures ends { AreEnds result.by_tag.entries result.ends }
+        ensures none { (q : ℕ) → under result.by_tag.entries q ≡ [] }
+        ensures ordered { IsOrdered nat_cmp result.by_tag }
     {
         Filed {
-            by_key: BTreeMap::new(alloc),
+            by_tag: BTreeMap::new(alloc),
             ends: Table::new(alloc),
         }
     }
 
-    /// Applies a change to the rows under its row's key. Where memory runs out rows may be lost.
+    /// Applies a change to the rows under its row's tag. Where memory runs out rows may be lost.
     /// O(log n) comparisons.
     pub(crate) fn note(
         &mut self,
         alloc: Global,
-        key: Payload,
-        change: &Change,
+        tag: u64,
+        change: Change,
     ) -> Result<(), OutOfMemory>
-        requires there { LacksRow (under self.old.by_key.entries key) change.now → ⊥ }
-        requires ends { AreEnds self.old.by_key.entries self.old.ends }
-        ensures here { OnOk result (SameRows (under self.new.by_key.entries key ++ takes change.now) (under self.old.by_key.entries key ++ puts change.now)) }
-        ensures others { OnOk result ((q : List Field) → q ≢ key → under self.new.by_key.entries q ≡ under self.old.by_key.entries q) }
-        ensures ends { OnOk result (AreEnds self.new.by_key.entries self.new.ends) }
-        ensures ordered { OnOk result (IsOrdered payload_cmp self.new.by_key) }
+        requires there { LacksRow (under self.old.by_tag.entries tag) change → ⊥ }
+        requires ends { AreEnds self.old.by_tag.entries self.old.ends }
+        ensures here { OnOk result (SameRows (under self.new.by_tag.entries tag ++ takes change) (under self.old.by_tag.entries tag ++ puts change)) }
+        ensures others { OnOk result ((q : ℕ) → q ≢ tag → under self.new.by_tag.entries q ≡ under self.old.by_tag.entries q) }
+        ensures ends { OnOk result (AreEnds self.new.by_tag.entries self.new.ends) }
+        ensures ordered { OnOk result (IsOrdered nat_cmp self.new.by_tag) }
     {
-        note_end(alloc, &mut self.ends, &key, change)?;
-        note_row(alloc, &mut self.by_key, key, change)?;
+        note_end(alloc, &mut self.ends, tag, &change)?;
+        note_row(alloc, &mut self.by_tag, tag, change)?;
         Ok(())
     }
 
     /// Forgets the rows that end at a time or before. It takes no memory. O(log n) comparisons for each of them, and a
     /// look at the first end where there is none.
     pub(crate) fn forget_ended(&mut self, time: Time)
-        requires ends { AreEnds self.old.by_key.entries self.old.ends }
-        requires ordered { IsOrdered payload_cmp self.old.by_key }
-        ensures kept { (q : List Field) → SameRows (under self.new.by_key.entries q) (filter (ends_after time) (under self.old.by_key.entries q)) }
-        ensures ends { AreEnds self.new.by_key.entries self.new.ends }
-        ensures ordered { IsOrdered payload_cmp self.new.by_key }
+        requires ends { AreEnds self.old.by_tag.entries self.old.ends }
+        requires ordered { IsOrdered nat_cmp self.old.by_tag }
+        ensures kept { (q : ℕ) → SameRows (under self.new.by_tag.entries q) (filter (ends_after time) (under self.old.by_tag.entries q)) }
+        ensures ends { AreEnds self.new.by_tag.entries self.new.ends }
+        ensures ordered { IsOrdered nat_cmp self.new.by_tag }
     {
         while let Some((due, _)) = self.ends.pop_ended(time) {
-            forget_under(&mut self.by_key, &due.payload, due.end);
+            forget_under(&mut self.by_tag, due.begin, due.end);
         }
     }
 }
 
-/// Forgets the rows under a key that end at a time or before.
-fn forget_under(by_key: &mut ByKey, key: &Payload, time: Time)
-    ensures here { SameRows (under by_key.new.entries key.now) (filter (ends_after time) (under by_key.old.entries key.now)) }
-    ensures others { (q : List Field) → q ≢ key.now → under by_key.new.entries q ≡ under by_key.old.entries q }
-    ensures ordered { IsOrdered payload_cmp by_key.new }
+/// Forgets the rows under a tag that end at a time or before.
+fn forget_under(by_tag: &mut ByTag, tag: u64, time: Time)
+    ensures here { SameRows (under by_tag.new.entries tag) (filter (ends_after time) (under by_tag.old.entries tag)) }
+    ensures others { (q : ℕ) → q ≢ tag → under by_tag.new.entries q ≡ under by_tag.old.entries q }
+    ensures ordered { IsOrdered nat_cmp by_tag.new }
 {
-    if shorten_under(by_key, key, time) {
-        by_key.remove(key);
+    if shorten_under(by_tag, tag, time) {
+        by_tag.remove(&tag);
     }
 }
 
-/// The same, and says whether no row is left under the key.
-fn shorten_under(by_key: &mut ByKey, key: &Payload, time: Time) -> bool
-    ensures here { SameRows (under by_key.new.entries key.now) (filter (ends_after time) (under by_key.old.entries key.now)) }
-    ensures others { (q : List Field) → q ≢ key.now → under by_key.new.entries q ≡ under by_key.old.entries q }
-    ensures emptied { result ≡ true → under by_key.new.entries key.now ≡ [] }
-    ensures ordered { IsOrdered payload_cmp by_key.new }
+/// The same, and says whether no row is left under the tag.
+fn shorten_under(by_tag: &mut ByTag, tag: u64, time: Time) -> bool
+    ensures here { SameRows (under by_tag.new.entries tag) (filter (ends_after time) (under by_tag.old.entries tag)) }
+    ensures others { (q : ℕ) → q ≢ tag → under by_tag.new.entries q ≡ under by_tag.old.entries q }
+    ensures emptied { result ≡ true → under by_tag.new.entries tag ≡ [] }
+    ensures ordered { IsOrdered nat_cmp by_tag.new }
 {
-    match by_key.get_mut(key) {
+    match by_tag.get_mut(&tag) {
         Some(table) => {
             table.forget_ended(time);
             table.len() == 0
@@ -178,13 +209,13 @@ fn push_rows(rows: &mut Vec<Row>, table: &Table) -> Result<(), OutOfMemory>
     Ok(())
 }
 
-/// Copies of the rows under all keys.
-pub(crate) fn all_rows(alloc: Global, by_key: &ByKey) -> Result<Vec<Row>, OutOfMemory>
-    ensures rows { IfOk result (λ rows. rows.items ≡ listed by_key.now.entries) }
-    ensures ordered { OnOk result (IsOrdered payload_cmp by_key.now) }
+/// Copies of the rows under all tags.
+pub(crate) fn all_rows(alloc: Global, by_tag: &ByTag) -> Result<Vec<Row>, OutOfMemory>
+    ensures rows { IfOk result (λ rows. rows.items ≡ listed by_tag.now.entries) }
+    ensures ordered { OnOk result (IsOrdered nat_cmp by_tag.now) }
 {
-    let mut rows = Vec::with_capacity(alloc, by_key.len())?;
-    for (_, table) in by_key {
+    let mut rows = Vec::with_capacity(alloc, by_tag.len())?;
+    for (_, table) in by_tag {
         push_rows(&mut rows, table)?;
     }
     Ok(rows)

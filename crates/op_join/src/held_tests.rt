@@ -23,7 +23,7 @@ fn holds(alloc: Global, filed: &Filed, full: Option<&Table>, time: Time) -> Resu
             wanted.push(row)?;
         }
     }
-    let mut held = all_rows(alloc, &filed.by_key)?;
+    let mut held = all_rows(alloc, &filed.by_tag)?;
     sort_rows(&mut held)?;
     Ok(held.as_slice() == wanted.as_slice() && filed.ends.len() == wanted.len())
 }
@@ -103,17 +103,17 @@ fn a_cut_of_a_row_whose_partner_was_forgotten_changes_nothing(rt: HostRuntime) -
     assert!(rt; raise(&mut op, tables.as_slice(), &mut marks, 0, 10));
     assert!(rt; raise(&mut op, tables.as_slice(), &mut marks, 1, 12));
     assert_eq!(rt; op.left.ends.len(), 0);
-    assert_eq!(rt; all_rows(alloc, &op.left.by_key)?.len(), 0);
+    assert_eq!(rt; all_rows(alloc, &op.left.by_tag)?.len(), 0);
     assert_eq!(rt; op.right.ends.len(), 1);
-    assert_eq!(rt; all_rows(alloc, &op.right.by_key)?.len(), 1);
+    assert_eq!(rt; all_rows(alloc, &op.right.by_tag)?.len(), 1);
     assert!(rt; take(alloc, &mut op, &mut tables, marks.as_slice(), cut, &mut out)?);
+    assert_eq!(rt; out.len(), 1);
     let mut rows = Table::new(alloc);
-    for answer in &out {
+    for answer in out {
         rows.apply(answer)?;
     }
     let mut wanted = Table::new(alloc);
-    wanted.apply(&change_of(alloc, 5, 10, None, &[1, 2])?)?;
-    assert_eq!(rt; out.len(), 1);
+    wanted.apply(change_of(alloc, 5, 10, None, &[1, 2])?)?;
     assert!(rt; rows.canonical()?.as_slice() == wanted.canonical()?.as_slice());
     Ok(())
 }

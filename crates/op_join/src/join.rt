@@ -1,30 +1,27 @@
 ghost use Rattle.std.specs.Prelude.{◌≡◌, ◌∷◌, ◌++◌, [], ℕ, List, true, IfOk, OnOk, OnErr, length, take};
 ghost use Rattle.std.specs.BTreeMap.{IsOrdered};
-ghost use Rattle.cedr_base.specs.declared.field.Field.{Field};
-ghost use Rattle.cedr_base.specs.Order.{payload_cmp};
-ghost use Rattle.cedr_expr.specs.Tests.{passes};
+ghost use Rattle.std.specs.Ordering.{nat_cmp};
 ghost use Rattle.cedr_table.specs.Operators.{Tables, CanTake};
-ghost use Rattle.op_join.specs.Keys.{right_key};
+ghost use Rattle.op_join.specs.Tags.{right_tag, side_tag};
 ghost use Rattle.op_join.specs.Filed.{Files, listed};
 ghost use Rattle.op_join.specs.Ends.{AreEnds};
 ghost use Rattle.op_join.specs.Joins.{join_of, StandsOnTwo, StandsAfter, RepairsAfter};
 
-use crate::filed::{ByKey, Filed, all_rows};
-use crate::keys::{full_key, left_key};
+use crate::filed::{ByTag, Filed, all_rows};
 use crate::pairs::row_of;
 use crate::partners::{repair_left, repair_right};
-use crate::side::Side;
 use cedr_base::{Change, OutOfMemory, Payload, Row, Time};
-use cedr_expr::{Test, Tests};
+use cedr_expr::{Side, Tests};
 use cedr_table::{Operator, least_mark};
 use std::alloc::Global;
 
 /// One row for each pair of a left row and a right one whose payloads pass tests: it is valid while both are, and
 /// its payload is theirs, left then right. Port 0 is the left one. The bound is the least mark.
 ///
-/// A change costs O(log n) comparisons, and O(1) for each row of the other port that has its row's key and ends after
-/// the change is seen. The key is the fields that equality tests between the two sides compare, at the width of the left
-/// payloads. Left rows of two widths are allowed: those of another width than the first one meet all rows.
+/// A change costs O(log n) comparisons, and O(1) for each row of the other port that has its row's tag and ends after
+/// the change is seen. The tag is a number made of the fields that equality tests between the two sides compare, at the
+/// width of the left payloads. Left rows of two widths are allowed: those of another width than the first one meet all
+/// rows.
 ///
 /// It keeps a row until the least mark reaches its end, and with each row its end in a second order, so that the rows
 /// that ended are found without a look at the others.
@@ -59,10 +56,10 @@ impl Join {
             → StandsOnTwo self.new.tests self.new.width self.new.left self.new.right tables marks) }
         ensures tests { self.new.tests ≡ self.old.tests }
     {
-        if self.width == width || !self.left.by_key.is_empty() {
+        if self.width == width || !self.left.by_tag.is_empty() {
             return Ok(());
         }
-        self.right = file_right(self.alloc, width, self.tests.as_slice(), &self.right.by_key)?;
+        self.right = file_right(self.alloc, width, &self.tests, &self.right.by_tag)?;
         self.width = width;
         Ok(())
     }
@@ -71,21 +68,21 @@ impl Join {
     fn answer_left(
         &mut self,
         alloc: Global,
-        change: &Change,
+        change: Change,
         out: &mut Vec<Change>,
     ) -> Result<(), OutOfMemory>
-        requires { (tables : Tables) × (marks : List ℕ) × StandsOnTwo self.old.tests self.old.width self.old.left self.old.right tables marks × CanTake tables marks 0 change.now }
+        requires { (tables : Tables) × (marks : List ℕ) × StandsOnTwo self.old.tests self.old.width self.old.left self.old.right tables marks × CanTake tables marks 0 change }
         ensures stands { OnOk result (StandsAfter (StandsOnTwo self.old.tests self.old.width self.old.left self.old.right)
-            (StandsOnTwo self.new.tests self.new.width self.new.left self.new.right) 0 change.now) }
-        ensures repairs { OnOk result (RepairsAfter (StandsOnTwo self.old.tests self.old.width self.old.left self.old.right) (join_of self.old.tests) 0 change.now out.old.items out.new.items) }
+            (StandsOnTwo self.new.tests self.new.width self.new.left self.new.right) 0 change) }
+        ensures repairs { OnOk result (RepairsAfter (StandsOnTwo self.old.tests self.old.width self.old.left self.old.right) (join_of self.old.tests) 0 change out.old.items out.new.items) }
         ensures tests { self.new.tests ≡ self.old.tests }
         ensures err { OnErr result (take (length out.old.items) out.new.items ≡ out.old.items) }
     {
-        let row = row_of(change);
+        let row = row_of(&change);
         self.settle(row.payload.fields().len())?;
-        let key = left_key(alloc, self.width, self.tests.as_slice(), &row.payload)?;
-        repair_right(alloc, &self.tests, change, &self.right.by_key, &key, out)?;
-        self.left.note(alloc, key, change)?;
+        let tag = side_tag(&self.tests, Side::Left, self.width, &row.payload);
+        repair_right(alloc, &self.tests, &change, &self.right.by_tag, tag, out)?;
+        self.left.note(alloc, tag, change)?;
         Ok(())
     }
 
@@ -93,26 +90,20 @@ impl Join {
     fn answer_right(
         &mut self,
         alloc: Global,
-        change: &Change,
+        change: Change,
         out: &mut Vec<Change>,
     ) -> Result<(), OutOfMemory>
-        requires { (tables : Tables) × (marks : List ℕ) × StandsOnTwo self.old.tests self.old.width self.old.left self.old.right tables marks × CanTake tables marks 1 change.now }
+        requires { (tables : Tables) × (marks : List ℕ) × StandsOnTwo self.old.tests self.old.width self.old.left self.old.right tables marks × CanTake tables marks 1 change }
         ensures stands { OnOk result (StandsAfter (StandsOnTwo self.old.tests self.old.width self.old.left self.old.right)
-            (StandsOnTwo self.new.tests self.new.width self.new.left self.new.right) 1 change.now) }
-        ensures repairs { OnOk result (RepairsAfter (StandsOnTwo self.old.tests self.old.width self.old.left self.old.right) (join_of self.old.tests) 1 change.now out.old.items out.new.items) }
+            (StandsOnTwo self.new.tests self.new.width self.new.left self.new.right) 1 change) }
+        ensures repairs { OnOk result (RepairsAfter (StandsOnTwo self.old.tests self.old.width self.old.left self.old.right) (join_of self.old.tests) 1 change out.old.items out.new.items) }
         ensures tests { self.new.tests ≡ self.old.tests }
         ensures err { OnErr result (take (length out.old.items) out.new.items ≡ out.old.items) }
     {
-        let row = row_of(change);
-        let key = full_key(
-            alloc,
-            Side::Right,
-            self.width,
-            self.tests.as_slice(),
-            &row.payload,
-        )?;
-        repair_left(alloc, &self.tests, change, &self.left.by_key, &key, out)?;
-        self.right.note(alloc, key, change)?;
+        let row = row_of(&change);
+        let tag = side_tag(&self.tests, Side::Right, self.width, &row.payload);
+        repair_left(alloc, &self.tests, &change, &self.left.by_tag, tag, out)?;
+        self.right.note(alloc, tag, change)?;
         Ok(())
     }
 
@@ -121,13 +112,13 @@ impl Join {
         &mut self,
         alloc: Global,
         port: usize,
-        change: &Change,
+        change: Change,
         out: &mut Vec<Change>,
     ) -> Result<(), OutOfMemory>
-        requires { (tables : Tables) × (marks : List ℕ) × StandsOnTwo self.old.tests self.old.width self.old.left self.old.right tables marks × CanTake tables marks port change.now }
+        requires { (tables : Tables) × (marks : List ℕ) × StandsOnTwo self.old.tests self.old.width self.old.left self.old.right tables marks × CanTake tables marks port change }
         ensures stands { OnOk result (StandsAfter (StandsOnTwo self.old.tests self.old.width self.old.left self.old.right)
-            (StandsOnTwo self.new.tests self.new.width self.new.left self.new.right) port change.now) }
-        ensures repairs { OnOk result (RepairsAfter (StandsOnTwo self.old.tests self.old.width self.old.left self.old.right) (join_of self.old.tests) port change.now out.old.items out.new.items) }
+            (StandsOnTwo self.new.tests self.new.width self.new.left self.new.right) port change) }
+        ensures repairs { OnOk result (RepairsAfter (StandsOnTwo self.old.tests self.old.width self.old.left self.old.right) (join_of self.old.tests) port change out.old.items out.new.items) }
         ensures tests { self.new.tests ≡ self.old.tests }
         ensures err { OnErr result (take (length out.old.items) out.new.items ≡ out.old.items) }
     {
@@ -139,23 +130,39 @@ impl Join {
     }
 }
 
+/// The tag of a payload beside left payloads of this width: 0 for a left payload of another width.
+fn side_tag(tests: &Tests, side: Side, width: usize, payload: &Payload) -> u64
+    ensures { result ≡ side_tag side width tests.now payload.now }
+{
+    match side {
+        Side::Left => {
+            if payload.fields().len() == width {
+                tests.tag(Side::Left, width, payload)
+            } else {
+                0
+            }
+        }
+        Side::Right => tests.tag(Side::Right, width, payload),
+    }
+}
+
 /// The right rows, filed beside left payloads of this width.
 fn file_right(
     alloc: Global,
     width: usize,
-    keys: &[Test],
-    right: &ByKey,
+    tests: &Tests,
+    right: &ByTag,
 ) -> Result<Filed, OutOfMemory>
-    ensures filed { IfOk result (λ filed. Files (right_key width keys.now) filed.by_key.entries (listed right.now.entries)) }
-    ensures ends { IfOk result (λ filed. AreEnds filed.by_key.entries filed.ends) }
-    ensures ordered { IfOk result (λ filed. IsOrdered payload_cmp filed.by_key) }
-    ensures was_ordered { OnOk result (IsOrdered payload_cmp right.now) }
+    ensures filed { IfOk result (λ filed. Files (right_tag width tests.now) filed.by_tag.entries (listed right.now.entries)) }
+    ensures ends { IfOk result (λ filed. AreEnds filed.by_tag.entries filed.ends) }
+    ensures ordered { IfOk result (λ filed. IsOrdered nat_cmp filed.by_tag) }
+    ensures was_ordered { OnOk result (IsOrdered nat_cmp right.now) }
 {
     let rows = all_rows(alloc, right)?;
     let mut filed = Filed::new(alloc);
     for row in rows {
-        let key = full_key(alloc, Side::Right, width, keys, &row.payload)?;
-        filed.note(alloc, key, &Change::Add(row))?;
+        let tag = tests.tag(Side::Right, width, &row.payload);
+        filed.note(alloc, tag, Change::Add(row))?;
     }
     Ok(filed)
 }
@@ -168,7 +175,7 @@ impl Operator for Join {
 
     ghost stands = { λ s tables marks. StandsOnTwo s.tests s.width s.left s.right tables marks };
 
-    ghost held = { λ s. all_under s.left.by_key.entries ∷ all_under s.right.by_key.entries ∷ [] };
+    ghost held = { λ s. all_under s.left.by_tag.entries ∷ all_under s.right.by_tag.entries ∷ [] };
 
     fn ports(&self) -> usize {
         2
@@ -178,7 +185,7 @@ impl Operator for Join {
         &mut self,
         alloc: Global,
         port: usize,
-        change: &Change,
+        change: Change,
         out: &mut Vec<Change>,
     ) -> Result<(), OutOfMemory> {
         let before = out.len();

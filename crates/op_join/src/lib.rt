@@ -1,15 +1,13 @@
 //! The join of two tables: one row for each pair of rows that passes tests, over the time that both are valid.
 //!
-//! Each port's rows are filed under the fields that equality tests between the two sides compare, so that a
-//! change looks only at the rows that may meet it.
+//! Each port's rows are filed under a tag, a number made of the fields that equality tests between the two sides
+//! compare, so that a change looks only at the rows that may meet it.
 #![tactic(auto)]
 
 mod filed;
 mod join;
-mod keys;
 mod pairs;
 mod partners;
-mod side;
 
 pub use join::Join;
 

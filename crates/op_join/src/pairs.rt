@@ -6,9 +6,8 @@ ghost use Rattle.cedr_table.specs.Counted.{spread, ends_after};
 ghost use Rattle.cedr_expr.specs.Tests.{passes};
 ghost use Rattle.op_join.specs.Pairs.{passes_on, both_on, met, pair_changes, changed_row, all_changes};
 
-use crate::side::Side;
 use cedr_base::{Change, OutOfMemory, Payload, Row, Time};
-use cedr_expr::Tests;
+use cedr_expr::{Side, Tests};
 use cedr_table::Table;
 use std::alloc::Global;
 use std::collections::btree_map::Range;

@@ -48,8 +48,8 @@ fn feed_left(
     ensures { OnOk result (⟦<Join as Operator>⟧.stands fed.new.join (fed.new.left ∷ fed.new.right ∷ []) (0 ∷ 0 ∷ [])) }
 {
     check_legal(&fed.left, change)?;
-    fed.join.apply(alloc, 0, change, out)?;
-    fed.left.apply(change)?;
+    fed.join.apply(alloc, 0, change.copy(alloc)?, out)?;
+    fed.left.apply(change.copy(alloc)?)?;
     Ok(())
 }
 
@@ -63,8 +63,8 @@ fn feed_right(
     ensures { OnOk result (⟦<Join as Operator>⟧.stands fed.new.join (fed.new.left ∷ fed.new.right ∷ []) (0 ∷ 0 ∷ [])) }
 {
     check_legal(&fed.right, change)?;
-    fed.join.apply(alloc, 1, change, out)?;
-    fed.right.apply(change)?;
+    fed.join.apply(alloc, 1, change.copy(alloc)?, out)?;
+    fed.right.apply(change.copy(alloc)?)?;
     Ok(())
 }
 
@@ -294,7 +294,13 @@ fn rows_that_only_touch_make_no_row(rt: HostRuntime) -> Result<(), Fail> {
 fn a_key_keeps_rows_apart(rt: HostRuntime) -> Result<(), Fail> {
     let alloc = rt.alloc();
     let fed = join_first_two(alloc)?;
-    let steps = [add(1, &[5], 1, 10), add(1, &[6], 1, 10), add(0, &[5], 2, 8)];
+    // 5 and -5 have one tag.
+    let steps = [
+        add(1, &[5], 1, 10),
+        add(1, &[6], 1, 10),
+        add(1, &[-5], 1, 10),
+        add(0, &[5], 2, 8),
+    ];
     let out = last_answer(alloc, fed, &steps)?;
     assert_eq!(rt; out.len(), 1);
     assert_eq!(rt; times(alloc, out.as_slice(), &add(0, &[5, 5], 2, 8))?, 1);

@@ -38,5 +38,6 @@ ended begin end = record { begin = end; end = FOREVER }
 abbrev pub shifted_mark : ℕ → ℕ → ℕ
 shifted_mark by mark = if nat_eq mark 0 then 0 else later mark by
 
+-- the last multiple of a while that isn't above a mark, and FOREVER where the mark isn't finite
 abbrev pub hopped_mark : ℕ → ℕ → ℕ
 hopped_mark every mark = if nat_lt mark FOREVER then multiple_below every mark else FOREVER

@@ -2,7 +2,6 @@ ghost use Rattle.std.specs.Prelude.{◌≡◌, ◌∷◌, [], Some};
 ghost use Rattle.cedr_table.specs.RowWise.{row_wise};
 ghost use Rattle.op_life.specs.Lifetimes.{ended, with_life};
 
-use crate::payload::same_payload;
 use cedr_base::{FOREVER, OutOfMemory, Payload, Time};
 use cedr_table::{Life, Operator, RowWise};
 use std::alloc::Global;
@@ -43,8 +42,8 @@ impl RowWise for Ends {
         }
     }
 
-    fn payload(&self, alloc: Global, payload: &Payload) -> Result<Option<Payload>, OutOfMemory> {
-        same_payload(alloc, payload)
+    fn payload(&self, _alloc: Global, payload: Payload) -> Result<Option<Payload>, OutOfMemory> {
+        Ok(Some(payload))
     }
 
     fn guarantee(&self, mark: Time) -> Time {

@@ -6,7 +6,6 @@
 mod ends;
 mod hop;
 mod law;
-mod payload;
 mod shift;
 mod starts;
 mod window;

@@ -61,7 +61,7 @@ fn answers<R: RowWise>(
 {
     let given = change(alloc, given)?;
     let mut out = Vec::new(alloc);
-    op.apply(alloc, 0, &given, &mut out)?;
+    op.apply(alloc, 0, given, &mut out)?;
     let mut told = Vec::new(alloc);
     for change in &out {
         told.push(tell(rt, alloc, change)?)?;

@@ -3,7 +3,6 @@ ghost use Rattle.cedr_table.specs.RowWise.{row_wise};
 ghost use Rattle.cedr_stream.specs.Times.{IsWhile};
 ghost use Rattle.op_life.specs.Lifetimes.{with_life, windowed};
 
-use crate::payload::same_payload;
 use cedr_base::{OutOfMemory, Payload, Time, later};
 use cedr_table::{Life, Operator, RowWise};
 use std::alloc::Global;
@@ -46,8 +45,8 @@ impl RowWise for Window {
         }
     }
 
-    fn payload(&self, alloc: Global, payload: &Payload) -> Result<Option<Payload>, OutOfMemory> {
-        same_payload(alloc, payload)
+    fn payload(&self, _alloc: Global, payload: Payload) -> Result<Option<Payload>, OutOfMemory> {
+        Ok(Some(payload))
     }
 
     fn guarantee(&self, mark: Time) -> Time {

@@ -24,7 +24,7 @@ use Rattle.pat_seq.specs.Sequences.{sequence, sequence_of}
 use Rattle.pat_seq.specs.SequenceLaws.{no_sequence}
 use Rattle.cedr_table.proofs.ChoiceLemmas.{same_chosen, nothing_chosen}
 use Rattle.pat_unless.specs.Blocking.{unless_of}
-use Rattle.pat_unless.specs.BlockingLaws.{unless_laws}
+use Rattle.pat_unless.specs.BlockingLaws.{same_unblocked}
 use Rattle.op_planned.specs.Outputs.{handed_on}
 use Rattle.op_planned.specs.Meanings.{node_meaning}
 use Rattle.op_planned.specs.MeaningLaws.{MeaningLaws}
@@ -90,18 +90,16 @@ sequence_meaning n scope tests many = record {
 }
 
 unless_meaning : (scope hold : ℕ) (tests : List Test) → MeaningLaws (unless_of scope hold tests) 2
-unless_meaning scope hold tests =
-    let laws = unless_laws scope hold tests [] [] in
-    record {
-      ports = (refl, omega arith);
-      same_result = laws.same_rows;
-      same_bound = λ tables others marks k. refl;
-      bound_is_time = λ tables marks table mark k. least_is_time marks;
-      bound_rises = λ tables marks later k. least_rises marks later k;
-      nothing = laws.nothing;
-      first_bound = refl;
-      echo = λ e. cc;
-    }
+unless_meaning scope hold tests = record {
+  ports = (refl, omega arith);
+  same_result = λ tables others k. same_unblocked scope hold tests tables others k;
+  same_bound = λ tables others marks k. refl;
+  bound_is_time = λ tables marks table mark k. least_is_time marks;
+  bound_rises = λ tables marks later k. least_rises marks later k;
+  nothing = record { each = λ r. refl };
+  first_bound = refl;
+  echo = λ e. cc;
+}
 
 group_meaning : (g : Grouping) → MeaningLaws (group_of g) 1
 group_meaning g = record {

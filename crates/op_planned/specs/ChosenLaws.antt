@@ -16,6 +16,7 @@ use Rattle.op_planned.specs.OutputLaws.{output_laws}
 use Rattle.op_planned.specs.declared.planned.Planned.{Planned}
 use Rattle.op_planned.specs.declared.planned.Planned.TheVariants as planned
 
+-- the laws of what the operator of a plan's node means, and of what its state stands for
 pub chosen_laws : (op : Planned) → OperatorLaws (chosen_meaning op) (ChosenStands op)
 chosen_laws (planned.Select op) = row_wise_laws (Unit {0}) (selected op.tests) (λ mark. mark) (λ range mark higher rise. rise) (λ range mark h. h)
 chosen_laws (planned.Project op) = row_wise_laws (Unit {0}) (projected op.keep) (λ mark. mark) (λ range mark higher rise. rise) (λ range mark h. h)
@@ -29,6 +30,6 @@ chosen_laws (planned.Hop op) =
 chosen_laws (planned.Starts op) = row_wise_laws (Unit {0}) (with_life started) (λ mark. mark) (λ range mark higher rise. rise) (λ range mark h. h)
 chosen_laws (planned.Ends op) = row_wise_laws (Unit {0}) (with_life ended) (λ mark. mark) (λ range mark higher rise. rise) (λ range mark h. h)
 chosen_laws (planned.Group op) = group_laws (grouping_by op.keys op.count op.sums.items) op.groups.entries op.points
-chosen_laws (planned.Sequence op) = sequence_laws op.scope op.tests op.kept.items
-chosen_laws (planned.Unless op) = unless_laws op.terms.scope op.terms.hold op.terms.tests op.rows op.blockers
+chosen_laws (planned.Sequence op) = sequence_laws op.scope op.tests op.kept
+chosen_laws (planned.Unless op) = unless_laws op.terms op.tied
 chosen_laws (planned.Output op) = output_laws

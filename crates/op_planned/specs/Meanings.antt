@@ -32,9 +32,11 @@ kind_meaning (sequence scope tests) ports = sequence_of ports scope tests
 kind_meaning (unless scope hold tests) ports = unless_of scope hold tests
 kind_meaning output ports = handed_on
 
+-- what a node means that has this kind and so many ports
 abbrev pub node_meaning : NodeKind → ℕ → Meaning
 node_meaning kind ports = kind_meaning (kind_of kind) ports
 
+-- what a plan's node means, which has a port for each of its inputs
 abbrev pub meaning_of : PlanNode → Meaning
 meaning_of node = node_meaning node.kind (length node.inputs.items)
 

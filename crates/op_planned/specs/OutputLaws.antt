@@ -9,6 +9,7 @@ use Rattle.cedr_table.specs.OperatorLaws.{OperatorLaws}
 use Rattle.cedr_table.specs.PortLaws.{rise_length, rise_at, same_length, same_at, table_at-with, time_at}
 use Rattle.op_planned.specs.Outputs.{handed_on, StandsForOne}
 
+-- a change of its port repairs an output by itself
 pub output_repairs : (tables : Tables) (marks : List ℕ) (port : ℕ) (c : Change) (after : List Row) → length tables ≡ 1 → CanTake tables marks port c → IsMoved c (table_at tables port) after
     → Repair (table_at tables 0) (table_at (with_table tables port after) 0) (mark_at marks 0) (c ∷ [])
 output_repairs tables marks port c after one can moved =
@@ -24,6 +25,7 @@ only_mark [] h = absurd (omega arith)
 only_mark (m ∷ []) h = refl
 only_mark (m ∷ (n ∷ ms)) h = absurd (omega arith)
 
+-- the laws of the meaning of an output, and of what its state stands for
 pub output_laws : OperatorLaws handed_on StandsForOne
 output_laws = record {
   sized = λ tables marks h. (h.table, h.mark);

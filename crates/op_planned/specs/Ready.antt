@@ -4,6 +4,7 @@ use Rattle.cedr_plan.specs.declared.plan.NodeKind.{NodeKind}
 use Rattle.cedr_plan.specs.declared.plan.NodeKind.TheVariants as kind
 use Rattle.cedr_stream.specs.Times.{IsWhile}
 
+-- the node is a source
 abbrev pub is_source : NodeKind → Bool
 is_source (kind.Source file) = true
 is_source other = false

@@ -20,12 +20,11 @@ impl Output {
 }
 
 /// Hands a change on.
-fn hand_on(alloc: Global, change: &Change, out: &mut Vec<Change>) -> Result<(), OutOfMemory>
-    ensures ok { OnOk result (out.new.items ≡ out.old.items ++ change.now ∷ []) }
+fn hand_on(change: Change, out: &mut Vec<Change>) -> Result<(), OutOfMemory>
+    ensures ok { OnOk result (out.new.items ≡ out.old.items ++ change ∷ []) }
     ensures err { OnErr result (out.new.items ≡ out.old.items) }
 {
-    let copied = change.copy(alloc)?;
-    out.push(copied)?;
+    out.push(change)?;
     Ok(())
 }
 
@@ -45,12 +44,12 @@ impl Operator for Output {
 
     fn apply(
         &mut self,
-        alloc: Global,
+        _alloc: Global,
         _port: usize,
-        change: &Change,
+        change: Change,
         out: &mut Vec<Change>,
     ) -> Result<(), OutOfMemory> {
-        hand_on(alloc, change, out)
+        hand_on(change, out)
     }
 
     fn bound(&self, marks: &[Time]) -> Time {

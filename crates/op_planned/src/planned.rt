@@ -101,7 +101,7 @@ impl Operator for Planned {
         &mut self,
         alloc: Global,
         port: usize,
-        change: &Change,
+        change: Change,
         out: &mut Vec<Change>,
     ) -> Result<(), OutOfMemory> {
         match self {

@@ -16,11 +16,14 @@ selected_at : (r : Row) (b : Bool) → IsRow r → cond b (r ∷ []) [] ≡ made
 selected_at r true h = sym (made_row r h)
 selected_at r false h = refl
 
+-- a selection gives the row of a row's own interval and of its payload, where that passes
 pub one_selected : (tests : List Test) (r : Row) → IsRow r → selected tests r ≡ made (same_life r.begin r.end) (passing tests r.payload)
 one_selected tests r h = selected_at r (passes tests r.payload []) h
 
+-- a projection gives the row of a row's own interval and of its kept columns
 pub one_projected : (columns : List ℕ) (r : Row) → IsRow r → projected columns r ≡ made (same_life r.begin r.end) (Some (kept columns r.payload))
 one_projected columns r h = sym (made_row (record r { payload = kept columns r.payload }) (record { lives = h.lives; begins = h.begins; ends = h.ends }))
 
+-- where a row is cut to a time or later, its own interval becomes what it may from that time on
 pub cut_becomes : (begin end earlier t : ℕ) → earlier < end → t ≤ earlier → MayBecome t (same_life begin end) (same_life begin earlier)
 cut_becomes begin end earlier t below from = inl (record { same_begin = refl; within = omega arith; from = λ h. from })

@@ -15,6 +15,7 @@ use Rattle.cedr_table.specs.PortLaws.{least_below, rise_length, same_length, lea
 use Rattle.cedr_table.specs.OperatorLaws.{OperatorLaws}
 use Rattle.op_row.specs.Unions.{united, union_of, StandsOnPorts}
 
+-- the union of tables that are the same bags is the same bag
 pub same_united : (tables others : Tables) → SameTables tables others → SameRows (united tables) (united others)
 same_united [] [] h = same_itself []
 same_united [] (u ∷ us) h = absurd h
@@ -25,6 +26,7 @@ none_united : (n : ℕ) → united (replicate n []) ≡ []
 none_united zero = refl
 none_united (suc n) = none_united n
 
+-- the union of empty tables has no row
 pub nothing_united : (n : ℕ) → SameRows (united (replicate n [])) []
 nothing_united n = record { each = λ r. ap (count_of r) (none_united n) }
 
@@ -43,6 +45,7 @@ may_in_all : (rows all : List Row) (c : Change) → ((r : Row) → count_of r ro
 may_in_all rows all (Add a) more h = h
 may_in_all rows all (Cut a e) more h = (h.0, (let there = h.1 in let few = more a in omega arith))
 
+-- a change of a port repairs the union by itself
 pub union_repairs : (tables : Tables) (marks : List ℕ) (port : ℕ) (c : Change) (after : List Row) → length marks ≡ length tables → CanTake tables marks port c → IsMoved c (table_at tables port) after
     → Repair (united tables) (united (with_table tables port after)) (least_of marks) (c ∷ [])
 union_repairs tables marks port c after sizes can moved =
@@ -64,6 +67,7 @@ union_repairs tables marks port c after sizes can moved =
       };
     })
 
+-- the laws of the meaning of a union, and of what its state stands for
 pub union_laws : (ports : ℕ) → OperatorLaws (union_of ports) (StandsOnPorts ports)
 union_laws ports = record {
   sized = λ tables marks h. (h.table, h.mark);

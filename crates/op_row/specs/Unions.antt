@@ -8,6 +8,7 @@ use Rattle.cedr_table.specs.Operators.{Tables, Meaning, least_of}
 abbrev pub united : Tables → List Row
 united tables = flat_map (λ rows. rows) tables
 
+-- the meaning of a union: each row of each port, and the least mark as the bound
 abbrev pub union_of : ℕ → Meaning
 union_of ports = record {
   ports = ports;

@@ -41,8 +41,8 @@ impl RowWise for Project {
         Life { begin, end }
     }
 
-    fn payload(&self, alloc: Global, payload: &Payload) -> Result<Option<Payload>, OutOfMemory> {
-        Ok(Some(self.keep.apply(alloc, payload)?))
+    fn payload(&self, alloc: Global, payload: Payload) -> Result<Option<Payload>, OutOfMemory> {
+        Ok(Some(self.keep.apply(alloc, &payload)?))
     }
 
     fn guarantee(&self, mark: Time) -> Time {

@@ -40,9 +40,9 @@ impl RowWise for Select {
         Life { begin, end }
     }
 
-    fn payload(&self, alloc: Global, payload: &Payload) -> Result<Option<Payload>, OutOfMemory> {
-        if self.tests.holds(payload, &Payload::new(alloc)) {
-            Ok(Some(payload.copy(alloc)?))
+    fn payload(&self, alloc: Global, payload: Payload) -> Result<Option<Payload>, OutOfMemory> {
+        if self.tests.holds(&payload, &Payload::new(alloc)) {
+            Ok(Some(payload))
         } else {
             Ok(None)
         }

@@ -62,7 +62,7 @@ fn answers<R: RowWise>(
     let (before, after) = payloads;
     let given = change(alloc, given, before)?;
     let mut out = Vec::new(alloc);
-    op.apply(alloc, 0, &given, &mut out)?;
+    op.apply(alloc, 0, given, &mut out)?;
     let mut told = Vec::new(alloc);
     for change in &out {
         told.push(tell(rt, change, &after))?;
@@ -136,7 +136,7 @@ fn united(
 {
     let given = change(alloc, given, payload(alloc, b"b", None)?)?;
     let mut out = Vec::new(alloc);
-    union.apply(alloc, port, &given, &mut out)?;
+    union.apply(alloc, port, given, &mut out)?;
     let mut told = Vec::new(alloc);
     for change in &out {
         told.push(tell(rt, change, &payload(alloc, b"b", None)?))?;

@@ -1,9 +1,10 @@
 -- Changes by which whole rows join or leave a result.
-use Rattle.std.proofs.Common.{◌≡◌, ℕ, ◌≤◌, inl, inr, List, [], ◌∷◌, ◌++◌, refl, ap, arith}
+use Rattle.std.proofs.Common.{◌≡◌, ℕ, ◌<◌, ◌≤◌, inl, inr, List, [], ◌∷◌, ◌++◌, Bool, true, false, cond, refl, ap, sym, subst, arith}
 use Rattle.std.specs.Prelude.{map}
 use Rattle.std.specs.List.{flat_map}
 use Rattle.cedr_base.specs.declared.row.Row.{Row}
-use Rattle.cedr_base.specs.Rows.{IsRow, count_of, SameRows}
+use Rattle.cedr_base.specs.Rows.{IsRow, count_of, same_row, SameRows}
+use Rattle.cedr_base.proofs.Bags.{count_of-cons, one_of_itself, same_row_exact}
 use Rattle.cedr_base.specs.Changes.{all_puts, all_takes}
 use Rattle.cedr_stream.specs.Repairs.{AllFrom}
 use Rattle.cedr_stream.proofs.Moves.{remnant_none}
@@ -17,24 +18,45 @@ abbrev pub AllLate : ℕ → List Row → Type 0
 AllLate t [] = Unit {0}
 AllLate t (r ∷ rows) = (IsRow r × (t ≤ r.begin)) × AllLate t rows
 
+-- two lists of rows that don't begin before a time have together only such rows
 pub late-append : (t : ℕ) (xs ys : List Row) → AllLate t xs → AllLate t ys → AllLate t (xs ++ ys)
 late-append t [] ys h k = k
 late-append t (x ∷ xs) ys h k = (h.0, late-append t xs ys h.1 k)
 
+-- where each element makes only rows that don't begin before a time, so does a list of elements
 pub late-flat_map : {X : Type 0} (t : ℕ) (f : X → List Row) (xs : List X) → ((x : X) → AllLate t (f x)) → AllLate t (flat_map f xs)
 late-flat_map t f [] h = tt
 late-flat_map t f (x ∷ xs) h = late-append t (f x) (flat_map f xs) (h x) (late-flat_map t f xs h)
+
+late_at : (t : ℕ) (x : Row) (rows : List Row) (r : Row) (b : Bool) → same_row r x ≡ b → IsRow x × (t ≤ x.begin) → 0 < count_of r (x ∷ rows) → (0 < count_of r rows → IsRow r × (t ≤ r.begin)) → IsRow r × (t ≤ r.begin)
+late_at t x rows r true is late there rest = subst (λ (q : Row). IsRow q × (t ≤ q.begin)) (sym (same_row_exact r x is)) late
+late_at t x rows r false is late there rest = rest (let none = ap {B = ℕ} (λ c. cond c 1 0) is in omega (arith, there, none, count_of-cons r x rows))
+
+-- each row of such a list doesn't begin before the time
+late_there : (t : ℕ) (rows : List Row) → AllLate t rows → (r : Row) → 0 < count_of r rows → IsRow r × (t ≤ r.begin)
+late_there t [] late r there = absurd (omega arith)
+late_there t (x ∷ rows) late r there = late_at t x rows r (same_row r x) refl late.0 there (λ k. late_there t rows late.1 r k)
+
+late_each : (t : ℕ) (rows : List Row) → ((r : Row) → 0 < count_of r rows → IsRow r × (t ≤ r.begin)) → AllLate t rows
+late_each t [] each = tt
+late_each t (x ∷ rows) each = (each x (omega (arith, count_of-cons x x rows, one_of_itself x)), late_each t rows (λ r there. each r (omega (arith, there, count_of-cons r x rows))))
+
+-- a bag that is the same as one of rows that don't begin before a time has only such rows
+pub late_same : (t : ℕ) (xs ys : List Row) → SameRows xs ys → AllLate t ys → AllLate t xs
+late_same t xs ys same late = late_each t xs (λ r there. late_there t ys late r (omega (arith, there, same.each r)))
 
 -- what begins from a time on does so from an earlier one on
 pub late_earlier : (s t : ℕ) (rows : List Row) → s ≤ t → AllLate t rows → AllLate s rows
 late_earlier s t [] less h = tt
 late_earlier s t (r ∷ rows) less h = ((h.0.0, let from = h.0.1 in omega arith), late_earlier s t rows less h.1)
 
+-- each change by which rows that don't begin before a time join or leave a result is one
 pub late_changes : (way : Way) (t : ℕ) (rows : List Row) → AllLate t rows → AllChanges (map (answered way) rows)
 late_changes way t [] h = tt
 late_changes Comes t (r ∷ rows) h = (h.0.0, late_changes Comes t rows h.1)
 late_changes Goes t (r ∷ rows) h = ((h.0.0, omega arith, h.0.0.lives), late_changes Goes t rows h.1)
 
+-- no change by which rows that don't begin before a time join or leave a result is seen before it
 pub late_from : (way : Way) (t : ℕ) (rows : List Row) → AllLate t rows → AllFrom t (map (answered way) rows)
 late_from way t [] h = tt
 late_from Comes t (r ∷ rows) h = (h.0.1, late_from Comes t rows h.1)

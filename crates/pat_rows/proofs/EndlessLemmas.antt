@@ -28,6 +28,7 @@ pub count_endless : (r : Row) (rows : List Row) → count_of r (all_endless rows
 count_endless r [] = refl
 count_endless r (x ∷ rows) = omega (arith, sum_by-cons (one_if_same r) (endless x) (all_endless rows), sum_by-cons (λ x. one_if_same r (endless x)) x rows, count_endless r rows)
 
+-- bags that are the same are so without the ends of their rows, too
 pub same_endless : (xs ys : List Row) → SameRows xs ys → SameRows (all_endless xs) (all_endless ys)
 same_endless xs ys h = record { each = λ r. count_endless r xs ∙ (sum_by-same (λ x. one_if_same r (endless x)) xs ys h ∙ sym (count_endless r ys)) }
 
@@ -54,26 +55,31 @@ has_row (Add a) kept table same may = tt
 has_row (Cut a e) kept table same may =
     omega (arith, same.each (endless a), count_endless (endless a) table, sum_by-there (λ x. one_if_same (endless a) (endless x)) (Cut a e) table may, one_of_itself (endless a))
 
+-- the table of a port among tables without ends is its table without ends
 pub endless_at : (tables : Tables) (port : ℕ) → table_at (endless_tables tables) port ≡ all_endless (table_at tables port)
 endless_at [] port = refl
 endless_at (t ∷ ts) zero = refl
 endless_at (t ∷ ts) (suc port) = endless_at ts port
 
+-- a table may be put on a port before or after the ends are left out
 pub endless_with : (tables : Tables) (port : ℕ) (rows : List Row) → endless_tables (with_table tables port rows) ≡ with_table (endless_tables tables) port (all_endless rows)
 endless_with [] port rows = refl
 endless_with (t ∷ ts) zero rows = refl
 endless_with (t ∷ ts) (suc port) rows = ap (λ us. all_endless t ∷ us) (endless_with ts port rows)
 
+-- tables that are the same bags are so without the ends of their rows, too
 pub same_tables : (ts us : Tables) → SameTables ts us → SameTables (endless_tables ts) (endless_tables us)
 same_tables [] [] h = tt
 same_tables [] (u ∷ us) h = absurd h
 same_tables (t ∷ ts) [] h = absurd h
 same_tables (t ∷ ts) (u ∷ us) h = (same_endless t u h.0, same_tables ts us h.1)
 
+-- tables are the same bags as themselves
 pub tables_itself : (ts : Tables) → SameTables ts ts
 tables_itself [] = tt
 tables_itself (t ∷ ts) = (same_itself t, tables_itself ts)
 
+-- where tables are the same bags as others, and these as third ones, the first are the same as the third
 pub tables_along : (ts us vs : Tables) → SameTables ts us → SameTables us vs → SameTables ts vs
 tables_along [] [] [] h k = tt
 tables_along [] [] (v ∷ vs) h k = absurd k
@@ -90,6 +96,7 @@ same_with (t ∷ ts) [] port xs ys h k = absurd h
 same_with (t ∷ ts) (u ∷ us) zero xs ys h k = (k, h.1)
 same_with (t ∷ ts) (u ∷ us) (suc port) xs ys h k = (h.0, same_with ts us port xs ys h.1 k)
 
+-- another table on a port leaves the number of tables as it is
 pub length-with : (tables : Tables) (port : ℕ) (rows : List Row) → length (with_table tables port rows) ≡ length tables
 length-with [] port rows = refl
 length-with (t ∷ ts) zero rows = refl

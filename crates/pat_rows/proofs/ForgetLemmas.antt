@@ -82,6 +82,7 @@ forgotten_among p [] (u ∷ us) are = absurd are
 forgotten_among p (t ∷ ts) [] are = absurd are
 forgotten_among p (t ∷ ts) (u ∷ us) are = (among_along p (filter p t) t u (among_filter p (filter p t) t (same_itself (filter p t))) are.0, forgotten_among p ts us are.1)
 
+-- there are as many ports after rows were forgotten as before
 pub forgotten_length : (scope time : ℕ) (kept kept' : Tables) → AreForgotten scope time kept kept' → length kept' ≡ length kept
 forgotten_length scope time [] [] h = refl
 forgotten_length scope time [] (u ∷ us) h = absurd h

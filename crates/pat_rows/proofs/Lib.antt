@@ -4,3 +4,4 @@ pub mod StepLemmas
 pub mod EndlessLemmas
 pub mod ForgetLemmas
 pub mod AnswerLemmas
+pub mod TagLemmas

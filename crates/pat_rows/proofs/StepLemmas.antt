@@ -21,6 +21,7 @@ added_stays row start old new h is same = λ r there. elim (cases_lt 0 (one_if_s
 pub taken_stays : (start : Row) (old new : List Row) → AreEndless old → SameRows (start ∷ new) old → AreEndless new
 taken_stays start old new h same = λ r there. h r (omega (arith, same.each r, count_of-cons r start new))
 
+-- a bag that has one row more, without its end, went through the addition of that row
 pub added_rows : (change : Change) (row start : Row) (old new : List Row) → change ≡ Add row → start ≡ endless row → SameRows new (start ∷ old) → SameRows (new ++ all_endless (takes change)) (old ++ all_endless (puts change))
 added_rows change row start old new e is same =
     subst (λ (d : Change). SameRows (new ++ all_endless (takes d)) (old ++ all_endless (puts d))) (sym e)
@@ -30,6 +31,7 @@ added_rows change row start old new e is same =
           omega (arith, same.each r, count_of-cons r start old, count_of-cons r (endless row) [], count_of-append r new [], count_of-append r old (endless row ∷ []), one);
     })
 
+-- a bag that has one row less, without its end, went through the withdrawal of that row
 pub taken_rows : (change : Change) (row start : Row) (end : ℕ) (old new : List Row) → change ≡ Cut row end → end ≤ row.begin → start ≡ endless row → SameRows (start ∷ new) old → SameRows (new ++ all_endless (takes change)) (old ++ all_endless (puts change))
 taken_rows change row start end old new e gone is same =
     subst (λ (d : Change). SameRows (new ++ all_endless (takes d)) (old ++ all_endless (puts d))) (sym e)

@@ -1,2 +1,4 @@
 pub mod Starts
 pub mod Answers
+pub mod Tags
+pub mod Tied

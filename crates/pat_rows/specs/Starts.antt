@@ -12,9 +12,11 @@ use Rattle.cedr_table.specs.Operators.{Tables}
 abbrev pub endless : Row → Row
 endless r = record r { end = FOREVER }
 
+-- the rows as if they never ended
 abbrev pub all_endless : List Row → List Row
 all_endless rows = map endless rows
 
+-- the tables with all rows as if they never ended
 abbrev pub endless_tables : Tables → Tables
 endless_tables tables = map all_endless tables
 

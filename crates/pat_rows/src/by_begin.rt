@@ -1,7 +1,7 @@
 ghost use Rattle.std.specs.Prelude.{◌≡◌, ◌++◌, [], length, not, OnOk, OnErr, IfOk};
 ghost use Rattle.std.specs.List.{filter};
 ghost use Rattle.cedr_base.specs.declared.time.TheConstants.{FOREVER};
-ghost use Rattle.cedr_base.specs.Rows.{SameRows};
+ghost use Rattle.cedr_base.specs.Rows.{in_order, SameRows};
 ghost use Rattle.cedr_base.specs.Changes.{puts, takes};
 ghost use Rattle.cedr_table.specs.Counted.{spread, IsTakenOut};
 ghost use Rattle.pat_rows.specs.Starts.{endless, all_endless, begins_within, reaches, AreEndless, AreWithin, HasRow};
@@ -120,6 +120,21 @@ impl ByBegin {
             }
         }
         Ok(())
+    }
+
+    /// Copies of the rows in order of begin, each as often as it is there. O(n).
+    pub(crate) fn canonical(&self) -> Result<Vec<Row>, OutOfMemory>
+        ensures { IfOk result (λ rows. rows.items ≡ in_order self.now) }
+    {
+        self.rows.canonical()
+    }
+
+    /// Takes the first row away, all copies of it, where its scope, which begins with it, ends by a time, and gives it with
+    /// their number. It takes no memory. O(log n).
+    pub(crate) fn pop_passed(&mut self, scope: u64, time: Time) -> Option<(Row, usize)>
+        ensures { IsTakenOut (λ r. not (reaches scope time r)) self.old self.new result }
+    {
+        pop_passed(&mut self.rows, scope, time)
     }
 
     /// Forgets the rows whose scope, which begins with them, ends by a time. It takes no memory. O(log n) for each

@@ -6,6 +6,9 @@
 
 mod answer;
 mod by_begin;
+mod by_tag;
+mod tied;
 
 pub use answer::{Way, push_answers};
 pub use by_begin::ByBegin;
+pub use tied::Tied;

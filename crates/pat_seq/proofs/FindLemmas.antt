@@ -31,20 +31,26 @@ begun_step scope found found' all entries entries' row count is pushed so_far =
 may_follow : (tests : List Test) (p r : Row) (b : Bool) → follows tests p r ≡ b → next_passing tests p r ≡ cond b (longer p r ∷ []) []
 may_follow tests p r b is = ap {B = List Row} (λ test. cond test (longer p r ∷ []) []) is
 
+-- a row that fails the tests with the row so far isn't the next one
+pub fails_none : (tests : List Test) (p r : Row) → passes tests p.payload r.payload ≡ false → next_passing tests p r ≡ []
+fails_none tests p r h = may_follow tests p r false (and_right (nat_lt p.begin r.begin && nat_lt r.begin p.end) (passes tests p.payload r.payload) h)
+
 -- copies of a row that may be the next one
 pub next_copies : (tests : List Test) (p r : Row) (count : ℕ) → follows tests p r ≡ true → flat_map (next_passing tests p) (replicate count r) ≡ replicate count (longer p r)
 next_copies tests p r zero may = refl
 next_copies tests p r (suc count) may = λ i. may_follow tests p r true may i ++ next_copies tests p r count may i
 
+-- copies of a row that may not be the next one make no longer row so far
 pub no_copies : (tests : List Test) (p r : Row) (count : ℕ) → follows tests p r ≡ false → flat_map (next_passing tests p) (replicate count r) ≡ []
 no_copies tests p r count not = no_such_copies (next_passing tests p) count r (may_follow tests p r false not)
 
+-- near a changed row there are as many tables as ports
 pub length-near : (x : Row) (port : ℕ) (ts : Tables) → length (near x port ts) ≡ length ts
 length-near x port [] = refl
 length-near x zero (t ∷ ts) = refl
 length-near x (suc port) (t ∷ ts) = ap (λ n. suc n) (length-near x port ts)
 
--- what stands for the port of the changed row, for those before it and for those behind it
+-- what stands for the port of the changed row, for those before it and for those after it
 pub near_same : (x : Row) (changed port : ℕ) (ts : Tables) → port ≡ changed → port < length ts → table_at (near x changed ts) port ≡ x ∷ []
 near_same x changed port [] same within = absurd (omega arith)
 near_same x zero zero (t ∷ ts) same within = refl
@@ -72,13 +78,13 @@ passing_none tests p r (inr late) =
     may_follow tests p r false (and_left (nat_lt p.begin r.begin && nat_lt r.begin p.end) (passes tests p.payload r.payload) (and_right (nat_lt p.begin r.begin) (nat_lt r.begin p.end) (le-ltb r.begin p.end late)))
 
 -- nor can one that doesn't begin within the row so far's times
-outside : (tests : List Test) (p r : Row) → begins_within p.begin p.end r ≡ false → next_passing tests p r ≡ []
+pub outside : (tests : List Test) (p r : Row) → begins_within p.begin p.end r ≡ false → next_passing tests p r ≡ []
 outside tests p r h = elim (and_cases (nat_le p.begin r.begin) (nat_lt r.begin p.end) h) [
   | inl early ↦ let before = leb-false p.begin r.begin early in passing_none tests p r (inl (omega arith))
   | inr late ↦ passing_none tests p r (inr (ltb-false r.begin p.end late))
 ]
 
--- behind the changed row's port, the rows within the scope are all that may be the next ones
+-- after the changed row's port, the rows within the scope are all that may be the next ones
 pub behind_rows : (tests : List Test) (x p : Row) (changed port : ℕ) (ts : Tables) (rows : List Row) → rows ≡ table_at ts port → changed < port → flat_map (next_passing tests p) (filter (begins_within p.begin p.end) rows) ≡ flat_map (next_passing tests p) (table_at (near x changed ts) port)
 behind_rows tests x p changed port ts rows is behind =
     flat_map-filter (next_passing tests p) (next_passing tests p) (begins_within p.begin p.end) rows (λ r may. refl) (λ r not. sym (outside tests p r not))

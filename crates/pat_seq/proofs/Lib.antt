@@ -3,3 +3,6 @@ pub mod PassingLemmas
 pub mod FindLemmas
 pub mod RepairLemmas
 pub mod ReachLemmas
+pub mod PairLemmas
+pub mod KeptLemmas
+pub mod TestLemmas

@@ -93,6 +93,7 @@ grown_complete tests (t ∷ ts) ps =
     ∙ (flat_map-twice (completions tests ts) (λ p. flat_map (next p) t) ps
     ∙ flat_map-like _ _ ps (λ p. flat_map-twice (completions tests ts) (next p) t ∙ sym (completions-cons tests p t ts)))
 
+-- a row that isn't later or isn't within the scope isn't the next one
 pub next_none : (p x : Row) → (x.begin ≤ p.begin) ⊎ (p.end ≤ x.begin) → next p x ≡ []
 next_none p x (inl early) = ap {B = List Row} (λ b. cond b (longer p x ∷ []) []) (and_left (nat_lt p.begin x.begin) (nat_lt x.begin p.end) (le-ltb p.begin x.begin early))
 next_none p x (inr late) = ap {B = List Row} (λ b. cond b (longer p x ∷ []) []) (and_right (nat_lt p.begin x.begin) (nat_lt x.begin p.end) (le-ltb x.begin p.end late))

@@ -100,7 +100,8 @@ late_choice scope time tests x (b ∷ before) after late fails =
     gives_none scope time tests b (before ++ x ∷ after) (ascends b.begin (later b.begin scope) (before ++ x ∷ after)) refl
     (λ is. let below = row_below b.begin (later b.begin scope) before after x is in omega arith) fails
 
--- tables that are the same among the rows whose scope ends after a time give the same choices with a row that begins then or later
+-- tables that are the same among the rows whose scope ends after a time give the same choices with a row that
+-- begins then or later
 pub among_chosen : (scope time : ℕ) (tests : List Test) (left tables : Tables) (port : ℕ) (x : Row) → AllAmong (reaches scope time) left tables → port < length left → port < length tables → time ≤ x.begin
     → SameRows (chosen (sequence scope tests) (with_table left port (x ∷ []))) (chosen (sequence scope tests) (with_table tables port (x ∷ [])))
 among_chosen scope time tests left tables port x same within_left within late =

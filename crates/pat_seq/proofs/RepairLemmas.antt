@@ -24,7 +24,7 @@ use Rattle.pat_rows.specs.Starts.{endless, all_endless, endless_tables}
 use Rattle.cedr_stream.specs.Times.{IsWhile}
 use Rattle.pat_rows.specs.Answers.{answered, StandsByBegin}
 use Rattle.pat_rows.proofs.FlatLemmas.{flat_map-like, flat_map-map, flat_map-none}
-use Rattle.pat_rows.proofs.AnswerLemmas.{AllLate, late_earlier, come_turns, go_turns, same_turns}
+use Rattle.pat_rows.proofs.AnswerLemmas.{AllLate, late_earlier, late_same, come_turns, go_turns, same_turns}
 use Rattle.pat_rows.proofs.EndlessLemmas.{endless_with, same_with, stands_after, stands_new, length-with}
 use Rattle.pat_seq.specs.Sequences.{ascends, last_begin, joined, sequence, IsSequence}
 use Rattle.pat_seq.specs.Steps.{matches, IsAnswered}
@@ -121,12 +121,12 @@ row_comes scope tests kept kept' tables marks port c x after given gained is sta
     let from : mark_at marks port ≤ x.begin = subst (λ (d : Change). mark_at marks port ≤ sync_of d) is can.from in
     let rows = found scope tests kept tables marks port x stands within from in
     record {
-      changes = map (answered Comes) (matches scope tests x port kept);
+      changes = map (answered Comes) answered_.found;
       appended = answered_.answers;
-      repair = chosen_repairs (sequence scope tests) tables port c after (least_of marks) (map (answered Comes) (matches scope tests x port kept)) within can.legal moved
-          (subst (λ (d : Change). Turns (least_of marks) (chosen (sequence scope tests) (with_table tables port (takes d))) (chosen (sequence scope tests) (with_table tables port (puts d))) (map (answered Comes) (matches scope tests x port kept))) (sym is)
-          (subst (λ (olds : List Row). Turns (least_of marks) olds (chosen (sequence scope tests) (with_table tables port (x ∷ []))) (map (answered Comes) (matches scope tests x port kept))) (sym (chosen_none (sequence scope tests) tables port within))
-          (come_turns (least_of marks) (matches scope tests x port kept) (chosen (sequence scope tests) (with_table tables port (x ∷ []))) rows.late rows.same)));
+      repair = chosen_repairs (sequence scope tests) tables port c after (least_of marks) (map (answered Comes) answered_.found) within can.legal moved
+          (subst (λ (d : Change). Turns (least_of marks) (chosen (sequence scope tests) (with_table tables port (takes d))) (chosen (sequence scope tests) (with_table tables port (puts d))) (map (answered Comes) answered_.found)) (sym is)
+          (subst (λ (olds : List Row). Turns (least_of marks) olds (chosen (sequence scope tests) (with_table tables port (x ∷ []))) (map (answered Comes) answered_.found)) (sym (chosen_none (sequence scope tests) tables port within))
+          (come_turns (least_of marks) answered_.found (chosen (sequence scope tests) (with_table tables port (x ∷ []))) (late_same (least_of marks) answered_.found (matches scope tests x port kept) answered_.same rows.late) (same_along answered_.found (matches scope tests x port kept) (chosen (sequence scope tests) (with_table tables port (x ∷ []))) answered_.same rows.same))));
     }
 
 -- a row that goes takes them
@@ -138,12 +138,12 @@ row_goes scope tests kept kept' tables marks port c x end after given gained is 
     let from : mark_at marks port ≤ end = subst (λ (d : Change). mark_at marks port ≤ sync_of d) is can.from in
     let rows = found scope tests kept tables marks port x stands within (omega arith) in
     record {
-      changes = map (answered Goes) (matches scope tests x port kept);
+      changes = map (answered Goes) answered_.found;
       appended = answered_.answers;
-      repair = chosen_repairs (sequence scope tests) tables port c after (least_of marks) (map (answered Goes) (matches scope tests x port kept)) within can.legal moved
-          (subst (λ (d : Change). Turns (least_of marks) (chosen (sequence scope tests) (with_table tables port (takes d))) (chosen (sequence scope tests) (with_table tables port (puts d))) (map (answered Goes) (matches scope tests x port kept))) (sym is)
-          (subst (λ (news : List Row). Turns (least_of marks) (chosen (sequence scope tests) (with_table tables port (x ∷ []))) news (map (answered Goes) (matches scope tests x port kept))) (sym (ap (λ (left : List Row). chosen (sequence scope tests) (with_table tables port left)) (remnant_none x end gone) ∙ chosen_none (sequence scope tests) tables port within))
-          (go_turns (least_of marks) (matches scope tests x port kept) (chosen (sequence scope tests) (with_table tables port (x ∷ []))) rows.late rows.same)));
+      repair = chosen_repairs (sequence scope tests) tables port c after (least_of marks) (map (answered Goes) answered_.found) within can.legal moved
+          (subst (λ (d : Change). Turns (least_of marks) (chosen (sequence scope tests) (with_table tables port (takes d))) (chosen (sequence scope tests) (with_table tables port (puts d))) (map (answered Goes) answered_.found)) (sym is)
+          (subst (λ (news : List Row). Turns (least_of marks) (chosen (sequence scope tests) (with_table tables port (x ∷ []))) news (map (answered Goes) answered_.found)) (sym (ap (λ (left : List Row). chosen (sequence scope tests) (with_table tables port left)) (remnant_none x end gone) ∙ chosen_none (sequence scope tests) tables port within))
+          (go_turns (least_of marks) answered_.found (chosen (sequence scope tests) (with_table tables port (x ∷ []))) (late_same (least_of marks) answered_.found (matches scope tests x port kept) answered_.same rows.late) (same_along answered_.found (matches scope tests x port kept) (chosen (sequence scope tests) (with_table tables port (x ∷ []))) answered_.same rows.same))));
     }
 
 -- a row that ends earlier gives the same choices

@@ -43,6 +43,7 @@ next_passing tests so_far e = if follows tests so_far e then record { end = so_f
 abbrev pub grown_passing : List Test → List Row → List Row → List Row
 grown_passing tests so_far rows = flat_map (λ p. flat_map (next_passing tests p) rows) so_far
 
+-- the rows so far with one row more of each of some tables
 abbrev pub grown_all : List Row → Tables → List Row
 grown_all so_far [] = so_far
 grown_all so_far (t ∷ ts) = grown_all (grown so_far t) ts
@@ -65,9 +66,11 @@ firsts scope x port rows = if nat_eq port 0 then x ∷ [] else filter (begins_wi
 abbrev pub matches : ℕ → List Test → Row → ℕ → Tables → List Row
 matches scope tests x port tables = filter (is_match tests) (grown_all (map (begun scope) (firsts scope x port (table_at tables 0))) (drop 1 (near x port tables)))
 
--- the rows of one port went through a change, and the rows of the choices with the changed row were answered
+-- the rows of one port went through a change, and the rows of the choices with the changed row were answered, in some order
 pub record IsAnswered (scope : ℕ) (tests : List Test) (kept kept_after : Tables) (port : ℕ) (change : Change) (way : Way) (x : Row) (before after : List Change) : Type 0 where
   pub rows : List Row
   pub kept_is : kept_after ≡ with_table kept port rows
   pub step : SameRows (rows ++ all_endless (takes change)) (table_at kept port ++ all_endless (puts change))
-  pub answers : after ≡ before ++ map (answered way) (matches scope tests x port kept)
+  pub found : List Row
+  pub same : SameRows found (matches scope tests x port kept)
+  pub answers : after ≡ before ++ map (answered way) found

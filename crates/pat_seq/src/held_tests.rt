@@ -1,8 +1,10 @@
 //! What a sequence holds once it was trimmed.
 
+ghost use Rattle.std.specs.Prelude.{◌≤◌};
 ghost use Rattle.cedr_stream.specs.Times.{IsWhile};
 
 use crate::Sequence;
+use crate::kept::Kept;
 use crate::tests::no_tests;
 use cedr_base::{FOREVER, Time};
 use cedr_table::{Table, least_mark, no_marks};
@@ -23,23 +25,38 @@ fn count_reaching(full: &Table, scope: u64, time: Time) -> Result<usize, Fail> {
     Ok(count)
 }
 
+/// How many rows a port holds.
+fn held_on(kept: &Kept, port: usize) -> usize {
+    match kept {
+        Kept::Two(tied) => {
+            if port == 0 {
+                tied.left().len()
+            } else {
+                tied.right().len()
+            }
+        }
+        Kept::More(bags) => bags.get(port).map_or(0, ByBegin::len),
+    }
+}
+
 /// Whether each port holds as many rows as it may.
-fn hold(kept: &[ByBegin], tables: &[Table], scope: u64, time: Time) -> Result<bool, Fail> {
-    for (rows, full) in kept.iter().zip(tables) {
-        if rows.len() != count_reaching(full, scope, time)? {
+fn hold(kept: &Kept, tables: &[Table], scope: u64, time: Time) -> Result<bool, Fail> {
+    for (port, full) in tables.iter().enumerate() {
+        if held_on(kept, port) != count_reaching(full, scope, time)? {
             return Ok(false);
         }
     }
     Ok(kept.len() == tables.len())
 }
 
-/// Whether a sequence of three ports holds what it may after each step of a made history.
-fn holds_throughout(alloc: Global, scope: u64, seed: u64) -> Result<bool, Fail>
-    requires { IsWhile scope }
+/// Whether a sequence holds what it may after each step of a made history.
+fn holds_throughout(alloc: Global, ports: usize, scope: u64, seed: u64) -> Result<bool, Fail>
+    requires ports { (2 ≤ ports) × (ports ≤ 4) }
+    requires scope { IsWhile scope }
 {
-    let mut op = Sequence::new(alloc, 3, scope, no_tests(alloc)?)?;
-    let mut tables = no_tables(alloc, 3)?;
-    let mut marks = no_marks(alloc, 3)?;
+    let mut op = Sequence::new(alloc, ports, scope, no_tests(alloc)?)?;
+    let mut tables = no_tables(alloc, ports)?;
+    let mut marks = no_marks(alloc, ports)?;
     let mut random = Random::new(seed);
     let mut out = Vec::new(alloc);
     for _ in 0..50 {
@@ -55,7 +72,7 @@ fn holds_throughout(alloc: Global, scope: u64, seed: u64) -> Result<bool, Fail>
             return Ok(false);
         }
         let least = least_mark(marks.as_slice());
-        if !hold(op.kept.as_slice(), tables.as_slice(), scope, least)? {
+        if !hold(&op.kept, tables.as_slice(), scope, least)? {
             return Ok(false);
         }
     }
@@ -65,8 +82,9 @@ fn holds_throughout(alloc: Global, scope: u64, seed: u64) -> Result<bool, Fail>
 #[test]
 fn made_histories_leave_the_rows_whose_scope_lasts(rt: HostRuntime) -> Result<(), Fail> {
     for seed in 0..200 {
-        assert!(rt; holds_throughout(rt.alloc(), 1, seed)?);
-        assert!(rt; holds_throughout(rt.alloc(), 7, seed)?);
+        assert!(rt; holds_throughout(rt.alloc(), 2, 7, seed)?);
+        assert!(rt; holds_throughout(rt.alloc(), 3, 1, seed)?);
+        assert!(rt; holds_throughout(rt.alloc(), 3, 7, seed)?);
     }
     Ok(())
 }

@@ -1,7 +1,9 @@
 //! The pattern sequence: one row of each port, one after the other within a scope.
 #![tactic(auto)]
 
+mod kept;
 mod matches;
+mod pairs;
 mod sequence;
 
 pub use sequence::Sequence;

@@ -3,15 +3,19 @@ ghost use Rattle.std.specs.List.{flat_map, filter};
 ghost use Rattle.cedr_base.specs.declared.time.TheConstants.{FOREVER};
 ghost use Rattle.cedr_table.specs.Operators.{table_at};
 ghost use Rattle.pat_rows.specs.Starts.{begins_within};
+ghost use Rattle.cedr_base.specs.Rows.{SameRows};
+ghost use Rattle.pat_seq.specs.Keeping.{rows_in, AreKept};
 ghost use Rattle.pat_seq.specs.Steps.{begun, tests_in, follows, next_passing, grown_passing, near, firsts, matches};
 
+use crate::kept::Kept;
+use crate::pairs::find_pairs;
 use cedr_base::{OutOfMemory, Row, Time, later};
 use cedr_expr::Tests;
 use pat_rows::ByBegin;
 use std::alloc::Global;
 
 /// The row so far of a choice that begins with this row: it ends when the scope does.
-fn begun(alloc: Global, scope: u64, row: &Row) -> Result<Row, OutOfMemory>
+pub(crate) fn begun(alloc: Global, scope: u64, row: &Row) -> Result<Row, OutOfMemory>
     requires begin { row.now.begin ≤ FOREVER }
     requires scope { scope ≤ 2 ^ 40 }
     ensures { IfOk result (λ r. r ≡ begun scope row.now) }
@@ -120,7 +124,7 @@ fn follows(tests: Option<&Tests>, so_far: &Row, row: &Row) -> bool
 }
 
 /// Appends the row so far with one row more where that may be the next one, once for each copy of the row.
-fn push_next(
+pub(crate) fn push_next(
     alloc: Global,
     tests: Option<&Tests>,
     so_far: &Row,
@@ -154,7 +158,8 @@ fn push_before(
     Ok(())
 }
 
-/// The same for each row of a port, of which the changed row is to stand on its own port.
+/// The same for each row of a port. On its own port the changed row stands alone, and on a port before that only the
+/// rows count that begin before it.
 fn push_port(
     alloc: Global,
     tests: Option<&Tests>,
@@ -202,7 +207,7 @@ fn grown(
 ///
 /// On each port but the last it joins the payloads of the rows so far, as the next port has to see them. On the last
 /// one it runs the tests first, on the payload so far and that of the last row, and joins only what passes.
-pub(crate) fn find_matches(
+fn find_among(
     alloc: Global,
     scope: u64,
     tests: &Tests,
@@ -230,4 +235,26 @@ pub(crate) fn find_matches(
         last,
         rows.as_slice(),
     )
+}
+
+/// The rows of the result of the choices with a changed row on its port, in some order.
+pub(crate) fn find_matches(
+    alloc: Global,
+    scope: u64,
+    tests: &Tests,
+    kept: &Kept,
+    changed: usize,
+    row: &Row,
+) -> Result<Vec<Row>, OutOfMemory>
+    requires begin { row.now.begin < FOREVER }
+    requires scope { scope ≤ 2 ^ 40 }
+    requires changed { changed < length (rows_in kept.now) }
+    requires ports { 2 ≤ length (rows_in kept.now) }
+    requires tags { AreKept tests.now kept.now }
+    ensures { IfOk result (λ rows. SameRows rows.items (matches scope tests.now row.now changed (rows_in kept.now))) }
+{
+    match kept {
+        Kept::Two(tied) => find_pairs(alloc, scope, tests, tied, changed, row),
+        Kept::More(bags) => find_among(alloc, scope, tests, bags.as_slice(), changed, row),
+    }
 }

@@ -4,33 +4,35 @@ ghost use Rattle.cedr_base.specs.Rows.{SameRows};
 ghost use Rattle.cedr_base.specs.Changes.{puts, takes};
 ghost use Rattle.cedr_table.specs.Operators.{table_at, with_table};
 ghost use Rattle.pat_rows.specs.Starts.{all_endless, HasRow};
-ghost use Rattle.pat_rows.specs.Answers.{AreForgotten};
 ghost use Rattle.cedr_stream.specs.Times.{IsWhile};
-ghost use Rattle.pat_seq.specs.Sequences.{sequence_of, IsSequence};
+ghost use Rattle.pat_seq.specs.Keeping.{rows_in, AreKept};
+ghost use Rattle.pat_seq.specs.Sequences.{sequence_of};
 ghost use Rattle.pat_seq.specs.Steps.{IsAnswered};
 
+use crate::kept::Kept;
 use crate::matches::find_matches;
 use cedr_base::{Change, OutOfMemory, Row, Time};
 use cedr_expr::Tests;
 use cedr_table::{Operator, least_mark};
-use pat_rows::{ByBegin, Way, push_answers};
+use pat_rows::{Way, push_answers};
 use std::alloc::Global;
 
 /// One row for each choice of one row of each port, where they begin one after the other within the scope of the
 /// first one and their payloads pass the tests: `[ek.begin, later(e1.begin, scope))`, with the payloads joined in
 /// the order of the ports. The bound is the least mark.
 ///
-/// It keeps the rows of its ports without their ends, each until the least mark reaches the end of the scope that begins
-/// with it. A change of a row looks at rows that begin within the scope of
-/// it alone: for each ascending choice of the ports but the last in which it may stand, O(log n) and the rows that may
-/// be the next one. Each row more of such a choice costs a copy of the payload so far. On the last port the tests come
-/// first, once for all copies of a row, and a payload is joined only for what passes them. A retraction that leaves
-/// something of its row takes O(1).
+/// It keeps the rows of its ports without their ends, each until the least mark reaches the end of the scope that
+/// begins with it. A change of a row looks only at rows that begin less than a scope before or after it. Of two ports it
+/// looks only at those that have the fields that equality tests between the two compare: O(log n), and a step and the
+/// tests for each of them. Of more ports it takes O(log n) and the rows that may be the next one for each ascending choice
+/// of the ports but the last in which it may stand, and each row more of such a choice costs a new payload. On the last
+/// port the tests come first, once for all copies of a row, and a payload is joined only for what passes them. A
+/// retraction that leaves something of its row takes O(1).
 #[derive(Drop)]
 pub struct Sequence {
     scope: u64,
     tests: Tests,
-    pub(crate) kept: Vec<ByBegin>,
+    pub(crate) kept: Kept,
 }
 
 impl Sequence {
@@ -47,7 +49,7 @@ impl Sequence {
         ensures meaning { IfOk result (λ s. ⟦<Sequence as Operator>⟧.meaning s ≡ sequence_of ports scope tests) }
         ensures stands { IfOk result (λ s. ⟦<Sequence as Operator>⟧.stands s (replicate ports []) (replicate ports 0)) }
     {
-        let kept = empty_bags(alloc, ports)?;
+        let kept = Kept::new(alloc, ports)?;
         Ok(Sequence { scope, tests, kept })
     }
 
@@ -63,57 +65,31 @@ impl Sequence {
     ) -> Result<(), OutOfMemory>
         requires begin { row.now.begin < FOREVER }
         requires scope { self.old.scope ≤ 2 ^ 40 }
-        requires port { port < length self.old.kept.items }
-        requires ports { 2 ≤ length self.old.kept.items }
-        requires there { HasRow (table_at self.old.kept.items port) change.now }
+        requires port { port < length (rows_in self.old.kept) }
+        requires ports { 2 ≤ length (rows_in self.old.kept) }
+        requires there { HasRow (table_at (rows_in self.old.kept) port) change.now }
+        requires tags { AreKept self.old.tests self.old.kept }
         ensures scope { self.new.scope ≡ self.old.scope }
         ensures tests { self.new.tests ≡ self.old.tests }
-        ensures ports { length self.new.kept.items ≡ length self.old.kept.items }
-        ensures ok { OnOk result (IsAnswered self.old.scope self.old.tests self.old.kept.items self.new.kept.items port change.now way row.now out.old.items out.new.items) }
+        ensures ports { length (rows_in self.new.kept) ≡ length (rows_in self.old.kept) }
+        ensures ok { OnOk result (IsAnswered self.old.scope self.old.tests (rows_in self.old.kept) (rows_in self.new.kept) port change.now way row.now out.old.items out.new.items × AreKept self.old.tests self.new.kept) }
         ensures err { OnErr result (out.new.items ≡ out.old.items) }
     {
-        let rows = find_matches(
-            alloc,
-            self.scope,
-            &self.tests,
-            self.kept.as_slice(),
-            port,
-            row,
-        )?;
-        self.kept[port].apply(alloc, change)?;
+        let rows = find_matches(alloc, self.scope, &self.tests, &self.kept, port, row)?;
+        self.kept.apply(alloc, &self.tests, port, change)?;
         push_answers(way, rows, out)
     }
 }
 
-/// As many bags with no row.
-fn empty_bags(alloc: Global, count: usize) -> Result<Vec<ByBegin>, OutOfMemory>
-    ensures { IfOk result (λ bags. bags.items ≡ replicate count []) }
-{
-    let mut bags = Vec::new(alloc);
-    for _ in 0..count {
-        bags.push(ByBegin::new(alloc))?;
-    }
-    Ok(bags)
-}
-
-/// Forgets the rows of each port whose scope, which begins with them, ends by a time.
-fn forget_all(kept: &mut Vec<ByBegin>, scope: u64, time: Time)
-    ensures { AreForgotten scope time kept.old.items kept.new.items }
-{
-    for port in 0..kept.len() {
-        kept[port].forget(scope, time);
-    }
-}
-
 impl Operator for Sequence {
-    ghost use Rattle.pat_rows.specs.Answers.{StandsByBegin};
+    ghost use Rattle.pat_seq.specs.Keeping.{SequenceStands};
     ghost use Rattle.pat_seq.specs.SequenceLaws.{sequence_laws};
 
-    ghost meaning = { λ s. sequence_of (length s.kept.items) s.scope s.tests };
+    ghost meaning = { λ s. sequence_of (length (rows_in s.kept)) s.scope s.tests };
 
-    ghost stands = { λ s tables marks. StandsByBegin (IsSequence (length s.kept.items) s.scope) s.scope s.kept.items tables marks };
+    ghost stands = { λ s tables marks. SequenceStands s.scope s.tests s.kept tables marks };
 
-    ghost held = { λ s. s.kept.items };
+    ghost held = { λ s. rows_in s.kept };
 
     fn ports(&self) -> usize {
         self.kept.len()
@@ -123,16 +99,16 @@ impl Operator for Sequence {
         &mut self,
         alloc: Global,
         port: usize,
-        change: &Change,
+        change: Change,
         out: &mut Vec<Change>,
     ) -> Result<(), OutOfMemory> {
-        match change {
-            Change::Add(row) => self.answer(alloc, port, change, Way::Comes, row, out),
+        match &change {
+            Change::Add(row) => self.answer(alloc, port, &change, Way::Comes, row, out),
             Change::Cut(row, end) => {
                 if row.begin < *end {
                     return Ok(());
                 }
-                self.answer(alloc, port, change, Way::Goes, row, out)
+                self.answer(alloc, port, &change, Way::Goes, row, out)
             }
         }
     }
@@ -142,8 +118,8 @@ impl Operator for Sequence {
     }
 
     fn trim(&mut self, marks: &[Time]) {
-        forget_all(&mut self.kept, self.scope, least_mark(marks));
+        self.kept.forget(&self.tests, self.scope, least_mark(marks));
     }
 
-    ghost lawful = { λ s. sequence_laws s.scope s.tests s.kept.items };
+    ghost lawful = { λ s. sequence_laws s.scope s.tests s.kept };
 }

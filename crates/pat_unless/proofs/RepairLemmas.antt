@@ -14,7 +14,7 @@ use Rattle.cedr_base.specs.Changes.{IsChange, sync_of, puts, takes, MayFollow}
 use Rattle.cedr_base.proofs.Bags.{count_of-append, count_of-cons}
 use Rattle.cedr_stream.specs.Repairs.{IsMoved, Repair}
 use Rattle.cedr_stream.specs.Times.{later}
-use Rattle.cedr_stream.proofs.BagSums.{sum_by-flat_map, same_flat_map, same_itself}
+use Rattle.cedr_stream.proofs.BagSums.{sum_by-flat_map, same_flat_map, same_itself, same_along}
 use Rattle.cedr_stream.proofs.Moves.{sum_by-moved, sum_by-there, remnant_none, may_is, applied, applied_moves}
 use Rattle.cedr_table.specs.Counted.{SameAmong}
 use Rattle.cedr_table.proofs.FilterLemmas.{sum_by-among, among_moved}
@@ -27,7 +27,7 @@ use Rattle.pat_rows.specs.declared.answer.Way.TheVariants.{Comes, Goes}
 use Rattle.pat_rows.specs.Starts.{endless, all_endless, endless_tables, reaches, HasRow}
 use Rattle.pat_rows.specs.Answers.{answered, StandsByBegin}
 use Rattle.pat_rows.proofs.FlatLemmas.{flat_map-like, flat_map-map}
-use Rattle.pat_rows.proofs.AnswerLemmas.{AllLate, late-flat_map, come_turns, go_turns, same_turns}
+use Rattle.pat_rows.proofs.AnswerLemmas.{AllLate, late-flat_map, late_same, come_turns, go_turns, same_turns}
 use Rattle.pat_rows.proofs.EndlessLemmas.{kept_at, left_at, kept_moved, stands_after, stands_has, left_withdraws, reaches_itself, tables_ends, endless_at}
 use Rattle.pat_unless.specs.declared.terms.Terms.{Terms}
 use Rattle.pat_unless.specs.Blocking.{blocks, is_blocked, waited, unblocked, all_unblocked, AreWhiles}
@@ -58,7 +58,7 @@ no_block_at scope time tests a b true h reach none =
     absurd (let wrong = sym other ∙ none in cc)
 no_block_at scope time tests a b false h reach none = refl
 
--- of a row whose scope ends after a time, what is kept tells whether it is blocked
+-- of a row whose scope ends after a time, what is kept says whether it is blocked
 kept_blocked : (scope time : ℕ) (tests : List Test) (kept blockers : List Row) (a : Row) → Leaves scope time kept blockers → reaches scope time a ≡ true → is_blocked scope tests kept a ≡ is_blocked scope tests blockers a
 kept_blocked scope time tests kept blockers a leaves reach =
     any_same (blocks scope tests a) kept (all_endless leaves.left) leaves.rows
@@ -185,15 +185,16 @@ comes_at scope hold tests kept_rows kept_blockers tables marks c x after given g
     let same : given_by_it ≡ f x =
     kept_unblocked scope hold (least_of marks) tests kept_blockers (table_at tables 1) x (leaves_at scope (kept_rows ∷ kept_blockers ∷ []) tables marks 1 stands) (reaches_itself scope (least_of marks) x stands.range.scope_is.least finite (omega arith)) in
     record {
-      changes = map (answered Comes) given_by_it;
+      changes = map (answered Comes) appends.found;
       appended = appends.answers;
       repair =
-          subst (λ (new : List Row). Repair (all_unblocked scope hold tests tables) new (least_of marks) (map (answered Comes) given_by_it)) (sym (with_rows scope hold tests tables after two))
-          (rows_repair f c (table_at tables 0) after (least_of marks) (map (answered Comes) given_by_it) can.legal moved
-          (subst (λ (d : Change). Turns (least_of marks) (flat_map f (takes d)) (flat_map f (puts d)) (map (answered Comes) given_by_it)) (sym is)
-          (come_turns (least_of marks) given_by_it (f x ++ []) late (record { each = λ r. ap (count_of r) (same ∙ sym (append-nil (f x))) }))));
+          subst (λ (new : List Row). Repair (all_unblocked scope hold tests tables) new (least_of marks) (map (answered Comes) appends.found)) (sym (with_rows scope hold tests tables after two))
+          (rows_repair f c (table_at tables 0) after (least_of marks) (map (answered Comes) appends.found) can.legal moved
+          (subst (λ (d : Change). Turns (least_of marks) (flat_map f (takes d)) (flat_map f (puts d)) (map (answered Comes) appends.found)) (sym is)
+          (come_turns (least_of marks) appends.found (f x ++ []) (late_same (least_of marks) appends.found given_by_it appends.same late) (record { each = λ r. appends.same.each r ∙ ap (count_of r) (same ∙ sym (append-nil (f x))) }))));
     }
 
+-- where a row comes on port 0, the addition of the row that it gives repairs the result
 pub row_comes : (scope hold : ℕ) (tests : List Test) (kept_rows kept_blockers : List Row) (tables : Tables) (marks : List ℕ) (port : ℕ) (c : Change) (x : Row) (after : List Row) (given gained : List Change)
     → port ≡ 0 → c ≡ Add x → StandsByBegin (AreWhiles scope hold) scope (kept_rows ∷ kept_blockers ∷ []) tables marks → Appends Comes (unblocked scope hold tests kept_blockers x) given gained → CanTake tables marks port c → IsMoved c (table_at tables port) after
     → Gains (all_unblocked scope hold tests tables) (all_unblocked scope hold tests (with_table tables port after)) (least_of marks) given gained
@@ -201,7 +202,7 @@ row_comes scope hold tests kept_rows kept_blockers tables marks port c x after g
     subst (λ (port : ℕ). CanTake tables marks port c → IsMoved c (table_at tables port) after → Gains (all_unblocked scope hold tests tables) (all_unblocked scope hold tests (with_table tables port after)) (least_of marks) given gained) (sym at)
     (comes_at scope hold tests kept_rows kept_blockers tables marks c x after given gained is stands appends)
 
--- a row that goes on port 0 takes it
+-- a row that goes from port 0 takes away the row that it gives
 goes_at : (scope hold : ℕ) (tests : List Test) (kept_rows kept_blockers : List Row) (tables : Tables) (marks : List ℕ) (c : Change) (x : Row) (end : ℕ) (after : List Row) (given gained : List Change)
     → c ≡ Cut x end → end ≤ x.begin → StandsByBegin (AreWhiles scope hold) scope (kept_rows ∷ kept_blockers ∷ []) tables marks → Appends Goes (unblocked scope hold tests kept_blockers x) given gained → CanTake tables marks 0 c → IsMoved c (table_at tables 0) after
     → Gains (all_unblocked scope hold tests tables) (all_unblocked scope hold tests (with_table tables 0 after)) (least_of marks) given gained
@@ -218,16 +219,17 @@ goes_at scope hold tests kept_rows kept_blockers tables marks c x end after give
     let same : given_by_it ≡ f x =
     kept_unblocked scope hold (least_of marks) tests kept_blockers (table_at tables 1) x (leaves_at scope (kept_rows ∷ kept_blockers ∷ []) tables marks 1 stands) (reaches_itself scope (least_of marks) x stands.range.scope_is.least finite (omega arith)) in
     record {
-      changes = map (answered Goes) given_by_it;
+      changes = map (answered Goes) appends.found;
       appended = appends.answers;
       repair =
-          subst (λ (new : List Row). Repair (all_unblocked scope hold tests tables) new (least_of marks) (map (answered Goes) given_by_it)) (sym (with_rows scope hold tests tables after two))
-          (rows_repair f c (table_at tables 0) after (least_of marks) (map (answered Goes) given_by_it) can.legal moved
-          (subst (λ (d : Change). Turns (least_of marks) (flat_map f (takes d)) (flat_map f (puts d)) (map (answered Goes) given_by_it)) (sym is)
-          (subst (λ (left : List Row). Turns (least_of marks) (f x ++ []) (flat_map f left) (map (answered Goes) given_by_it)) (sym (remnant_none x end gone))
-          (go_turns (least_of marks) given_by_it (f x ++ []) late (record { each = λ r. ap (count_of r) (same ∙ sym (append-nil (f x))) })))));
+          subst (λ (new : List Row). Repair (all_unblocked scope hold tests tables) new (least_of marks) (map (answered Goes) appends.found)) (sym (with_rows scope hold tests tables after two))
+          (rows_repair f c (table_at tables 0) after (least_of marks) (map (answered Goes) appends.found) can.legal moved
+          (subst (λ (d : Change). Turns (least_of marks) (flat_map f (takes d)) (flat_map f (puts d)) (map (answered Goes) appends.found)) (sym is)
+          (subst (λ (left : List Row). Turns (least_of marks) (f x ++ []) (flat_map f left) (map (answered Goes) appends.found)) (sym (remnant_none x end gone))
+          (go_turns (least_of marks) appends.found (f x ++ []) (late_same (least_of marks) appends.found given_by_it appends.same late) (record { each = λ r. appends.same.each r ∙ ap (count_of r) (same ∙ sym (append-nil (f x))) })))));
     }
 
+-- where a row of port 0 is withdrawn, the withdrawal of the row that it gives repairs the result
 pub row_goes : (scope hold : ℕ) (tests : List Test) (kept_rows kept_blockers : List Row) (tables : Tables) (marks : List ℕ) (port : ℕ) (c : Change) (x : Row) (end : ℕ) (after : List Row) (given gained : List Change)
     → port ≡ 0 → c ≡ Cut x end → end ≤ x.begin → StandsByBegin (AreWhiles scope hold) scope (kept_rows ∷ kept_blockers ∷ []) tables marks → Appends Goes (unblocked scope hold tests kept_blockers x) given gained → CanTake tables marks port c → IsMoved c (table_at tables port) after
     → Gains (all_unblocked scope hold tests tables) (all_unblocked scope hold tests (with_table tables port after)) (least_of marks) given gained
@@ -252,12 +254,12 @@ blocks_at scope hold tests kept_rows kept_blockers tables marks c b after given 
     let same =
     kept_decided scope hold (least_of marks) tests kept_blockers others b kept_rows rows (leaves_at scope (kept_rows ∷ kept_blockers ∷ []) tables marks 1 stands) (leaves_at scope (kept_rows ∷ kept_blockers ∷ []) tables marks 0 stands) (omega arith) in
     record {
-      changes = map (answered Goes) found;
+      changes = map (answered Goes) appends.found;
       appended = appends.answers;
       repair =
-          subst (λ (new : List Row). Repair (all_unblocked scope hold tests tables) new (least_of marks) (map (answered Goes) found)) (sym (with_blockers scope hold tests tables after two))
-          (repair_by_turns (flat_map (unblocked scope hold tests others) rows) (flat_map (unblocked scope hold tests after) rows) (decided scope hold tests others b rows) [] (least_of marks) (map (answered Goes) found)
-          (go_turns (least_of marks) found (decided scope hold tests others b rows) (late_decided (least_of marks) scope hold tests kept_blockers b kept_rows (omega arith)) same)
+          subst (λ (new : List Row). Repair (all_unblocked scope hold tests tables) new (least_of marks) (map (answered Goes) appends.found)) (sym (with_blockers scope hold tests tables after two))
+          (repair_by_turns (flat_map (unblocked scope hold tests others) rows) (flat_map (unblocked scope hold tests after) rows) (decided scope hold tests others b rows) [] (least_of marks) (map (answered Goes) appends.found)
+          (go_turns (least_of marks) appends.found (decided scope hold tests others b rows) (late_same (least_of marks) appends.found found appends.same (late_decided (least_of marks) scope hold tests kept_blockers b kept_rows (omega arith))) (same_along appends.found found (decided scope hold tests others b rows) appends.same same))
           (λ r. omega (arith, decided_counts scope hold tests after others b r rows all))
           (λ r. omega (arith, decided_counts scope hold tests after others b r rows all)));
     }
@@ -265,6 +267,7 @@ blocks_at scope hold tests kept_rows kept_blockers tables marks c b after given 
 one_port : (tables : Tables) (marks : List ℕ) (port : ℕ) (c : Change) → length tables ≡ 2 → (port ≡ 0 → ⊥) → CanTake tables marks port c → port ≡ 1
 one_port tables marks port c two other can = let within = can.port_is in omega arith
 
+-- where a row comes on port 1, the withdrawal of the rows of which it decides repairs the result
 pub row_blocks : (scope hold : ℕ) (tests : List Test) (kept_rows kept_blockers : List Row) (tables : Tables) (marks : List ℕ) (port : ℕ) (c : Change) (b : Row) (after : List Row) (given gained : List Change)
     → (port ≡ 0 → ⊥) → c ≡ Add b → StandsByBegin (AreWhiles scope hold) scope (kept_rows ∷ kept_blockers ∷ []) tables marks → Appends Goes (decided scope hold tests kept_blockers b kept_rows) given gained → CanTake tables marks port c → IsMoved c (table_at tables port) after
     → Gains (all_unblocked scope hold tests tables) (all_unblocked scope hold tests (with_table tables port after)) (least_of marks) given gained
@@ -299,16 +302,17 @@ frees_at scope hold tests kept_rows kept_blockers kept_others tables marks c b e
     let others = leaves_moved scope (least_of marks) c kept_blockers kept_others blockers after (leaves_at scope (kept_rows ∷ kept_blockers ∷ []) tables marks 1 stands) may step moved in
     let same = kept_decided scope hold (least_of marks) tests kept_others after b kept_rows rows others (leaves_at scope (kept_rows ∷ kept_blockers ∷ []) tables marks 0 stands) (omega arith) in
     record {
-      changes = map (answered Comes) found;
+      changes = map (answered Comes) appends.found;
       appended = appends.answers;
       repair =
-          subst (λ (new : List Row). Repair (all_unblocked scope hold tests tables) new (least_of marks) (map (answered Comes) found)) (sym (with_blockers scope hold tests tables after two))
-          (repair_by_turns (flat_map (unblocked scope hold tests blockers) rows) (flat_map (unblocked scope hold tests after) rows) [] (decided scope hold tests after b rows) (least_of marks) (map (answered Comes) found)
-          (come_turns (least_of marks) found (decided scope hold tests after b rows) (late_decided (least_of marks) scope hold tests kept_others b kept_rows (omega arith)) same)
+          subst (λ (new : List Row). Repair (all_unblocked scope hold tests tables) new (least_of marks) (map (answered Comes) appends.found)) (sym (with_blockers scope hold tests tables after two))
+          (repair_by_turns (flat_map (unblocked scope hold tests blockers) rows) (flat_map (unblocked scope hold tests after) rows) [] (decided scope hold tests after b rows) (least_of marks) (map (answered Comes) appends.found)
+          (come_turns (least_of marks) appends.found (decided scope hold tests after b rows) (late_same (least_of marks) appends.found found appends.same (late_decided (least_of marks) scope hold tests kept_others b kept_rows (omega arith))) (same_along appends.found found (decided scope hold tests after b rows) appends.same same))
           (λ r. omega (arith, decided_counts scope hold tests blockers after b r rows all))
           (λ r. omega arith));
     }
 
+-- where a row of port 1 is withdrawn, the addition of the rows of which it decides repairs the result
 pub row_frees : (scope hold : ℕ) (tests : List Test) (kept_rows kept_blockers kept_others : List Row) (tables : Tables) (marks : List ℕ) (port : ℕ) (c : Change) (b : Row) (end : ℕ) (after : List Row) (given gained : List Change)
     → (port ≡ 0 → ⊥) → c ≡ Cut b end → end ≤ b.begin → StandsByBegin (AreWhiles scope hold) scope (kept_rows ∷ kept_blockers ∷ []) tables marks → IsStep c kept_blockers kept_others → Appends Comes (decided scope hold tests kept_others b kept_rows) given gained → CanTake tables marks port c → IsMoved c (table_at tables port) after
     → Gains (all_unblocked scope hold tests tables) (all_unblocked scope hold tests (with_table tables port after)) (least_of marks) given gained
@@ -356,6 +360,7 @@ rows_stand terms terms' kept_rows kept_rows' kept_blockers kept_blockers' tables
     (subst (λ (bs : List Row). StandsByBegin (AreWhiles terms.scope terms.hold) terms.scope (kept_rows' ∷ bs ∷ []) (with_table tables port after) marks) (sym same_blockers)
     (port_stands terms.scope terms.hold 0 (kept_rows ∷ kept_blockers ∷ []) (kept_rows' ∷ kept_blockers ∷ []) kept_rows' tables marks port c after at refl step stands may moved))
 
+-- with the blockers after a change on port 1 what is kept stands for the tables after it
 pub blockers_stand : (terms terms' : Terms) (kept_rows kept_rows' kept_blockers kept_blockers' : List Row) (tables : Tables) (marks : List ℕ) (port : ℕ) (c : Change) (after : List Row)
     → (port ≡ 0 → ⊥) → terms' ≡ terms → kept_rows' ≡ kept_rows → IsStep c kept_blockers kept_blockers' → (stands : StandsByBegin (AreWhiles terms.scope terms.hold) terms.scope (kept_rows ∷ kept_blockers ∷ []) tables marks)
     → MayFollow (table_at stands.left port) [] c → CanTake tables marks port c → IsMoved c (table_at tables port) after → StandsByBegin (AreWhiles terms'.scope terms'.hold) terms'.scope (kept_rows' ∷ kept_blockers' ∷ []) (with_table tables port after) marks
@@ -371,6 +376,7 @@ has_rows scope kept_rows kept_blockers tables marks port c x end at long is gone
     subst (λ (p : ℕ). HasRow (table_at (kept_rows ∷ kept_blockers ∷ []) p) c) at
     (stands_has scope (kept_rows ∷ kept_blockers ∷ []) tables marks port stands c (left_withdraws scope (kept_rows ∷ kept_blockers ∷ []) tables marks port stands c can x end long is gone))
 
+-- a row that is withdrawn on port 1 is among the kept blockers
 pub has_blockers : {range : Type 0} (scope : ℕ) (kept_rows kept_blockers : List Row) (tables : Tables) (marks : List ℕ) (port : ℕ) (c : Change) (x : Row) (end : ℕ)
     → (port ≡ 0 → ⊥) → 1 ≤ scope → c ≡ Cut x end → end ≤ x.begin → StandsByBegin range scope (kept_rows ∷ kept_blockers ∷ []) tables marks → CanTake tables marks port c → HasRow kept_blockers c
 has_blockers scope kept_rows kept_blockers tables marks port c x end other long is gone stands can =

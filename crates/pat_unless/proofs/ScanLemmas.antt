@@ -1,18 +1,23 @@
 -- What the scans of kept rows find.
 use Rattle.std.proofs.Common.{◌≡◌, ℕ, zero, suc, ◌+◌, ◌-◌, ◌<◌, ◌≤◌, inl, inr, List, [], ◌∷◌, ◌++◌, Bool, true, false, cond, refl, ap, sym, ◌∙◌, subst, arith}
-use Rattle.std.specs.Prelude.{replicate, nat_lt, nat_le, not, ◌&&◌, ◌||◌}
+use Rattle.std.specs.Prelude.{replicate, sum_by, nat_lt, nat_le, not, ◌&&◌, ◌||◌}
 use Rattle.std.specs.List.{flat_map, filter, list_any}
 use Rattle.std.proofs.lemmas.Bool.{leb-true, leb-false, lt-ltb, le-ltb, and_parts, and_cases}
 use Rattle.std.proofs.lemmas.Bool.Decides.{nat_tests}
 use Rattle.cedr_base.specs.declared.time.TheConstants.{FOREVER}
 use Rattle.cedr_base.specs.declared.row.Row.{Row}
+use Rattle.cedr_base.specs.Rows.{count_of, one_if_same, SameRows}
+use Rattle.cedr_base.proofs.Bags.{count_of-append}
+use Rattle.cedr_stream.proofs.BagSums.{sum_by-flat_map}
 use Rattle.cedr_stream.specs.Times.{later}
 use Rattle.cedr_table.specs.Counted.{spread}
 use Rattle.cedr_expr.specs.declared.test.Test.{Test}
 use Rattle.cedr_expr.specs.Tests.{passes}
 use Rattle.pat_rows.specs.Starts.{begins_within, AreWithin}
+use Rattle.pat_rows.specs.Tags.{IsSought}
 use Rattle.pat_rows.proofs.FlatLemmas.{flat_map-filter, same_copies, no_copies}
 use Rattle.pat_unless.specs.Blocking.{blocks, is_blocked, waited, unblocked}
+use Rattle.pat_unless.specs.BlockingLaws.{any_is}
 use Rattle.pat_unless.specs.Steps.{only_blocked, freed, decided}
 
 -- one of several tests decides with another
@@ -31,14 +36,21 @@ and_together : (a b c : Bool) → (a && (b && c)) ≡ ((a && b) && c)
 and_together true b c = refl
 and_together false b c = refl
 
--- the rows that may block one begin within its scope
-pub blocked_within : (scope : ℕ) (tests : List Test) (blockers : List Row) (a : Row) (until : ℕ) (entries : List (Row × ℕ)) → until ≡ later a.begin scope → spread entries ≡ filter (begins_within (a.begin + 1) until) blockers
+-- whether a row is blocked is told by weights of the rows that pass the tests with it
+block_sought : (tests : List Test) (a : Row) → IsSought (λ fields. passes tests a.payload fields) (λ b. cond (passes tests a.payload b.payload) 1 0)
+block_sought tests a = record { endless = λ r end. refl; none = λ r h. ap (λ b. cond b 1 0) h }
+
+-- the rows that may block one begin within its scope and are beside it
+pub blocked_beside : (scope : ℕ) (tests : List Test) (blockers : List Row) (a : Row) (from until : ℕ) (entries : List (Row × ℕ)) → from ≡ a.begin + 1 → until ≡ later a.begin scope
+    → ((weight : Row → ℕ) → IsSought (λ fields. passes tests a.payload fields) weight → sum_by weight (spread entries) ≡ sum_by weight (filter (begins_within from until) blockers))
     → is_blocked scope tests blockers a ≡ list_any (λ b. passes tests a.payload b.payload) (spread entries)
-blocked_within scope tests blockers a until entries is rows =
-    any_filter (blocks scope tests a) (λ b. passes tests a.payload b.payload) (begins_within (a.begin + 1) until) blockers
+blocked_beside scope tests blockers a from until entries starts is found =
+    any_filter (blocks scope tests a) (λ b. passes tests a.payload b.payload) (begins_within from until) blockers
     (λ b. and_together (nat_lt a.begin b.begin) (nat_lt b.begin (later a.begin scope)) (passes tests a.payload b.payload)
-    ∙ (λ i. (next_time a.begin b.begin i && nat_lt b.begin (sym is i)) && passes tests a.payload b.payload))
-    ∙ ap (list_any (λ b. passes tests a.payload b.payload)) (sym rows)
+    ∙ (λ i. ((next_time a.begin b.begin ∙ ap (λ n. nat_le n b.begin) (sym starts)) i && nat_lt b.begin (sym is i)) && passes tests a.payload b.payload))
+    ∙ (any_is (λ b. passes tests a.payload b.payload) (filter (begins_within from until) blockers)
+    ∙ (ap (nat_lt 0) (sym (found (λ b. cond (passes tests a.payload b.payload) 1 0) (block_sought tests a)))
+    ∙ sym (any_is (λ b. passes tests a.payload b.payload) (spread entries))))
 
 any_behind : (q : Row → Bool) (count : ℕ) (x : Row) (xs : List Row) → q x ≡ false → list_any q (replicate count x ++ xs) ≡ list_any q xs
 any_behind q zero x xs h = refl
@@ -65,16 +77,18 @@ waited_copies scope hold a (suc count) begin end begins ends lives =
     let alive : nat_lt (later a.begin scope) (later (later a.begin scope) hold) ≡ true = lt-ltb (later a.begin scope) (later (later a.begin scope) hold) (omega arith) in
     λ i. cond {A = List Row} (sym alive i) (record { end = until i; begin = begins i; payload = a.payload } ∷ []) [] ++ waited_copies scope hold a count begin end begins ends lives i
 
+-- copies of a row whose interval after its scope would be empty give nothing
 pub waited_none : (scope hold : ℕ) (a : Row) (count begin end : ℕ) → begin ≡ later a.begin scope → end ≡ later begin hold → end ≤ begin → flat_map (waited scope hold) (replicate count a) ≡ []
 waited_none scope hold a count begin end begins ends empty =
     no_copies (waited scope hold) count a
     (ap {B = List Row} (λ b. cond b (record { end = later (later a.begin scope) hold; begin = later a.begin scope; payload = a.payload } ∷ []) []) (le-ltb (later a.begin scope) (later (later a.begin scope) hold) (omega arith)))
 
--- a row that only a blocker blocks, and one that it doesn't or another one does
+-- copies of a row that passes the tests with a blocker, and that no other row blocks, are freed
 pub freed_copies : (scope hold : ℕ) (tests : List Test) (others : List Row) (b a : Row) (count : ℕ) → passes tests a.payload b.payload ≡ true → is_blocked scope tests others a ≡ false → flat_map (freed scope hold tests others b) (replicate count a) ≡ flat_map (waited scope hold) (replicate count a)
 freed_copies scope hold tests others b a count pass free =
     same_copies (freed scope hold tests others b) (waited scope hold) count a (λ i. cond (pass i && not (free i)) (waited scope hold a) [])
 
+-- copies of a row that fails these tests, or that another row blocks, aren't freed
 pub unfreed_copies : (scope hold : ℕ) (tests : List Test) (others : List Row) (b a : Row) (count : ℕ) → (passes tests a.payload b.payload && not (is_blocked scope tests others a)) ≡ false → flat_map (freed scope hold tests others b) (replicate count a) ≡ []
 unfreed_copies scope hold tests others b a count h = no_copies (freed scope hold tests others b) count a (ap (λ c. cond c (waited scope hold a) []) h)
 
@@ -101,11 +115,32 @@ blocks_outside scope tests a b h = elim (and_cases (nat_le (b.begin + 1 - scope)
     none_and true = refl
     none_and false = refl
 
--- the rows of which a blocker decides have it in their scope
-pub decided_within : (scope hold : ℕ) (tests : List Test) (others : List Row) (b : Row) (kept : List Row) (from : ℕ) (entries : List (Row × ℕ)) → b.begin < FOREVER → from ≡ b.begin + 1 - scope → spread entries ≡ filter (begins_within from b.begin) kept
-    → flat_map (freed scope hold tests others b) (spread entries) ≡ decided scope hold tests others b kept
-decided_within scope hold tests others b kept from entries finite is rows =
-    ap (flat_map (freed scope hold tests others b)) (rows ∙ ap (λ (time : ℕ). filter (begins_within time b.begin) kept) is)
-    ∙ flat_map-filter (freed scope hold tests others b) (only_blocked scope hold tests others b) (begins_within (b.begin + 1 - scope) b.begin) kept
-    (λ a inside. freed_cases (passes tests a.payload b.payload) (is_blocked scope tests others a) (waited scope hold a) ∙ ap (λ c. cond c (unblocked scope hold tests others a) []) (sym (blocks_inside scope tests a b finite inside)))
-    (λ a outside. sym (ap (λ c. cond c (unblocked scope hold tests others a) []) (blocks_outside scope tests a b outside)))
+-- what a row gives of which a blocker decides is told by weights of the rows that pass the tests with it
+freed_sought : (scope hold : ℕ) (tests : List Test) (others : List Row) (b r : Row) → IsSought (λ fields. passes tests fields b.payload) (λ a. count_of r (freed scope hold tests others b a))
+freed_sought scope hold tests others b r = record {
+  endless = λ a end. refl;
+  none = λ a h. ap (λ c. count_of r (cond (c && not (is_blocked scope tests others a)) (waited scope hold a) [])) h;
+}
+
+-- the rows of which a blocker decides have it in their scope and are beside it
+pub decided_beside : (scope hold : ℕ) (tests : List Test) (others : List Row) (b : Row) (kept : List Row) (from : ℕ) (tagged odd : List (Row × ℕ)) → b.begin < FOREVER → from ≡ b.begin + 1 - scope
+    → ((weight : Row → ℕ) → IsSought (λ fields. passes tests fields b.payload) weight → sum_by weight (spread tagged) + sum_by weight (spread odd) ≡ sum_by weight (filter (begins_within from b.begin) kept))
+    → SameRows (flat_map (freed scope hold tests others b) (spread tagged) ++ flat_map (freed scope hold tests others b) (spread odd)) (decided scope hold tests others b kept)
+decided_beside scope hold tests others b kept from tagged odd finite is found = record {
+  each = λ r.
+      let whole =
+      flat_map-filter (freed scope hold tests others b) (only_blocked scope hold tests others b) (begins_within (b.begin + 1 - scope) b.begin) kept
+      (λ a inside. freed_cases (passes tests a.payload b.payload) (is_blocked scope tests others a) (waited scope hold a) ∙ ap (λ c. cond c (unblocked scope hold tests others a) []) (sym (blocks_inside scope tests a b finite inside)))
+      (λ a outside. sym (ap (λ c. cond c (unblocked scope hold tests others a) []) (blocks_outside scope tests a b outside))) in
+      let same : count_of r (flat_map (freed scope hold tests others b) (filter (begins_within from b.begin) kept)) ≡ count_of r (decided scope hold tests others b kept) =
+      ap (λ (time : ℕ). count_of r (flat_map (freed scope hold tests others b) (filter (begins_within time b.begin) kept))) is ∙ ap (count_of r) whole in
+      omega (
+        arith,
+        count_of-append r (flat_map (freed scope hold tests others b) (spread tagged)) (flat_map (freed scope hold tests others b) (spread odd)),
+        sum_by-flat_map (one_if_same r) (freed scope hold tests others b) (spread tagged),
+        sum_by-flat_map (one_if_same r) (freed scope hold tests others b) (spread odd),
+        found (λ a. count_of r (freed scope hold tests others b a)) (freed_sought scope hold tests others b r),
+        sum_by-flat_map (one_if_same r) (freed scope hold tests others b) (filter (begins_within from b.begin) kept),
+        same,
+      );
+}

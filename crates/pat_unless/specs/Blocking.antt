@@ -22,6 +22,7 @@ is_blocked scope tests blockers a = list_any (blocks scope tests a) blockers
 abbrev pub waited : ℕ → ℕ → Row → List Row
 waited scope hold a = made (record { begin = later a.begin scope; end = later (later a.begin scope) hold }) (Some a.payload)
 
+-- the row that a gives: none where a row blocks it
 abbrev pub unblocked : ℕ → ℕ → List Test → List Row → Row → List Row
 unblocked scope hold tests blockers a = if is_blocked scope tests blockers a then [] else waited scope hold a
 

@@ -1,3 +1,4 @@
 pub mod Blocking
 pub mod BlockingLaws
 pub mod Steps
+pub mod Standing

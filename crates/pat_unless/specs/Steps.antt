@@ -28,6 +28,8 @@ decided scope hold tests others b rows = flat_map (only_blocked scope hold tests
 pub record IsStep (change : Change) (old new : List Row) : Type 0 where
   pub sums : SameRows (new ++ all_endless (takes change)) (old ++ all_endless (puts change))
 
--- changes were appended by which these rows join or leave the result
+-- changes were appended by which these rows, in some order, join or leave the result
 pub record Appends (way : Way) (rows : List Row) (before after : List Change) : Type 0 where
-  pub answers : after ≡ before ++ map (answered way) rows
+  pub found : List Row
+  pub same : SameRows found rows
+  pub answers : after ≡ before ++ map (answered way) found

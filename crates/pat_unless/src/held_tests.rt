@@ -44,7 +44,7 @@ fn holds_throughout(alloc: Global, scope: u64, seed: u64) -> Result<bool, Fail>
             return Ok(false);
         }
         let least = least_mark(marks.as_slice());
-        for (rows, full) in [&op.rows, &op.blockers].iter().zip(&tables) {
+        for (rows, full) in [op.tied.left(), op.tied.right()].iter().zip(&tables) {
             if rows.len() != count_reaching(full, scope, least)? {
                 return Ok(false);
             }

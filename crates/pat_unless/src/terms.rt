@@ -1,13 +1,18 @@
-ghost use Rattle.std.specs.Prelude.{◌≡◌, ◌≤◌, ◌<◌, ◌++◌, ◌^◌, OnOk, IfOk, replicate};
+ghost use Rattle.std.specs.Prelude.{ℕ, ◌≡◌, ◌≤◌, ◌<◌, ◌++◌, ◌^◌, OnOk, IfOk, replicate};
 ghost use Rattle.std.specs.List.{flat_map};
 ghost use Rattle.cedr_base.specs.declared.time.TheConstants.{FOREVER};
+ghost use Rattle.cedr_base.specs.Rows.{SameRows};
+ghost use Rattle.cedr_table.specs.Counted.{spread};
+ghost use Rattle.pat_rows.specs.Tied.{AreTied};
+ghost use Rattle.pat_rows.specs.Starts.{AreWithin};
 ghost use Rattle.pat_unless.specs.Blocking.{is_blocked, waited, unblocked, AreWhiles};
 ghost use Rattle.pat_unless.specs.Steps.{freed, decided};
 
 use cedr_base::{OutOfMemory, Payload, Row, Time, later};
 use cedr_expr::Tests;
-use pat_rows::ByBegin;
+use pat_rows::Tied;
 use std::alloc::Global;
+use std::collections::btree_map::Range;
 
 /// For how long a row waits for a blocker, for how long it is held then, and which rows block.
 #[derive(Drop)]
@@ -40,15 +45,17 @@ fn push_copies(
 }
 
 impl Terms {
-    /// Whether a row blocks this one. O(log n) comparisons, and O(1) and the tests for each row that begins within
-    /// its scope.
-    fn is_blocked(&self, alloc: Global, blockers: &ByBegin, row: &Row) -> bool
+    /// Whether a right row blocks this one. O(log n) comparisons, and O(1) and the tests for each right row that has its
+    /// tag and begins within its scope.
+    fn is_blocked(&self, alloc: Global, tied: &Tied, row: &Row) -> bool
         requires whiles { AreWhiles self.now.scope self.now.hold }
         requires begin { row.now.begin < FOREVER }
-        ensures { result ≡ is_blocked self.now.scope self.now.tests blockers.now row.now }
+        requires tags { AreTied self.now.tests tied.now }
+        ensures { result ≡ is_blocked self.now.scope self.now.tests tied.now.right row.now }
     {
         let until = later(row.begin, self.scope);
-        for (blocker, _) in blockers.within(alloc, row.begin + 1, until) {
+        let from = row.begin + 1;
+        for (blocker, _) in tied.beside_left(alloc, &self.tests, &row.payload, from, until) {
             if self.tests.holds(&row.payload, &blocker.payload) {
                 return true;
             }
@@ -81,15 +88,16 @@ impl Terms {
     pub(crate) fn unblocked(
         &self,
         alloc: Global,
-        blockers: &ByBegin,
+        tied: &Tied,
         row: &Row,
     ) -> Result<Vec<Row>, OutOfMemory>
         requires whiles { AreWhiles self.now.scope self.now.hold }
         requires begin { row.now.begin < FOREVER }
-        ensures { IfOk result (λ rows. rows.items ≡ unblocked self.now.scope self.now.hold self.now.tests blockers.now row.now) }
+        requires tags { AreTied self.now.tests tied.now }
+        ensures { IfOk result (λ rows. rows.items ≡ unblocked self.now.scope self.now.hold self.now.tests tied.now.right row.now) }
     {
         let mut rows = Vec::new(alloc);
-        if !self.is_blocked(alloc, blockers, row) {
+        if !self.is_blocked(alloc, tied, row) {
             self.push_waited(alloc, row, 1, &mut rows)?;
         }
         Ok(rows)
@@ -100,7 +108,7 @@ impl Terms {
     fn push_freed(
         &self,
         alloc: Global,
-        others: &ByBegin,
+        tied: &Tied,
         blocker: &Row,
         row: &Row,
         count: usize,
@@ -108,35 +116,60 @@ impl Terms {
     ) -> Result<(), OutOfMemory>
         requires whiles { AreWhiles self.now.scope self.now.hold }
         requires begin { row.now.begin < FOREVER }
-        ensures { OnOk result (rows.new.items ≡ rows.old.items ++ flat_map (freed self.now.scope self.now.hold self.now.tests others.now blocker.now) (replicate count row.now)) }
+        requires tags { AreTied self.now.tests tied.now }
+        ensures { OnOk result (rows.new.items ≡ rows.old.items ++ flat_map (freed self.now.scope self.now.hold self.now.tests tied.now.right blocker.now) (replicate count row.now)) }
     {
-        if self.tests.holds(&row.payload, &blocker.payload)
-            && !self.is_blocked(alloc, others, row)
-        {
+        if self.tests.holds(&row.payload, &blocker.payload) && !self.is_blocked(alloc, tied, row) {
             self.push_waited(alloc, row, count, rows)
         } else {
             Ok(())
         }
     }
 
-    /// The rows of the result of which a blocker decides. O(log n) comparisons, O(1) and the tests for each row with
-    /// the blocker in its scope, and for each of them that passes, the search for another blocker.
+    /// The same for each of some rows.
+    fn push_all_freed(
+        &self,
+        alloc: Global,
+        tied: &Tied,
+        blocker: &Row,
+        some: Range<'_, Row, usize>,
+        rows: &mut Vec<Row>,
+    ) -> Result<(), OutOfMemory>
+        requires whiles { AreWhiles self.now.scope self.now.hold }
+        requires within { (from before : ℕ) × (before ≤ FOREVER) × AreWithin from before some }
+        requires tags { AreTied self.now.tests tied.now }
+        ensures { OnOk result (rows.new.items ≡ rows.old.items ++ flat_map (freed self.now.scope self.now.hold self.now.tests tied.now.right blocker.now) (spread some.entry)) }
+    {
+        for (row, count) in some {
+            self.push_freed(alloc, tied, blocker, row, *count, rows)?;
+        }
+        Ok(())
+    }
+
+    /// The rows of the result of which a right row decides, in some order. O(log n) comparisons, O(1) and the tests for each
+    /// left row that has its tag and has it in its scope, and for each of them that passes, the search for another blocker.
     pub(crate) fn decided(
         &self,
         alloc: Global,
-        others: &ByBegin,
+        tied: &Tied,
         blocker: &Row,
-        kept: &ByBegin,
     ) -> Result<Vec<Row>, OutOfMemory>
         requires whiles { AreWhiles self.now.scope self.now.hold }
         requires begin { blocker.now.begin < FOREVER }
-        ensures { IfOk result (λ rows. rows.items ≡ decided self.now.scope self.now.hold self.now.tests others.now blocker.now kept.now) }
+        requires tags { AreTied self.now.tests tied.now }
+        ensures { IfOk result (λ rows. SameRows rows.items (decided self.now.scope self.now.hold self.now.tests tied.now.right blocker.now tied.now.left)) }
     {
         let from = (blocker.begin + 1).saturating_sub(self.scope);
+        let (tagged, others) = tied.beside_right(
+            alloc,
+            &self.tests,
+            &blocker.payload,
+            from,
+            blocker.begin,
+        );
         let mut rows = Vec::new(alloc);
-        for (row, count) in kept.within(alloc, from, blocker.begin) {
-            self.push_freed(alloc, others, blocker, row, *count, &mut rows)?;
-        }
+        self.push_all_freed(alloc, tied, blocker, tagged, &mut rows)?;
+        self.push_all_freed(alloc, tied, blocker, others, &mut rows)?;
         Ok(rows)
     }
 }

@@ -1,6 +1,7 @@
 ghost use Rattle.std.specs.Prelude.{◌≡◌, ◌<◌, ◌∷◌, [], OnOk, OnErr};
 ghost use Rattle.cedr_base.specs.declared.time.TheConstants.{FOREVER};
 ghost use Rattle.pat_rows.specs.Starts.{HasRow};
+ghost use Rattle.pat_rows.specs.Tied.{AreTied};
 ghost use Rattle.cedr_stream.specs.Times.{IsWhile};
 ghost use Rattle.pat_rows.specs.declared.answer.Way.TheVariants.{Comes, Goes};
 ghost use Rattle.pat_unless.specs.Blocking.{unless_of, unblocked, AreWhiles};
@@ -10,23 +11,23 @@ use crate::terms::Terms;
 use cedr_base::{Change, OutOfMemory, Row, Time};
 use cedr_expr::Tests;
 use cedr_table::{Operator, least_mark};
-use pat_rows::{ByBegin, Way, push_answers};
+use pat_rows::{Tied, Way, push_answers};
 use std::alloc::Global;
 
 /// For each row a of port 0 such that no row b of port 1 has `a.begin < b.begin < later(a.begin, scope)` and passes
 /// the tests with it: `[later(a.begin, scope), later(later(a.begin, scope), hold))` with a's payload, and none where
 /// that is empty. The bound is the least mark.
 ///
-/// It keeps the rows of its ports without their ends, each until the least mark reaches the end of the scope that begins
-/// with it: by then no row of its scope may come or go, nor one that it could block. A change on port 0 takes O(log n) and the rows of port 1 within
-/// the scope of its row, up to the first one that blocks. A change on port 1 takes O(log n) and the rows of port 0
-/// with its row in their scope, and for each of them that passes the tests with it, the search for another blocker. A
-/// retraction that leaves something of its row takes O(1).
+/// It keeps the rows of its ports without their ends, each until the least mark reaches the end of the scope that
+/// begins with it: by then no row of its scope may come or go, nor one that it could block. A change looks only at rows of
+/// the other port that have the fields that equality tests between the two compare. One on port 0 takes O(log n) and those
+/// of them within the scope of its row, up to the first one that blocks. One on port 1 takes O(log n) and those of them
+/// with its row in their scope, and for each that passes the tests with it, the search for another blocker. A retraction
+/// that leaves something of its row takes O(1).
 #[derive(Drop)]
 pub struct Unless {
     terms: Terms,
-    pub(crate) rows: ByBegin,
-    pub(crate) blockers: ByBegin,
+    pub(crate) tied: Tied,
 }
 
 impl Unless {
@@ -40,8 +41,7 @@ impl Unless {
     {
         Unless {
             terms: Terms { scope, hold, tests },
-            rows: ByBegin::new(alloc),
-            blockers: ByBegin::new(alloc),
+            tied: Tied::new(alloc),
         }
     }
 
@@ -56,13 +56,14 @@ impl Unless {
     ) -> Result<(), OutOfMemory>
         requires whiles { AreWhiles self.old.terms.scope self.old.terms.hold }
         requires begin { row.now.begin < FOREVER }
-        requires there { HasRow self.old.rows change.now }
+        requires there { HasRow self.old.tied.left change.now }
+        requires tags { AreTied self.old.terms.tests self.old.tied }
         ensures terms { self.new.terms ≡ self.old.terms }
-        ensures ok { OnOk result ((self.new.blockers ≡ self.old.blockers) × IsStep change.now self.old.rows self.new.rows × Appends way (unblocked self.old.terms.scope self.old.terms.hold self.old.terms.tests self.old.blockers row.now) out.old.items out.new.items) }
+        ensures ok { OnOk result ((self.new.tied.right ≡ self.old.tied.right) × IsStep change.now self.old.tied.left self.new.tied.left × Appends way (unblocked self.old.terms.scope self.old.terms.hold self.old.terms.tests self.old.tied.right row.now) out.old.items out.new.items × AreTied self.new.terms.tests self.new.tied) }
         ensures err { OnErr result (out.new.items ≡ out.old.items) }
     {
-        let rows = self.terms.unblocked(alloc, &self.blockers, row)?;
-        self.rows.apply(alloc, change)?;
+        let rows = self.terms.unblocked(alloc, &self.tied, row)?;
+        self.tied.apply_left(alloc, &self.terms.tests, change)?;
         push_answers(way, rows, out)
     }
 
@@ -76,15 +77,14 @@ impl Unless {
     ) -> Result<(), OutOfMemory>
         requires whiles { AreWhiles self.old.terms.scope self.old.terms.hold }
         requires begin { blocker.now.begin < FOREVER }
-        requires there { HasRow self.old.blockers change.now }
+        requires there { HasRow self.old.tied.right change.now }
+        requires tags { AreTied self.old.terms.tests self.old.tied }
         ensures terms { self.new.terms ≡ self.old.terms }
-        ensures ok { OnOk result ((self.new.rows ≡ self.old.rows) × IsStep change.now self.old.blockers self.new.blockers × Appends Goes (decided self.old.terms.scope self.old.terms.hold self.old.terms.tests self.old.blockers blocker.now self.old.rows) out.old.items out.new.items) }
+        ensures ok { OnOk result ((self.new.tied.left ≡ self.old.tied.left) × IsStep change.now self.old.tied.right self.new.tied.right × Appends Goes (decided self.old.terms.scope self.old.terms.hold self.old.terms.tests self.old.tied.right blocker.now self.old.tied.left) out.old.items out.new.items × AreTied self.new.terms.tests self.new.tied) }
         ensures err { OnErr result (out.new.items ≡ out.old.items) }
     {
-        let rows = self
-            .terms
-            .decided(alloc, &self.blockers, blocker, &self.rows)?;
-        self.blockers.apply(alloc, change)?;
+        let rows = self.terms.decided(alloc, &self.tied, blocker)?;
+        self.tied.apply_right(alloc, &self.terms.tests, change)?;
         push_answers(Way::Goes, rows, out)
     }
 
@@ -98,28 +98,27 @@ impl Unless {
     ) -> Result<(), OutOfMemory>
         requires whiles { AreWhiles self.old.terms.scope self.old.terms.hold }
         requires begin { blocker.now.begin < FOREVER }
-        requires there { HasRow self.old.blockers change.now }
+        requires there { HasRow self.old.tied.right change.now }
+        requires tags { AreTied self.old.terms.tests self.old.tied }
         ensures terms { self.new.terms ≡ self.old.terms }
-        ensures ok { OnOk result ((self.new.rows ≡ self.old.rows) × IsStep change.now self.old.blockers self.new.blockers × Appends Comes (decided self.old.terms.scope self.old.terms.hold self.old.terms.tests self.new.blockers blocker.now self.old.rows) out.old.items out.new.items) }
+        ensures ok { OnOk result ((self.new.tied.left ≡ self.old.tied.left) × IsStep change.now self.old.tied.right self.new.tied.right × Appends Comes (decided self.old.terms.scope self.old.terms.hold self.old.terms.tests self.new.tied.right blocker.now self.old.tied.left) out.old.items out.new.items × AreTied self.new.terms.tests self.new.tied) }
         ensures err { OnErr result (out.new.items ≡ out.old.items) }
     {
-        self.blockers.apply(alloc, change)?;
-        let rows = self
-            .terms
-            .decided(alloc, &self.blockers, blocker, &self.rows)?;
+        self.tied.apply_right(alloc, &self.terms.tests, change)?;
+        let rows = self.terms.decided(alloc, &self.tied, blocker)?;
         push_answers(Way::Comes, rows, out)
     }
 }
 
 impl Operator for Unless {
-    ghost use Rattle.pat_rows.specs.Answers.{StandsByBegin};
     ghost use Rattle.pat_unless.specs.BlockingLaws.{unless_laws};
+    ghost use Rattle.pat_unless.specs.Standing.{UnlessStands};
 
     ghost meaning = { λ s. unless_of s.terms.scope s.terms.hold s.terms.tests };
 
-    ghost stands = { λ s tables marks. StandsByBegin (AreWhiles s.terms.scope s.terms.hold) s.terms.scope (s.rows ∷ s.blockers ∷ []) tables marks };
+    ghost stands = { λ s tables marks. UnlessStands s.terms s.tied tables marks };
 
-    ghost held = { λ s. s.rows ∷ s.blockers ∷ [] };
+    ghost held = { λ s. s.tied.left ∷ s.tied.right ∷ [] };
 
     fn ports(&self) -> usize {
         2
@@ -129,15 +128,15 @@ impl Operator for Unless {
         &mut self,
         alloc: Global,
         port: usize,
-        change: &Change,
+        change: Change,
         out: &mut Vec<Change>,
     ) -> Result<(), OutOfMemory> {
-        match change {
+        match &change {
             Change::Add(row) => {
                 if port == 0 {
-                    self.answer_row(alloc, change, Way::Comes, row, out)
+                    self.answer_row(alloc, &change, Way::Comes, row, out)
                 } else {
-                    self.block(alloc, change, row, out)
+                    self.block(alloc, &change, row, out)
                 }
             }
             Change::Cut(row, end) => {
@@ -145,9 +144,9 @@ impl Operator for Unless {
                     return Ok(());
                 }
                 if port == 0 {
-                    self.answer_row(alloc, change, Way::Goes, row, out)
+                    self.answer_row(alloc, &change, Way::Goes, row, out)
                 } else {
-                    self.free(alloc, change, row, out)
+                    self.free(alloc, &change, row, out)
                 }
             }
         }
@@ -159,9 +158,8 @@ impl Operator for Unless {
 
     fn trim(&mut self, marks: &[Time]) {
         let least = least_mark(marks);
-        self.rows.forget(self.terms.scope, least);
-        self.blockers.forget(self.terms.scope, least);
+        self.tied.forget(&self.terms.tests, self.terms.scope, least);
     }
 
-    ghost lawful = { λ s. unless_laws s.terms.scope s.terms.hold s.terms.tests s.rows s.blockers };
+    ghost lawful = { λ s. unless_laws s.terms s.tied };
 }

@@ -6,7 +6,7 @@ use Rattle.cedr_node.specs.Nodes.{made_of, NodeStands}
 use Rattle.cedr_crew.specs.Forgettings.{ports_told, told}
 use Rattle.cedr_crew.proofs.forgotten.tell_ports.Given as goal
 
--- what the first ports forgot is told
+-- what the first ports forgot is listed
 abbrev pub invariant-loop-port : goal.invariant-loop-port
 invariant-loop-port l =
     (lists : Lists) (given : List Message) → NodeStands l.fn.node lists given → map told l.all.items ≡ map told l.initial.all.items ++ ports_told l.fn.place 0 (take l.port (map (forgot (made_of l.fn.node).level.memory) lists))

@@ -1,10 +1,12 @@
-use Rattle.std.proofs.Common.{◌≡◌, ◌<◌, ◌+◌, ◌++◌, ◌∷◌, [], ◌∙◌, ap, sym, subst, refl, List, arith, rules, take, get_or, length}
+use Rattle.std.proofs.Common.{◌≡◌, ◌<◌, ◌++◌, ◌∷◌, [], ◌∙◌, sym, subst, refl, List, rules, take, length}
 use Rattle.std.proofs.Math.Seq.{take-length}
-use Rattle.std.proofs.lemmas.List.{take_more, take_all}
+use Rattle.std.proofs.lemmas.List.{map-id}
+use Rattle.std.proofs.lemmas.Iterator.Adapters.{YieldsList-from_vec}
+use Rattle.std.proofs.lemmas.Iterator.Consumers.{YieldsList-turn, YieldsList-so_far, YieldsList-end}
 use Rattle.cedr_base.specs.declared.change.Message.{Message}
 use Rattle.cedr_laws.specs.Lists.{with_more}
 use Rattle.cedr_drive.specs.Driving.{IsFed}
-use Rattle.cedr_drive.proofs.DriveLemmas.{kept_along, fed_none, fed_more, works_as, may_take_at}
+use Rattle.cedr_drive.proofs.DriveLemmas.{kept_along, fed_none, fed_more, works_as, may_take_next}
 use Rattle.cedr_drive.proofs.driver.feed.Goals as goal
 
 pub loop-message-init : goal.loop-message-init
@@ -19,15 +21,15 @@ feed_one-requires g c =
     let op = g.O.Operator in
     let old = c.args.op.now in
     let l = c.loop-message in
-    let taken = c.args.taken.now in
-    let i = l.message-index in
-    let lists = c.requires.0 in
-    let f = l.invariant.fed c.requires.0 c.requires.1 c.requires.2 c.requires.3 c.requires.4 in
-    let at : get_or taken i c.message-item.result ≡ c.message-item.result = search rules in (
-      with_more lists c.args.port (take i taken),
+    let taken = c.args.taken.items in
+    let yields = YieldsList-from_vec {s = c.into_iter-message-iterator.result} taken (search rules) (search rules) in
+    let so_far = sym (map-id l.yielded) ∙ YieldsList-so_far yields l.yielded l.message-iterator l.yielded_by in
+    let next = YieldsList-turn yields l.yielded l.message-iterator l.yielded_by c.next.result c.next.new.self c.in-Some.message c.in-Some.is c.next.ensures.steps in
+    let f = l.invariant.fed c.requires.0 c.requires.1 c.requires.2 c.requires.3 c.requires.4 in (
+      with_more c.requires.0 c.args.port l.yielded,
       c.requires.1 ++ f.gained,
-      works_as (op.meaning old) (op.meaning l.op) (op.stands l.op) l.marks.items (with_more lists c.args.port (take i taken)) (c.requires.1 ++ f.gained) l.invariant.meaning f.works,
-      may_take_at lists c.args.port taken i c.message-item.result c.requires.3 c.requires.4 (omega arith) at,
+      works_as (op.meaning old) (op.meaning l.op) (op.stands l.op) l.marks.items (with_more c.requires.0 c.args.port l.yielded) (c.requires.1 ++ f.gained) l.invariant.meaning f.works,
+      may_take_next c.requires.0 c.args.port taken l.yielded c.in-Some.message c.requires.3 c.requires.4 so_far next,
     )
 
 pub loop-message-preserved : goal.loop-message-preserved
@@ -35,21 +37,20 @@ loop-message-preserved g c =
     let op = g.O.Operator in
     let old = c.args.op.now in
     let l = c.loop-message in
-    let taken = c.args.taken.now in
+    let taken = c.args.taken.items in
     let port = c.args.port in
-    let i = l.message-index in
+    let m = c.in-Some.message in
     let k = c.in_ok-feed_one.ensures in
-    let at : get_or taken i c.message-item.result ≡ c.message-item.result = search rules in
-    let within : i < length taken = omega arith in
-    let more : take (i + 1) taken ≡ take i taken ++ c.message-item.result ∷ [] = take_more taken i c.message-item.result within ∙ ap (λ (m : Message). take i taken ++ m ∷ []) at in
+    let yields = YieldsList-from_vec {s = c.into_iter-message-iterator.result} taken (search rules) (search rules) in
+    let so_far = sym (map-id l.yielded) ∙ YieldsList-so_far yields l.yielded l.message-iterator l.yielded_by in
+    let next = YieldsList-turn yields l.yielded l.message-iterator l.yielded_by c.next.result c.next.new.self c.in-Some.message c.in-Some.is c.next.ensures.steps in
     record {
       fed = λ lists given w port_is legal.
           let f = l.invariant.fed lists given w port_is legal in
-          let w' = works_as (op.meaning old) (op.meaning l.op) (op.stands l.op) l.marks.items (with_more lists port (take i taken)) (given ++ f.gained) l.invariant.meaning f.works in
-          subst (λ (xs : List Message). IsFed (op.meaning old) (op.stands c.feed_one.new.op) c.feed_one.new.marks.items lists port xs given c.args.out.now.items c.feed_one.new.out.items) (sym more)
-          (fed_more (op.meaning old) (op.meaning l.op) (op.stands l.op) (op.stands c.feed_one.new.op) l.marks.items c.feed_one.new.marks.items lists port (take i taken) (c.message-item.result ∷ []) given c.args.out.now.items l.out.items c.feed_one.new.out.items
+          let w' = works_as (op.meaning old) (op.meaning l.op) (op.stands l.op) l.marks.items (with_more lists port l.yielded) (given ++ f.gained) l.invariant.meaning f.works in
+          fed_more (op.meaning old) (op.meaning l.op) (op.stands l.op) (op.stands c.feed_one.new.op) l.marks.items c.feed_one.new.marks.items lists port l.yielded (m ∷ []) given c.args.out.now.items l.out.items c.feed_one.new.out.items
           l.invariant.meaning f
-          (k.fed (with_more lists port (take i taken)) (given ++ f.gained) w' (may_take_at lists port taken i c.message-item.result port_is legal within at)));
+          (k.fed (with_more lists port l.yielded) (given ++ f.gained) w' (may_take_next lists port taken l.yielded m port_is legal so_far next));
       meaning = k.meaning ∙ l.invariant.meaning;
       kept = kept_along c.args.out.now.items l.out.items c.feed_one.new.out.items l.invariant.kept c.feed_one.ensures.kept;
     }
@@ -59,5 +60,6 @@ returns-clause-fed g c = λ lists given w port_is legal.
     let op = g.O.Operator in
     let old = c.args.op.now in
     let l = c.loop-message in
-    let all : take l.message-index c.args.taken.now ≡ c.args.taken.now = take_all l.message-index c.args.taken.now (omega arith) in
-    subst (λ (xs : List Message). IsFed (op.meaning old) (op.stands l.op) l.marks.items lists c.args.port xs given c.args.out.now.items l.out.items) all (l.invariant.fed lists given w port_is legal)
+    let yields = YieldsList-from_vec {s = c.into_iter-message-iterator.result} c.args.taken.items (search rules) (search rules) in
+    let all = YieldsList-end yields l.yielded l.message-iterator l.yielded_by c.next.result c.next.new.self c.in-None.is c.next.ensures.steps in
+    subst (λ (xs : List Message). IsFed (op.meaning old) (op.stands l.op) l.marks.items lists c.args.port xs given c.args.out.now.items l.out.items) (sym (map-id l.yielded) ∙ all.0) (l.invariant.fed lists given w port_is legal)

@@ -10,8 +10,8 @@ invariant-loop-message g l =
     let op = g.O.Operator in
     let old = l.initial.op in
     record {
-      fed : (lists : Lists) (given : List Message) → Works (op.meaning old) (op.stands old) l.initial.marks.items lists given → l.port < length lists → IsLegalBehind (list_at lists l.port) l.taken
-          → IsFed (op.meaning old) (op.stands l.op) l.marks.items lists l.port (take l.message-index l.taken) given l.initial.out.items l.out.items;
+      fed : (lists : Lists) (given : List Message) → Works (op.meaning old) (op.stands old) l.initial.marks.items lists given → l.port < length lists → IsLegalBehind (list_at lists l.port) l.fn.taken.items
+          → IsFed (op.meaning old) (op.stands l.op) l.marks.items lists l.port l.yielded given l.initial.out.items l.out.items;
       meaning : op.meaning l.op ≡ op.meaning old;
       kept : take (length l.initial.out.items) l.out.items ≡ l.initial.out.items;
     }

@@ -4,6 +4,6 @@ use Rattle.cedr_drive.proofs.driver.push_changes.Given as goal
 
 abbrev pub invariant-loop-change : goal.invariant-loop-change
 invariant-loop-change l = record {
-  out : l.out.items ≡ l.initial.out.items ++ wrapped (take l.change-index l.changes);
+  out : l.out.items ≡ l.initial.out.items ++ wrapped l.yielded;
   kept : take (length l.initial.out.items) l.out.items ≡ l.initial.out.items;
 }

@@ -1,5 +1,8 @@
 use Rattle.cedr_serial.proofs.feeding.feed_all.Goals as goal
 
+pub feed_round-requires : goal.feed_round-requires
+feed_round-requires c = (c.requires.0, c.requires.1, c.loop.invariant c.requires.0 c.requires.1 c.requires.2)
+
 pub loop-preserved : goal.loop-preserved
 loop-preserved c = λ nodes whole f. (c.in_ok-feed_round.ensures.stands nodes whole (c.loop.invariant nodes whole f)).0
 

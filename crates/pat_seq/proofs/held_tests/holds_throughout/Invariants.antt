@@ -1,8 +1,6 @@
-use Rattle.std.proofs.Common.{length}
 use Rattle.cedr_table.specs.Operators.{AreTimes}
-use Rattle.pat_rows.specs.Answers.{StandsByBegin}
-use Rattle.pat_seq.specs.Sequences.{IsSequence}
+use Rattle.pat_seq.specs.Keeping.{SequenceStands}
 use Rattle.pat_seq.proofs.held_tests.holds_throughout.Given as goal
 
 abbrev pub invariant-loop : goal.invariant-loop
-invariant-loop l = StandsByBegin (IsSequence (length l.op.kept.items) l.op.scope) l.op.scope l.op.kept.items l.tables.items l.marks.items × AreTimes l.marks.items
+invariant-loop l = SequenceStands l.op.scope l.op.tests l.op.kept l.tables.items l.marks.items × AreTimes l.marks.items

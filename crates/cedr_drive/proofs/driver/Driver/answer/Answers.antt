@@ -53,7 +53,7 @@ returns-clause-answers g c = λ lists given d port_is legal.
     let st = subst (λ (ms : List ℕ). op.stands mid others ms) (sym c.as_slice-2.ensures.value) ((laws.lawful mid).alike tables others marks same f.works.op) in
     let only = c.trim.ensures.held others c.as_slice-2.result.now st (rise_itself c.as_slice-2.result.now) in
     subst (λ (h : Meaning). OnlyHolds h others marks (op.held c.trim.new.self)) e.meaning (subst (λ (ms : List ℕ). OnlyHolds (op.meaning mid) others ms (op.held c.trim.new.self)) c.as_slice-2.ensures.value only) in
-    answer_fed (op.meaning old) (op.stands mid) (op.stands c.trim.new.self) (op.held c.trim.new.self) marks lists c.args.port c.args.taken.now given c.args.out.now.items c.feed.new.out.items f
+    answer_fed (op.meaning old) (op.stands mid) (op.stands c.trim.new.self) (op.held c.trim.new.self) marks lists c.args.port c.args.taken.items given c.args.out.now.items c.feed.new.out.items f
     c.args.self.now.sent c.push_mark.new.sent c.bound-bound.result c.push_mark.new.out.items d.sent_is c.in_ok-push_mark.ensures.sent.1 told alike echo_mark time
     (subst (λ (ms : List ℕ). op.stands c.trim.new.self tables ms) c.as_slice-2.ensures.value trimmed)
     held

@@ -13,21 +13,24 @@ note-requires c =
     let yields = YieldsList-from_vec {s = c.into_iter-message-iterator.result} piece (search rules) (search rules) in
     let so_far = sym (map_itself l.yielded) ∙ YieldsList-so_far yields l.yielded l.message-iterator l.yielded_by in
     let next = YieldsList-turn yields l.yielded l.message-iterator l.yielded_by c.next.result c.next.new.self c.in-Some.message c.in-Some.is c.next.ensures.steps in
-    (c.requires.0 ++ l.yielded, l.invariant c.requires.0 c.requires.1 c.requires.2, next_may_come c.requires.0 piece l.yielded c.in-Some.message c.requires.2 so_far next)
+    (c.requires.0 ++ l.yielded, l.invariant.1 c.requires.0 c.requires.1 c.requires.2, next_may_come c.requires.0 piece l.yielded c.in-Some.message c.requires.2 so_far next)
 
 pub loop-message-preserved : goal.loop-message-preserved
-loop-message-preserved c = λ given a legal.
-    let piece = c.args.piece.items in
-    let l = c.loop-message in
-    let yields = YieldsList-from_vec {s = c.into_iter-message-iterator.result} piece (search rules) (search rules) in
-    let so_far = sym (map_itself l.yielded) ∙ YieldsList-so_far yields l.yielded l.message-iterator l.yielded_by in
-    let next = YieldsList-turn yields l.yielded l.message-iterator l.yielded_by c.next.result c.next.new.self c.in-Some.message c.in-Some.is c.next.ensures.steps in
-    subst (λ (ms : List Message). IsAnswerOf c.note.new.self.changes.items c.note.new.self.table ms) (append_assoc given l.yielded (c.in-Some.message ∷ []))
-    (c.in_ok-note.ensures (given ++ l.yielded) (l.invariant given a legal) (next_may_come given piece l.yielded c.in-Some.message legal so_far next))
+loop-message-preserved c = (
+  c.note.ensures.keeps ∙ c.loop-message.invariant.0,
+  λ given a legal.
+      let piece = c.args.piece.items in
+      let l = c.loop-message in
+      let yields = YieldsList-from_vec {s = c.into_iter-message-iterator.result} piece (search rules) (search rules) in
+      let so_far = sym (map_itself l.yielded) ∙ YieldsList-so_far yields l.yielded l.message-iterator l.yielded_by in
+      let next = YieldsList-turn yields l.yielded l.message-iterator l.yielded_by c.next.result c.next.new.self c.in-Some.message c.in-Some.is c.next.ensures.steps in
+      subst (λ (ms : List Message). IsAnswerOf c.note.new.self ms) (append_assoc given l.yielded (c.in-Some.message ∷ []))
+      (c.in_ok-note.ensures.noted (given ++ l.yielded) (l.invariant.1 given a legal) (next_may_come given piece l.yielded c.in-Some.message legal so_far next)),
+)
 
-pub returns : goal.returns
-returns c = λ given a legal.
+pub returns-clause-noted : goal.returns-clause-noted
+returns-clause-noted c = λ given a legal.
     let l = c.loop-message in
     let yields = YieldsList-from_vec {s = c.into_iter-message-iterator.result} c.args.piece.items (search rules) (search rules) in
     let all = YieldsList-end yields l.yielded l.message-iterator l.yielded_by c.next.result c.next.new.self c.in-None.is c.next.ensures.steps in
-    subst (λ (ms : List Message). IsAnswerOf l.self.changes.items l.self.table (given ++ ms)) (sym (map_itself l.yielded) ∙ all.0) (l.invariant given a legal)
+    subst (λ (ms : List Message). IsAnswerOf l.self (given ++ ms)) (sym (map_itself l.yielded) ∙ all.0) (l.invariant.1 given a legal)

@@ -10,8 +10,8 @@ pass_on-requires-clause-ports c =
     let r = c.requires in
     subst (λ (rs : List (List (ℕ × ℕ))). ArePorts me.waiting.items (get_or rs c.args.place [])) (sym c.as_slice.ensures.value) (flow_ports r.0 me r.1 r.2 c.args.place r.3 r.4)
 
-pub returns : goal.returns
-returns c = λ nodes ports given h within source may.
+pub returns-clause-fed : goal.returns-clause-fed
+returns-clause-fed c = λ nodes ports given h within source may.
     let me = c.args.self.now in
     let place = c.args.place in
     let m = c.args.message in

@@ -32,8 +32,8 @@ loop-place-preserved c =
     (subst (λ (rs : List (List (ℕ × ℕ))). NewUpTo nodes (loop.place + 1) rs (loop.waiting.items ++ c.in_ok-new.field-0 ∷ []) (loop.works.items ++ c.in_ok-new-2.field-0 ∷ [])) (sym c.in_ok-push.ensures.items)
     (new_on nodes loop.place loop.readers.items loop.waiting.items loop.works.items c.in_ok-of.field-0 c.in_ok-new.field-0 c.in_ok-new-2.field-0 n.result loop.invariant (search rules) (sym n.is) c.in_ok-of.ensures queues c.in_ok-new-2.ensures)))
 
-pub returns : goal.returns
-returns c =
+pub returns-clause-stands : goal.returns-clause-stands
+returns-clause-stands c =
     let loop = c.loop-place in
     let plan = c.args.plan.now in
     let end : loop.place ≡ length plan.nodes.items = omega (arith, ap (λ (ns : List PlanNode). length ns) c.as_slice-nodes.ensures.value) in

@@ -37,7 +37,7 @@ give-requires-clause-noted c = λ is.
     let r = c.requires in
     let same : output_place r.0 ≡ c.args.place = sym (eqb-true c.args.place me.output is ∙ r.3.output) in (
       list_at r.2 c.args.place,
-      subst (λ k. IsAnswerOf me.answer.changes.items me.answer.table (list_at r.2 k)) same r.3.answer,
+      subst (λ k. IsAnswerOf me.answer (list_at r.2 k)) same r.3.answer,
       piece_legal r.0 me r.1 r.2 r.3 c.args.place r.4 c.in-Some.port c.in-Some.message c.pull_at.new.waiting.items c.in-Some.ensures.some c.in-Some.ensures.rest c.take_at.new.works.items c.in_ok-piece-in-Some.piece.items c.in_ok-piece-in-Some.ensures,
     )
 

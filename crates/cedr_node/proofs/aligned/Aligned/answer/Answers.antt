@@ -43,9 +43,8 @@ take-requires g c =
           c.args.port c.args.message c.in_ok-passed.passed.items h may t c.closes-closed.ensures c.breaks-broke.ensures c.count_down-self.ensures refl c.if-self.false,
       port_within (op.meaning me.driver.op) (op.stands me.driver.op) me.ports.items c.take_on.new.ports.items me.driver.marks.items me.driver.sent me.waiting c.count_down-self.result me.broken (me.broken || c.breaks-broke.result) c.closes-closed.result c.breaks-broke.result lists given
           c.args.port c.args.message c.in_ok-passed.passed.items h may t c.closes-closed.ensures c.breaks-broke.ensures c.count_down-self.ensures refl c.if-self.false,
-      subst (λ (ms : List Message). IsLegalBehind (list_at (passes_of (levels_of me.ports.items) lists) c.args.port) ms) (sym c.as_slice.ensures.value)
-          (may_pass (op.meaning me.driver.op) (op.stands me.driver.op) me.ports.items c.take_on.new.ports.items me.driver.marks.items me.driver.sent me.waiting c.count_down-self.result me.broken (me.broken || c.breaks-broke.result) c.closes-closed.result c.breaks-broke.result lists given
-          c.args.port c.args.message c.in_ok-passed.passed.items h may t c.closes-closed.ensures c.breaks-broke.ensures c.count_down-self.ensures refl c.if-self.false),
+      may_pass (op.meaning me.driver.op) (op.stands me.driver.op) me.ports.items c.take_on.new.ports.items me.driver.marks.items me.driver.sent me.waiting c.count_down-self.result me.broken (me.broken || c.breaks-broke.result) c.closes-closed.result c.breaks-broke.result lists given
+          c.args.port c.args.message c.in_ok-passed.passed.items h may t c.closes-closed.ensures c.breaks-broke.ensures c.count_down-self.ensures refl c.if-self.false,
     )
 
 pub returns-clause-taken : goal.returns-clause-taken
@@ -62,9 +61,7 @@ returns-clause-taken g c = on_ok_weaker c.push_end.result (λ pushed lists given
     let legal = may_pass (op.meaning me.driver.op) (op.stands me.driver.op) me.ports.items c.take_on.new.ports.items me.driver.marks.items me.driver.sent me.waiting c.count_down-self.result me.broken (me.broken || c.breaks-broke.result) c.closes-closed.result c.breaks-broke.result lists given
     c.args.port c.args.message c.in_ok-passed.passed.items h may t c.closes-closed.ensures c.breaks-broke.ensures c.count_down-self.ensures refl c.if-self.false in
     let e = c.in_ok-take.ensures in
-    let a0 = e.answers passes given w within (subst (λ (ms : List Message). IsLegalBehind (list_at (passes_of (levels_of me.ports.items) lists) c.args.port) ms) (sym c.as_slice.ensures.value) legal) in
-    let a : Answers (op.meaning me.driver.op) (op.stands new.op) (op.held new.op) new.marks.items me.driver.sent new.sent (passes_of (levels_of me.ports.items) lists) c.args.port c.in_ok-passed.passed.items given c.args.out.now.items c.take.new.out.items =
-    subst (λ (ms : List Message). Answers (op.meaning me.driver.op) (op.stands new.op) (op.held new.op) new.marks.items me.driver.sent new.sent (passes_of (levels_of me.ports.items) lists) c.args.port ms given c.args.out.now.items c.take.new.out.items) c.as_slice.ensures.value a0 in (
+    let a : Answers (op.meaning me.driver.op) (op.stands new.op) (op.held new.op) new.marks.items me.driver.sent new.sent (passes_of (levels_of me.ports.items) lists) c.args.port c.in_ok-passed.passed.items given c.args.out.now.items c.take.new.out.items = e.answers passes given w within legal in (
       a.gained ++ ending c.count_down-self.result,
       pushed ∙ (ap (λ (ms : List Message). ms ++ ending c.count_down-self.result) a.appended ∙ append_assoc c.args.out.now.items a.gained (ending c.count_down-self.result)),
       subst (λ (k : Meaning). StandsBetween k (op.stands new.op) c.take_on.new.ports.items new.marks.items new.sent c.count_down-self.result (me.broken || c.breaks-broke.result) (with_more lists c.args.port (c.args.message ∷ [])) (given ++ (a.gained ++ ending c.count_down-self.result))) (sym c.take.ensures.meaning)
@@ -96,9 +93,7 @@ returns-clause-holds g c = on_ok_weaker c.push_end.result (λ pushed lists given
     let legal = may_pass (op.meaning me.driver.op) (op.stands me.driver.op) me.ports.items c.take_on.new.ports.items me.driver.marks.items me.driver.sent me.waiting c.count_down-self.result me.broken (me.broken || c.breaks-broke.result) c.closes-closed.result c.breaks-broke.result lists given
     c.args.port c.args.message c.in_ok-passed.passed.items h may t c.closes-closed.ensures c.breaks-broke.ensures c.count_down-self.ensures refl c.if-self.false in
     let e = c.in_ok-take.ensures in
-    let a0 = e.answers passes given w within (subst (λ (ms : List Message). IsLegalBehind (list_at (passes_of (levels_of me.ports.items) lists) c.args.port) ms) (sym c.as_slice.ensures.value) legal) in
-    let a : Answers (op.meaning me.driver.op) (op.stands new.op) (op.held new.op) new.marks.items me.driver.sent new.sent (passes_of (levels_of me.ports.items) lists) c.args.port c.in_ok-passed.passed.items given c.args.out.now.items c.take.new.out.items =
-    subst (λ (ms : List Message). Answers (op.meaning me.driver.op) (op.stands new.op) (op.held new.op) new.marks.items me.driver.sent new.sent (passes_of (levels_of me.ports.items) lists) c.args.port ms given c.args.out.now.items c.take.new.out.items) c.as_slice.ensures.value a0 in
+    let a : Answers (op.meaning me.driver.op) (op.stands new.op) (op.held new.op) new.marks.items me.driver.sent new.sent (passes_of (levels_of me.ports.items) lists) c.args.port c.in_ok-passed.passed.items given c.args.out.now.items c.take.new.out.items = e.answers passes given w within legal in
     subst (λ (k : Meaning). HoldsAtFronts k (levels_of c.take_on.new.ports.items) (with_more lists c.args.port (c.args.message ∷ [])) (op.held new.op)) (sym c.take.ensures.meaning)
     (takes_holds (op.meaning me.driver.op) (op.stands me.driver.op) me.ports.items c.take_on.new.ports.items me.driver.marks.items me.driver.sent me.waiting c.count_down-self.result me.broken (me.broken || c.breaks-broke.result) c.closes-closed.result c.breaks-broke.result lists given
     c.args.port c.args.message c.in_ok-passed.passed.items h may t c.closes-closed.ensures c.breaks-broke.ensures c.count_down-self.ensures refl c.if-self.false

@@ -12,5 +12,5 @@ returns-else-is_err-clause-repairs g c = on_ok_weaker c.answer-result.result
     (λ begin end. g.met.R.RowWise.is_life c.args.self.now begin end stands.range)
     (λ begin end. g.met.R.RowWise.begins_from c.args.self.now begin end (mark_at marks 0) stands.range)
     (λ begin end earlier. g.met.R.RowWise.becomes c.args.self.now begin end earlier (mark_at marks 0) stands.range)
-    tables marks c.args._port c.args.change.now after c.args.out.now.items c.answer-result.new.out.items stands.table refl can moved e)
+    tables marks c.args._port c.args.change after c.args.out.now.items c.answer-result.new.out.items stands.table refl can moved e)
     c.answer-result.ensures.ok

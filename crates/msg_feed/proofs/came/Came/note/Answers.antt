@@ -1,10 +1,15 @@
-use Rattle.std.proofs.Common.{refl}
+use Rattle.std.proofs.Common.{◌++◌, refl, subst}
+use Rattle.cedr_base.specs.declared.change.Change.{Change}
 use Rattle.cedr_base.specs.declared.change.Message.TheVariants as message
+use Rattle.cedr_base.specs.Rows.{SameRows}
+use Rattle.cedr_base.specs.Changes.{puts, takes}
 use Rattle.msg_feed.proofs.CameLemmas.{change_came, mark_came, last_came}
 use Rattle.msg_feed.proofs.came.Came.note.Goals as goal
 
 pub returns-in_ok-note-in-Change : goal.returns-in_ok-note-in-Change
-returns-in_ok-note-in-Change c = λ ms stands may. change_came c.args.self.now ms c.args.message.now c.in-Change.change c.note.new.table c.in-Change.is stands may c.in_ok-note-in-Change.ensures
+returns-in_ok-note-in-Change c = λ ms stands may.
+    change_came c.args.self.now ms c.args.message.now c.in-Change.change c.note.new.table c.in-Change.is stands may
+    (subst (λ (change : Change). SameRows (c.note.new.table ++ takes change) (c.args.self.now.table ++ puts change)) c.in_ok-copy-in-Change.ensures c.in_ok-note-in-Change.ensures)
 
 pub returns-in-Mark : goal.returns-in-Mark
 returns-in-Mark c = λ ms stands may. mark_came c.args.self.now ms c.args.message.now c.in-Mark.time c.in-Mark.is stands may

@@ -15,7 +15,7 @@ pub loop-due-init : goal.loop-due-init
 loop-due-init c = record {
   ends = c.requires.ends;
   ordered = c.requires.ordered;
-  same = λ q. among_itself (ends_after c.args.time) (under c.args.self.now.by_key.entries q);
+  same = λ q. among_itself (ends_after c.args.time) (under c.args.self.now.by_tag.entries q);
 }
 
 pub loop-due-smaller : goal.loop-due-smaller
@@ -27,15 +27,15 @@ loop-due-preserved c =
     let was = c.loop-due.invariant in
     let ended : c.in-Some.due.end ≤ c.args.time = ended_by c.args.time c.in-Some.due out.0 in
     record {
-      ends = ends_forgotten (λ (r : Row). not (ends_after c.args.time r)) (c.in-Some.due, c.in-Some.field-0-1) c.loop-due.self.by_key.entries c.forget_under.new.by_key.entries c.loop-due.self.ends c.pop_ended.new.self was.ends out c.in-Some.ensures.first
+      ends = ends_forgotten (λ (r : Row). not (ends_after c.args.time r)) (c.in-Some.due, c.in-Some.field-0-1) c.loop-due.self.by_tag.entries c.forget_under.new.by_tag.entries c.loop-due.self.ends c.pop_ended.new.self was.ends out c.in-Some.ensures.first
           c.forget_under.ensures.here c.forget_under.ensures.others;
       ordered = c.forget_under.ensures.ordered;
       same = λ q.
-          rows_left (λ (r : Row). not (ends_after c.args.time r)) (c.in-Some.due, c.in-Some.field-0-1) c.loop-due.self.by_key.entries c.forget_under.new.by_key.entries c.loop-due.self.ends c.pop_ended.new.self was.ends out c.in-Some.ensures.first
-          c.forget_under.ensures.here c.forget_under.ensures.others c.args.time ended c.args.self.now.by_key.entries q (was.same q);
+          rows_left (λ (r : Row). not (ends_after c.args.time r)) (c.in-Some.due, c.in-Some.field-0-1) c.loop-due.self.by_tag.entries c.forget_under.new.by_tag.entries c.loop-due.self.ends c.pop_ended.new.self was.ends out c.in-Some.ensures.first
+          c.forget_under.ensures.here c.forget_under.ensures.others c.args.time ended c.args.self.now.by_tag.entries q (was.same q);
     }
 
 pub returns-clause-kept : goal.returns-clause-kept
 returns-clause-kept c = λ q.
-    none_goes (ends_after c.args.time) (under c.args.self.now.by_key.entries q) (under c.loop-due.self.by_key.entries q)
-    (none_ended c.loop-due.self.by_key.entries c.loop-due.self.ends c.args.time c.loop-due.invariant.ends c.in_default.ensures.taken.1 q) (c.loop-due.invariant.same q)
+    none_goes (ends_after c.args.time) (under c.args.self.now.by_tag.entries q) (under c.loop-due.self.by_tag.entries q)
+    (none_ended c.loop-due.self.by_tag.entries c.loop-due.self.ends c.args.time c.loop-due.invariant.ends c.in_default.ensures.taken.1 q) (c.loop-due.invariant.same q)

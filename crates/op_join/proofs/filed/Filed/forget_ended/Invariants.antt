@@ -1,7 +1,6 @@
-use Rattle.std.proofs.Common.{List, length}
+use Rattle.std.proofs.Common.{ℕ, length}
 use Rattle.std.specs.BTreeMap.{IsOrdered}
-use Rattle.cedr_base.specs.declared.field.Field.{Field}
-use Rattle.cedr_base.specs.Order.{payload_cmp}
+use Rattle.std.specs.Ordering.{nat_cmp}
 use Rattle.cedr_table.specs.Counted.{ends_after, SameAmong}
 use Rattle.op_join.specs.Filed.{under}
 use Rattle.op_join.specs.Ends.{AreEnds}
@@ -9,9 +8,9 @@ use Rattle.op_join.proofs.filed.Filed.forget_ended.Given as goal
 
 abbrev pub invariant-loop-due : goal.invariant-loop-due
 invariant-loop-due l = record {
-  ends : AreEnds l.self.by_key.entries l.self.ends;
-  ordered : IsOrdered payload_cmp l.self.by_key;
-  same : (q : List Field) → SameAmong (ends_after l.time) (under l.self.by_key.entries q) (under l.initial.self.by_key.entries q);
+  ends : AreEnds l.self.by_tag.entries l.self.ends;
+  ordered : IsOrdered nat_cmp l.self.by_tag;
+  same : (q : ℕ) → SameAmong (ends_after l.time) (under l.self.by_tag.entries q) (under l.initial.self.by_tag.entries q);
 }
 
 abbrev pub decreases-loop-due : goal.decreases-loop-due

@@ -6,8 +6,8 @@ use Rattle.op_planned.proofs.output.OutputOperator.apply.Goals as goal
 pub returns-clause-repairs : goal.returns-clause-repairs
 returns-clause-repairs c = on_ok_weaker c.hand_on.result
     (λ e tables marks after stands can moved. record {
-      changes = c.args.change.now ∷ [];
+      changes = c.args.change ∷ [];
       appended = e;
-      repair = output_repairs tables marks c.args._port c.args.change.now after stands.table can moved;
+      repair = output_repairs tables marks c.args._port c.args.change after stands.table can moved;
     })
     c.hand_on.ensures.ok

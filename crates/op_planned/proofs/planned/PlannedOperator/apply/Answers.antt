@@ -4,43 +4,43 @@ use Rattle.op_planned.proofs.Arms.{MayApply}
 use Rattle.op_planned.proofs.planned.PlannedOperator.apply.Goals as goal
 
 pub apply-requires : goal.apply-requires
-apply-requires c = subst (λ (op : Planned). MayApply op c.args.port c.args.change.now) c.in-Select.is c.requires
+apply-requires c = subst (λ (op : Planned). MayApply op c.args.port c.args.change) c.in-Select.is c.requires
 
 pub apply-requires-in-Project : goal.apply-requires-in-Project
-apply-requires-in-Project c = subst (λ (op : Planned). MayApply op c.args.port c.args.change.now) c.in-Project.is c.requires
+apply-requires-in-Project c = subst (λ (op : Planned). MayApply op c.args.port c.args.change) c.in-Project.is c.requires
 
 pub apply-requires-in-Union : goal.apply-requires-in-Union
-apply-requires-in-Union c = subst (λ (op : Planned). MayApply op c.args.port c.args.change.now) c.in-Union.is c.requires
+apply-requires-in-Union c = subst (λ (op : Planned). MayApply op c.args.port c.args.change) c.in-Union.is c.requires
 
 pub apply-requires-in-Join : goal.apply-requires-in-Join
-apply-requires-in-Join c = subst (λ (op : Planned). MayApply op c.args.port c.args.change.now) c.in-Join.is c.requires
+apply-requires-in-Join c = subst (λ (op : Planned). MayApply op c.args.port c.args.change) c.in-Join.is c.requires
 
 pub apply-requires-in-Window : goal.apply-requires-in-Window
-apply-requires-in-Window c = subst (λ (op : Planned). MayApply op c.args.port c.args.change.now) c.in-Window.is c.requires
+apply-requires-in-Window c = subst (λ (op : Planned). MayApply op c.args.port c.args.change) c.in-Window.is c.requires
 
 pub apply-requires-in-Shift : goal.apply-requires-in-Shift
-apply-requires-in-Shift c = subst (λ (op : Planned). MayApply op c.args.port c.args.change.now) c.in-Shift.is c.requires
+apply-requires-in-Shift c = subst (λ (op : Planned). MayApply op c.args.port c.args.change) c.in-Shift.is c.requires
 
 pub apply-requires-in-Hop : goal.apply-requires-in-Hop
-apply-requires-in-Hop c = subst (λ (op : Planned). MayApply op c.args.port c.args.change.now) c.in-Hop.is c.requires
+apply-requires-in-Hop c = subst (λ (op : Planned). MayApply op c.args.port c.args.change) c.in-Hop.is c.requires
 
 pub apply-requires-in-Starts : goal.apply-requires-in-Starts
-apply-requires-in-Starts c = subst (λ (op : Planned). MayApply op c.args.port c.args.change.now) c.in-Starts.is c.requires
+apply-requires-in-Starts c = subst (λ (op : Planned). MayApply op c.args.port c.args.change) c.in-Starts.is c.requires
 
 pub apply-requires-in-Ends : goal.apply-requires-in-Ends
-apply-requires-in-Ends c = subst (λ (op : Planned). MayApply op c.args.port c.args.change.now) c.in-Ends.is c.requires
+apply-requires-in-Ends c = subst (λ (op : Planned). MayApply op c.args.port c.args.change) c.in-Ends.is c.requires
 
 pub apply-requires-in-Group : goal.apply-requires-in-Group
-apply-requires-in-Group c = subst (λ (op : Planned). MayApply op c.args.port c.args.change.now) c.in-Group.is c.requires
+apply-requires-in-Group c = subst (λ (op : Planned). MayApply op c.args.port c.args.change) c.in-Group.is c.requires
 
 pub apply-requires-in-Sequence : goal.apply-requires-in-Sequence
-apply-requires-in-Sequence c = subst (λ (op : Planned). MayApply op c.args.port c.args.change.now) c.in-Sequence.is c.requires
+apply-requires-in-Sequence c = subst (λ (op : Planned). MayApply op c.args.port c.args.change) c.in-Sequence.is c.requires
 
 pub apply-requires-in-Unless : goal.apply-requires-in-Unless
-apply-requires-in-Unless c = subst (λ (op : Planned). MayApply op c.args.port c.args.change.now) c.in-Unless.is c.requires
+apply-requires-in-Unless c = subst (λ (op : Planned). MayApply op c.args.port c.args.change) c.in-Unless.is c.requires
 
 pub apply-requires-in-Output : goal.apply-requires-in-Output
-apply-requires-in-Output c = subst (λ (op : Planned). MayApply op c.args.port c.args.change.now) c.in-Output.is c.requires
+apply-requires-in-Output c = subst (λ (op : Planned). MayApply op c.args.port c.args.change) c.in-Output.is c.requires
 
 pub returns-in-Select-clause-stands : goal.returns-in-Select-clause-stands
 returns-in-Select-clause-stands c = rw c.in-Select.is c.apply.ensures.stands

@@ -1,15 +1,26 @@
-use Rattle.std.proofs.Common.{◌++◌, ◌∙◌, ap, sym, subst}
+use Rattle.std.proofs.Common.{◌≡◌, ◌≤◌, ◌++◌, ◌∙◌, List, ap, sym, subst, arith}
 use Rattle.std.specs.List.{flat_map}
+use Rattle.std.proofs.lemmas.List.{append_assoc}
+use Rattle.cedr_base.specs.declared.row.Row.{Row}
+use Rattle.cedr_base.specs.declared.time.TheConstants.{FOREVER}
+use Rattle.cedr_base.specs.Rows.{SameRows}
 use Rattle.cedr_table.specs.Counted.{spread}
-use Rattle.pat_rows.specs.Starts.{AreWithin}
-use Rattle.pat_unless.specs.Steps.{freed}
-use Rattle.pat_unless.proofs.ScanLemmas.{decided_within}
+use Rattle.pat_unless.specs.Steps.{freed, decided}
+use Rattle.pat_unless.proofs.ScanLemmas.{decided_beside}
 use Rattle.pat_unless.proofs.terms.Terms.decided.Goals as goal
 
-pub loop-row-init : goal.loop-row-init
-loop-row-init c = record {
-  so_far =
-      ap (λ rows. rows ++ flat_map (freed c.args.self.now.scope c.args.self.now.hold c.args.self.now.tests c.args.others.now c.args.blocker.now) (spread c.into_iter-row-iterator.result)) c.new-rows.ensures.items
-      ∙ decided_within c.args.self.now.scope c.args.self.now.hold c.args.self.now.tests c.args.others.now c.args.blocker.now c.args.kept.now c.saturating_sub-from.result c.into_iter-row-iterator.result c.requires.begin c.saturating_sub-from.ensures (ap spread c.into_iter-row-iterator.ensures.into_iter_gives ∙ c.within-row-items.ensures.rows);
-  within = subst (AreWithin c.saturating_sub-from.result c.args.blocker.now.begin) (sym c.into_iter-row-iterator.ensures.into_iter_gives) c.within-row-items.ensures.within;
-}
+pub push_all_freed-requires-clause-within : goal.push_all_freed-requires-clause-within
+push_all_freed-requires-clause-within c = let early = c.requires.begin in (c.saturating_sub-from.result, c.args.blocker.now.begin, omega arith, c.beside_right-tagged.ensures.within.0)
+
+pub push_all_freed-requires-2-clause-within : goal.push_all_freed-requires-2-clause-within
+push_all_freed-requires-2-clause-within c = let early = c.requires.begin in (c.saturating_sub-from.result, c.args.blocker.now.begin, omega arith, c.beside_right-tagged.ensures.within.1)
+
+pub returns : goal.returns
+returns c =
+    let self = c.args.self.now in
+    let find = flat_map (freed self.scope self.hold self.tests c.args.tied.now.right c.args.blocker.now) in
+    let found : c.push_all_freed-2.new.rows.items ≡ find (spread c.beside_right-tagged.result.0) ++ find (spread c.beside_right-tagged.result.1) =
+    c.in_ok-push_all_freed-2.ensures
+    ∙ ap (λ rows. rows ++ find (spread c.beside_right-tagged.result.1)) (c.in_ok-push_all_freed.ensures ∙ ap (λ rows. rows ++ find (spread c.beside_right-tagged.result.0)) c.new-rows.ensures.items) in
+    subst (λ (rows : List Row). SameRows rows (decided self.scope self.hold self.tests c.args.tied.now.right c.args.blocker.now c.args.tied.now.left)) (sym found)
+    (decided_beside self.scope self.hold self.tests c.args.tied.now.right c.args.blocker.now c.args.tied.now.left c.saturating_sub-from.result c.beside_right-tagged.result.0 c.beside_right-tagged.result.1 c.requires.begin c.saturating_sub-from.ensures c.beside_right-tagged.ensures.rows)

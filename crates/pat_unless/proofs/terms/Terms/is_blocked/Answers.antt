@@ -1,17 +1,19 @@
-use Rattle.std.proofs.Common.{◌≡◌, ◌∷◌, ◌∙◌, ◌+◌, ap, sym, subst}
+use Rattle.std.proofs.Common.{◌≡◌, ◌∷◌, ◌∙◌, ◌+◌, ap, refl, sym, subst}
+use Rattle.std.specs.Prelude.{sum_by}
 use Rattle.std.specs.Map.Iter.{deref_pair}
 use Rattle.std.proofs.lemmas.Map.Iter.{rest_more}
 use Rattle.cedr_table.specs.Counted.{spread}
 use Rattle.cedr_base.specs.declared.row.Row.{Row}
 use Rattle.cedr_expr.specs.Tests.{passes}
 use Rattle.pat_rows.specs.Starts.{AreWithin}
-use Rattle.pat_unless.proofs.ScanLemmas.{blocked_within, scan_goes_on}
+use Rattle.pat_unless.proofs.ScanLemmas.{blocked_beside, scan_goes_on}
 use Rattle.pat_unless.proofs.terms.Terms.is_blocked.Goals as goal
 
 pub loop-blocker-init : goal.loop-blocker-init
 loop-blocker-init c = record {
-  rest = blocked_within c.args.self.now.scope c.args.self.now.tests c.args.blockers.now c.args.row.now c.later-until.result c.into_iter-blocker-iterator.result c.later-until.ensures (ap spread c.into_iter-blocker-iterator.ensures.into_iter_gives ∙ c.within-blocker-items.ensures.rows);
-  within = subst (AreWithin (c.args.row.now.begin + 1) c.later-until.result) (sym c.into_iter-blocker-iterator.ensures.into_iter_gives) c.within-blocker-items.ensures.within;
+  rest = blocked_beside c.args.self.now.scope c.args.self.now.tests c.args.tied.now.right c.args.row.now (c.args.row.now.begin + 1) c.later-until.result c.into_iter-blocker-iterator.result refl c.later-until.ensures
+      (λ weight sought. ap (λ es. sum_by weight (spread es)) c.into_iter-blocker-iterator.ensures.into_iter_gives ∙ c.beside_left-blocker-items.ensures.rows weight sought);
+  within = subst (AreWithin (c.args.row.now.begin + 1) c.later-until.result) (sym c.into_iter-blocker-iterator.ensures.into_iter_gives) c.beside_left-blocker-items.ensures.within;
 }
 
 pub loop-blocker-preserved : goal.loop-blocker-preserved

@@ -8,6 +8,6 @@ use Rattle.pat_unless.proofs.terms.Terms.is_blocked.Given as goal
 
 abbrev pub invariant-loop-blocker : goal.invariant-loop-blocker
 invariant-loop-blocker l = record {
-  rest : is_blocked l.self.scope l.self.tests l.blockers l.row ≡ list_any (λ b. passes l.self.tests l.row.payload b.payload) (spread l.blocker-iterator);
-  within : AreWithin (l.row.begin + 1) l.until l.blocker-iterator;
+  rest : is_blocked l.self.scope l.self.tests l.tied.right l.row ≡ list_any (λ b. passes l.self.tests l.row.payload b.payload) (spread l.blocker-iterator);
+  within : AreWithin l.from l.until l.blocker-iterator;
 }

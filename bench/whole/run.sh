@@ -1,0 +1,117 @@
+#!/usr/bin/env bash
+# Times the built program on made files, beside plain programs that do the same, and prints one table: wall time and
+# processor time in seconds, the peak of memory in MB, and the wall time in those of the program baseline.rs, which is
+# written by hand and proves nothing. What is compared writes the same bytes, or this ends with status 1. Each figure is
+# of the quickest of RUNS runs.
+#
+#   history         an event file of 2^26 bytes; beside `sort` and `wc -l` of the same file
+#   join            two sources of SIZE events each, of 100 machines, joined by machine; beside Python over SQLite
+#   join_group      the same join, and then counts and sums by machine
+#   sequence        an event of the one and within 100 an event of the other source of the same machine
+#   unless          an event of the one, where within 100 no event of the other of the same machine begins
+#   keyed           the join with ten events a machine in each source
+#   chain           one source of SIZE events through 40 selects
+#   make            `cedr make SIZE`, which makes its own events, where SIZE is at most 100,000
+#
+# Build the program first: (cd crates/cedr && rt run -- --version)
+#
+# usage: bench/whole/run.sh [SIZE [RUNS [WORKLOAD..]]]
+set -eu
+here=$(cd "$(dirname "$0")" && pwd)
+program=$here/../../crates/cedr/out/cedr
+size=${1:-100000}
+runs=${2:-3}
+if [ $# -gt 2 ]; then shift 2; workloads=("$@"); else
+  workloads=(history join join_group sequence unless keyed chain make)
+fi
+if ! [ -x "$program" ]; then echo "build the program first: $program isn't there"; exit 2; fi
+folder=$(mktemp -d)
+trap 'rm -rf "$folder"' EXIT
+cd "$folder"
+if command -v rustc > /dev/null; then rustc --edition 2021 -O -o baseline "$here/baseline.rs"; else
+  echo "the hand-written program is left out: there is no rustc"
+fi
+sqlite=$(python3 -c "import sqlite3; print(sqlite3.sqlite_version)" 2> /dev/null) || echo "SQLite is left out"
+
+# timed NAME COMMAND..: writes the output of the command to NAME and `WALL PROCESSOR PEAK` to NAME.time
+timed() {
+  local name=$1
+  shift
+  rm -f "$name.times"
+  for _ in $(seq "$runs"); do
+    /usr/bin/time -q -o once -f "%e %U %S %M" timeout 900 "$@" > "$name"
+    awk '{ print $1, $2 + $3, $4 / 1024 }' once >> "$name.times"
+  done
+  sort -g "$name.times" | head -1 > "$name.time"
+}
+
+# show WORKLOAD NAME: prints a line of the table
+show() {
+  local wall processor peak
+  read -r wall processor peak < "$2.time"
+  awk -v workload="$1" -v name="$2" -v wall="$wall" -v processor="$processor" -v peak="$peak" \
+    -v base="$( [ -f baseline_ran.time ] && cut -d' ' -f1 baseline_ran.time || echo 0)" 'BEGIN {
+      printf "%-11s %-9s %8.2f %9.2f %8.0f", workload, name, wall, processor, peak
+      if (base > 0) printf " %7.1f", wall / base
+      print ""
+    }'
+}
+
+# beside WORKLOAD FIRST OTHER..: shows what was timed, and compares the bytes of the others with those of the first
+beside() {
+  local workload=$1 first=$2 name
+  shift
+  for name in "$@"; do
+    [ -f "$name.time" ] || continue
+    show "$workload" "$name"
+    cmp "$first" "$name" || exit 1
+  done
+}
+
+by_hand() {
+  rm -f baseline_ran*
+  if [ -x baseline ]; then timed baseline_ran ./baseline "$@"; fi
+}
+
+two_sources() {
+  python3 "$here/events.py" "$size" 1 "$1" > a.csv
+  python3 "$here/events.py" "$size" 2 "$1" > b.csv
+}
+
+python3 "$here/plans.py" .
+printf "%-11s %-9s %8s %9s %8s %7s\n" workload program wall processor MB "x hand"
+for workload in "${workloads[@]}"; do
+  rm -f ./*.time
+  case $workload in
+    history)
+      python3 "$here/history.py" 67108864 > events.csv
+      by_hand history events.csv
+      timed history "$program" history events.csv
+      timed sort env LC_ALL=C sort -t, -k4,4n -k3,3n events.csv
+      timed wc wc -l events.csv
+      beside history history baseline_ran
+      show history sort
+      show history wc
+      ;;
+    make)
+      if [ "$size" -le 100000 ]; then
+        by_hand make "$size"
+        timed make "$program" make "$size"
+        beside make make baseline_ran
+      fi
+      ;;
+    *)
+      plan=$workload
+      machines=100
+      if [ "$workload" = keyed ]; then plan=join; machines=$((size / 10)); fi
+      two_sources "$machines"
+      files=(a.csv b.csv)
+      if [ "$workload" = chain ]; then files=(a.csv); fi
+      by_hand "$plan" "${files[@]}"
+      timed serial "$program" serial "$plan.json"
+      timed run "$program" run "$plan.json"
+      if [ -n "$sqlite" ] && [[ $workload = join* ]]; then timed SQLite python3 "$here/on_sqlite.py" "$plan"; fi
+      beside "$workload" serial run baseline_ran SQLite
+      ;;
+  esac
+done

@@ -1,0 +1,30 @@
+-- Tags: numbers that are the same for a left and a right payload that pass tests together.
+use Rattle.std.specs.Prelude.{ℕ, ◌+◌, ◌*◌, ◌/◌, ◌%◌, List, [], ◌∷◌, length, unsigned_abs}
+use Rattle.cedr_base.specs.declared.field.Field.{Field}
+use Rattle.cedr_base.specs.declared.field.Field.TheVariants.{Number, Bytes}
+use Rattle.cedr_expr.specs.declared.side.Side.{Side}
+use Rattle.cedr_expr.specs.declared.test.Test.{Test}
+use Rattle.cedr_expr.specs.Ties.{tied_fields}
+
+-- a number into which another one is mixed, modulo 2^64
+abbrev pub mixed : ℕ → ℕ → ℕ
+mixed h n = (h * 1099511628211 + n) % 18446744073709551616
+
+-- a number into which others are mixed, one after the other
+abbrev pub all_mixed : ℕ → List ℕ → ℕ
+all_mixed h [] = h
+all_mixed h (n ∷ ns) = all_mixed (mixed h n) ns
+
+-- a number into which a field is mixed
+abbrev pub field_mixed : ℕ → Field → ℕ
+field_mixed h (Number n) = mixed h (unsigned_abs n % 2305843009213693952)
+field_mixed h (Bytes t) = all_mixed (mixed h (length t)) t
+
+-- a number into which fields are mixed, one after the other
+abbrev pub fields_mixed : ℕ → List Field → ℕ
+fields_mixed h [] = h
+fields_mixed h (f ∷ fs) = fields_mixed (field_mixed h f) fs
+
+-- the tag of one side's payload, from 1 to 2^62, where left payloads have this many fields
+abbrev pub tag_of : Side → ℕ → List Test → List Field → ℕ
+tag_of side width tests payload = fields_mixed 0 (tied_fields side width payload tests) / 4 + 1

@@ -1,0 +1,6 @@
+/// One of the two payloads that tests see.
+#[derive(Clone, Copy, Debug, PartialEq, Eq)]
+pub enum Side {
+    Left,
+    Right,
+}

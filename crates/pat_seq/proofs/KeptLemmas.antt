@@ -1,0 +1,28 @@
+-- What a change does to the rows of two ports.
+use Rattle.std.proofs.Common.{◌≡◌, ℕ, ◌<◌, List, [], ◌∷◌, ◌++◌, ap, sym, subst, arith, length}
+use Rattle.cedr_base.specs.declared.row.Row.{Row}
+use Rattle.cedr_base.specs.declared.change.Change.{Change}
+use Rattle.cedr_base.specs.Rows.{SameRows}
+use Rattle.cedr_base.specs.Changes.{puts, takes}
+use Rattle.cedr_table.specs.Operators.{Tables}
+use Rattle.pat_rows.specs.Starts.{all_endless}
+use Rattle.pat_seq.specs.Keeping.{IsKeptStep}
+
+first_steps : (old : Tables) (lefts rights left right : List Row) (change : Change) → old ≡ lefts ∷ rights ∷ [] → right ≡ rights → SameRows (left ++ all_endless (takes change)) (lefts ++ all_endless (puts change)) → IsKeptStep (lefts ∷ rights ∷ []) (left ∷ right ∷ []) 0 change
+first_steps old lefts rights left right change is same step = record { rows = left; kept_is = ap (λ rows. left ∷ rows ∷ []) same; step = step }
+
+-- the rows of the first port went through a change
+pub left_steps : (old : Tables) (lefts rights left right : List Row) (port : ℕ) (change : Change) → old ≡ lefts ∷ rights ∷ [] → port ≡ 0 → right ≡ rights → SameRows (left ++ all_endless (takes change)) (lefts ++ all_endless (puts change))
+    → IsKeptStep old (left ∷ right ∷ []) port change
+left_steps old lefts rights left right port change is at same step =
+    subst (λ (p : ℕ). IsKeptStep old (left ∷ right ∷ []) p change) (sym at)
+    (subst (λ (ts : Tables). IsKeptStep ts (left ∷ right ∷ []) 0 change) (sym is) (first_steps old lefts rights left right change is same step))
+
+-- the rows of the second port did
+pub right_steps : (old : Tables) (lefts rights left right : List Row) (port : ℕ) (change : Change) → old ≡ lefts ∷ rights ∷ [] → port < length old → (port ≡ 0 → ⊥) → left ≡ lefts → SameRows (right ++ all_endless (takes change)) (rights ++ all_endless (puts change))
+    → IsKeptStep old (left ∷ right ∷ []) port change
+right_steps old lefts rights left right port change is within other same step =
+    let size = ap (λ (ts : Tables). length ts) is in
+    let one : port ≡ 1 = omega arith in
+    subst (λ (p : ℕ). IsKeptStep old (left ∷ right ∷ []) p change) (sym one)
+    (subst (λ (ts : Tables). IsKeptStep ts (left ∷ right ∷ []) 1 change) (sym is) (record { rows = right; kept_is = ap (λ rows. rows ∷ right ∷ []) same; step = step }))

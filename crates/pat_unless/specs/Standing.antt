@@ -1,0 +1,13 @@
+-- What the state of an unless stands for.
+use Rattle.std.specs.Prelude.{ℕ, List, [], ◌∷◌}
+use Rattle.cedr_table.specs.Operators.{Tables}
+use Rattle.pat_rows.specs.Answers.{StandsByBegin}
+use Rattle.pat_rows.specs.Tied.{AreTied}
+use Rattle.pat_rows.specs.declared.tied.Tied.{Tied}
+use Rattle.pat_unless.specs.declared.terms.Terms.{Terms}
+use Rattle.pat_unless.specs.Blocking.{AreWhiles}
+
+-- the rows that are kept stand for the tables, and each has its tag
+pub record UnlessStands (terms : Terms) (tied : Tied) (tables : Tables) (marks : List ℕ) : Type 0 where
+  pub kept : StandsByBegin (AreWhiles terms.scope terms.hold) terms.scope (tied.left ∷ tied.right ∷ []) tables marks
+  pub tags : AreTied terms.tests tied
