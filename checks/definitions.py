@@ -3,7 +3,8 @@
 
 Each of these is named below its crate's heading, in the table or, where private contracts alone cite it, in the text
 behind the table, which may name its whole file instead; and what the first column of a table names is one of them, or a
-public type of the crate.
+public type of the crate. Definitions stand apart from lemmas: a file whose name ends in Laws defines at most what has its own
+name, and no other file states a lemma.
 
 usage: python3 checks/definitions.py
 """
@@ -12,6 +13,7 @@ import sys
 from pathlib import Path
 
 DEFINITION = re.compile(r"^(?:abbrev pub|unfoldable pub|pub record|pub data) ([^\s:]+)", re.MULTILINE)
+LEMMA = re.compile(r"^(?:pub )?(?!use\b|mod\b)([^\s:()]+) : ", re.MULTILINE)
 TYPE = re.compile(r"^pub (?:struct|enum) (\w+)", re.MULTILINE)
 QUOTED = re.compile("`([^`]+)`")
 WHOLE_FILE = re.compile(r"^specs/(\w+)\.antt$")
@@ -20,6 +22,14 @@ WHOLE_FILE = re.compile(r"^specs/(\w+)\.antt$")
 def defined(specs: Path) -> dict:
     """The public definitions of each file of a crate."""
     return {file.stem: DEFINITION.findall(file.read_text()) for file in sorted(specs.glob("*.antt"))}
+
+
+def mixed(file: Path, found: list):
+    """What stands in a file of definitions or of laws and belongs into the other kind."""
+    if file.stem.endswith("Laws"):
+        yield from (f"{file}: {name} is a definition" for name in found if name != file.stem)
+    else:
+        yield from (f"{file}: {name} is a lemma" for name in LEMMA.findall(file.read_text()))
 
 
 def types(crate: Path) -> set:
@@ -43,6 +53,7 @@ def differences(root: Path):
         for file, found in files.items():
             if file not in whole:
                 yield from (f"{crate}: {name} ({file}.antt) isn't named" for name in found if name not in names)
+            yield from mixed(root / "crates" / crate / "specs" / f"{file}.antt", found)
         there = {name for found in files.values() for name in found} | types(root / "crates" / crate)
         first = [name for row in rows for name in QUOTED.findall(row.split("|")[1])]
         yield from (f"{crate}: {name} is no public definition" for name in first if name not in there)

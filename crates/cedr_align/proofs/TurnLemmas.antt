@@ -50,22 +50,6 @@ both_inserted row begins begins' ends ends' was b e = record {
   );
 }
 
--- a row goes from both orders
-pub both_taken : (row : Row) (begins begins' ends ends' : List Row) → SameRows begins (all_turned ends) → SameRows (turned row ∷ begins') begins → SameRows (row ∷ ends') ends → SameRows begins' (all_turned ends')
-both_taken row begins begins' ends ends' was b e = record {
-  each = λ r. omega (
-    arith,
-    was.each r,
-    b.each r,
-    e.each (turned r),
-    count_turned r ends,
-    count_turned r ends',
-    count_of-cons r (turned row) begins',
-    count_of-cons (turned r) row ends',
-    one_turned r row,
-  );
-}
-
 -- all copies of a row go from both orders
 pub both_removed : (row : Row) (n : ℕ) (begins begins' ends ends' : List Row) → SameRows begins (all_turned ends) → SameRows (replicate n (turned row) ++ begins') begins → SameRows (replicate n row ++ ends') ends → SameRows begins' (all_turned ends')
 both_removed row n begins begins' ends ends' was b e = record {

@@ -1,8 +1,6 @@
 -- Rows in order of begin, and rows that move from one list to another.
 use Rattle.std.specs.Prelude.{ℕ, ◌≡◌, ◌<◌, ◌++◌, List, map, replicate, filter, not, Bool, ◌||◌, nat_lt}
 use Rattle.cedr_base.specs.declared.row.Row.{Row}
-use Rattle.cedr_base.specs.declared.change.Change.{Change}
-use Rattle.cedr_base.specs.declared.change.Change.TheVariants.{Add, Cut}
 use Rattle.cedr_base.specs.Rows.{count_of, SameRows}
 
 -- a row with its begin and its end exchanged
@@ -12,11 +10,6 @@ turned r = record { end = r.begin; begin = r.end; payload = r.payload }
 -- the rows with their begins and their ends exchanged
 abbrev pub all_turned : List Row → List Row
 all_turned rows = map turned rows
-
--- a row that a change cuts is there
-abbrev pub HasRow : List Row → Change → Type 0
-HasRow rows (Add r) = Unit {0}
-HasRow rows (Cut r e) = 0 < count_of r rows
 
 -- a row needn't wait for its end, which the mark passed or the list's end did
 abbrev pub has_ended : Bool → ℕ → Row → Bool

@@ -1,13 +1,14 @@
-ghost use Rattle.std.specs.Prelude.{ℕ, ◌≡◌, ◌<◌, ◌≤◌, ◌++◌, ◌∷◌, [], List, Option, not, filter, replicate, IfOk, IfSome, IfNone, OnOk, MatchBool, ◌≢◌};
+ghost use Rattle.std.specs.Prelude.{ℕ, ◌≡◌, ◌<◌, ◌≤◌, ◌++◌, ◌∷◌, [], List, Option, true, false, nat_lt, not, filter, replicate, IfOk, IfSome, IfNone, OnOk, MatchBool, ◌≢◌};
 ghost use Rattle.cedr_base.specs.declared.row.Row.{Row};
+ghost use Rattle.cedr_base.specs.declared.change.Change.TheVariants.{Cut};
 ghost use Rattle.cedr_base.specs.Rows.{count_of, SameRows};
 ghost use Rattle.cedr_base.specs.Changes.{puts, takes};
 ghost use Rattle.cedr_laws.specs.Pass.{is_blocked, is_held, least_begin};
 ghost use Rattle.cedr_table.specs.Counted.{IsTakenOut};
-ghost use Rattle.cedr_align.specs.Moving.{turned, HasRow, has_ended, IsMovedOut, IsPopped};
+ghost use Rattle.cedr_align.specs.Moving.{turned, has_ended, IsMovedOut, IsPopped};
 ghost use Rattle.cedr_align.specs.Released.{IsReleased};
 
-use cedr_base::{Change, OutOfMemory, Row, Time, sort_rows};
+use cedr_base::{OutOfMemory, Row, Time, sort_rows};
 use cedr_table::Table;
 use std::alloc::Global;
 use std::marker::Model;
@@ -89,7 +90,7 @@ impl Held {
     }
 
     /// Adds a row. Where memory runs out all rows may be lost.
-    fn insert(&mut self, alloc: Global, row: Row) -> Result<(), OutOfMemory>
+    pub(crate) fn insert(&mut self, alloc: Global, row: Row) -> Result<(), OutOfMemory>
         ensures ok { OnOk result (SameRows self.new (row ∷ self.old)) }
     {
         let other = turn(row.copy(alloc)?);
@@ -104,33 +105,40 @@ impl Held {
         }
     }
 
-    /// Takes a copy of a row away.
-    fn take(&mut self, row: Row)
-        requires { 0 < count_of row self.old }
-        ensures { SameRows (row ∷ self.new) self.old }
+    /// Takes a copy of a row away, where one waits. Gives the row back, and says whether one did.
+    fn take(&mut self, row: Row) -> (bool, Row)
+        ensures row { result.1 ≡ row }
+        ensures told { result.0 ≡ nat_lt 0 (count_of row self.old) }
+        ensures taken { result.0 ≡ true → SameRows (row ∷ self.new) self.old }
+        ensures missing { result.0 ≡ false → self.new ≡ self.old }
     {
-        self.by_end.take(&row);
+        if !self.by_end.take(&row) {
+            return (false, row);
+        }
         let other = turn(row);
         self.by_begin.take(&other);
+        (true, turn(other))
     }
 
-    /// Applies a change of a row that waits, or an addition. Where memory runs out rows may be missing.
-    pub(crate) fn apply(&mut self, alloc: Global, change: Change) -> Result<(), OutOfMemory>
-        requires { HasRow self.old change }
-        ensures ok { OnOk result (SameRows (self.new ++ takes change) (self.old ++ puts change)) }
+    /// Cuts a copy of a row that waits, or gives the row back where none does. Where memory runs out rows may be missing.
+    pub(crate) fn cut(
+        &mut self,
+        alloc: Global,
+        row: Row,
+        end: Time,
+    ) -> Result<Option<Row>, OutOfMemory>
+        ensures cut { IfOk result (λ back. IfNone back ((0 < count_of row self.old) × SameRows (self.new ++ takes (Cut row end)) (self.old ++ puts (Cut row end)))) }
+        ensures back { IfOk result (λ back. IfSome back (λ r. (r ≡ row) × (count_of row self.old ≡ 0) × (self.new ≡ self.old))) }
     {
-        match change {
-            Change::Add(row) => self.insert(alloc, row),
-            Change::Cut(row, end) => {
-                if row.begin < end {
-                    let mut shorter = row.copy(alloc)?;
-                    shorter.end = end;
-                    self.insert(alloc, shorter)?;
-                }
-                self.take(row);
-                Ok(())
-            }
+        let (found, mut row) = self.take(row);
+        if !found {
+            return Ok(Some(row));
         }
+        if row.begin < end {
+            row.end = end;
+            self.insert(alloc, row)?;
+        }
+        Ok(None)
     }
 
     /// Takes the first row by end away, all copies of it, and gives it with their number.

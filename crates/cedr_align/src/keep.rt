@@ -102,13 +102,11 @@ pub(crate) fn keep(
     ensures out { OnOk result (out.new.items ≡ out.old.items ++ wrapped (own_of held.old change)) }
     ensures kept { take (length out.old.items) out.new.items ≡ out.old.items }
 {
-    match &change {
-        Change::Add(_) => held.apply(alloc, change),
-        Change::Cut(row, _) => {
-            if held.count(row) > 0 {
-                return held.apply(alloc, change);
-            }
-            pass_on(alloc, memory, passed, change, out)
-        }
+    match change {
+        Change::Add(row) => held.insert(alloc, row),
+        Change::Cut(row, end) => match held.cut(alloc, row, end)? {
+            None => Ok(()),
+            Some(row) => pass_on(alloc, memory, passed, Change::Cut(row, end), out),
+        },
     }
 }

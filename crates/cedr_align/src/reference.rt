@@ -1,5 +1,5 @@
 use cedr_base::{FOREVER, Level, OutOfMemory, Time};
-use msg_feed::Told;
+use cedr_testing::Told;
 use std::alloc::Global;
 
 /// What became of a message.

@@ -4,7 +4,7 @@ use super::*;
 use crate::reference::Became;
 use cedr_base::{FOREVER, Level, OutOfMemory, Time};
 use cedr_laws::Cause;
-use msg_feed::{Told, message_of, tell};
+use cedr_testing::{MIDDLE, STRONG, Told, message_of, tell, tell_messages};
 use std::alloc::Global;
 use std::test::Fail;
 
@@ -26,22 +26,8 @@ pub(crate) fn take(
 ) -> Result<(Vec<Told>, Became), OutOfMemory> {
     let mut out = Vec::new(alloc);
     let fate = aligner.take(alloc, message_of(alloc, told)?, &mut out)?;
-    let mut passed = Vec::new(alloc);
-    for message in &out {
-        passed.push(tell(message))?;
-    }
-    Ok((passed, tell_fate(fate)))
+    Ok((tell_messages(alloc, out.as_slice())?, tell_fate(fate)))
 }
-
-const STRONG: Level = Level {
-    block: None,
-    memory: None,
-};
-
-const MIDDLE: Level = Level {
-    block: Some(0),
-    memory: None,
-};
 
 #[test]
 fn rows_wait_for_a_block(rt: HostRuntime) -> Result<(), Fail> {
@@ -104,7 +90,7 @@ fn a_strong_port_waits_for_ends(rt: HostRuntime) -> Result<(), Fail> {
         Told::Add(4, 0, 6),
     ] {
         let (passed, _) = take(alloc, &mut aligner, told)?;
-        assert_eq!(rt; passed.len(), 0);
+        assert_eq!(rt; passed.len(), 0, "{told:?}");
     }
     let (passed, _) = take(alloc, &mut aligner, Told::Mark(6))?;
     assert_eq!(rt;
@@ -193,7 +179,7 @@ fn many_rows_are_held_and_released_in_order(rt: HostRuntime) -> Result<(), Fail>
     }
     assert_eq!(rt; out.len(), 65_537);
     for (end, message) in (1..65_537u64).zip(&out) {
-        assert!(rt; tell(message) == Told::Add(1, 0, end));
+        assert_eq!(rt; tell(message), Told::Add(1, 0, end));
     }
     Ok(())
 }

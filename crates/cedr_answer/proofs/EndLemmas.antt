@@ -21,11 +21,12 @@ use Rattle.cedr_worker.specs.declared.source.SourceEnd.{SourceEnd}
 use Rattle.cedr_worker.specs.declared.stop.SourceStop.{SourceStop}
 use Rattle.cedr_worker.specs.declared.stop.SourceStop.TheVariants as stop
 use Rattle.cedr_worker.specs.Stops.{CountedSo, StoppedAs, meant}
-use Rattle.op_planned.specs.Ready.{is_source}
+use Rattle.op_node.specs.Ready.{is_source}
 use Rattle.cedr_answer.specs.Finds.{AreFound, count_with}
 use Rattle.cedr_crew.specs.Stopping.{is_short, is_unread, stop_in}
 use Rattle.cedr_answer.specs.Tellings.{AreEnded, IsJudged, fault_of, is_faulty, fault_in, node_faults, source_in, source_lists}
-use Rattle.cedr_answer.proofs.FindLemmas.{count_more, count_kept}
+use Rattle.cedr_answer.proofs.FindLemmas.{count_kept}
+use Rattle.cedr_crew.proofs.CountLemmas.{count_more}
 
 -- ---- lists by node
 
@@ -53,11 +54,11 @@ lists_other n nodes [] isnt = refl
 lists_other n nodes (g ∷ given) isnt = ap {B = Lists} (λ (b : Bool). (if b then g else []) ∷ source_lists nodes given) isnt
 
 -- the fault of a source is the first, and those of later nodes come after it
-faults_source : (n : PlanNode) (nodes : List PlanNode) (f : Option Refusal) (faults : List (Option Refusal)) → is_source n.kind ≡ true → node_faults (n ∷ nodes) (f ∷ faults) ≡ f ∷ node_faults nodes faults
+pub faults_source : (n : PlanNode) (nodes : List PlanNode) (f : Option Refusal) (faults : List (Option Refusal)) → is_source n.kind ≡ true → node_faults (n ∷ nodes) (f ∷ faults) ≡ f ∷ node_faults nodes faults
 faults_source n nodes f faults is = ap {B = List (Option Refusal)} (λ (b : Bool). if b then f ∷ node_faults nodes faults else None ∷ node_faults nodes (f ∷ faults)) is
 
 -- any other node has no fault
-faults_other : (n : PlanNode) (nodes : List PlanNode) (faults : List (Option Refusal)) → is_source n.kind ≡ false → node_faults (n ∷ nodes) faults ≡ None ∷ node_faults nodes faults
+pub faults_other : (n : PlanNode) (nodes : List PlanNode) (faults : List (Option Refusal)) → is_source n.kind ≡ false → node_faults (n ∷ nodes) faults ≡ None ∷ node_faults nodes faults
 faults_other n nodes [] isnt = refl
 faults_other n nodes (f ∷ faults) isnt = ap {B = List (Option Refusal)} (λ (b : Bool). if b then f ∷ node_faults nodes faults else None ∷ node_faults nodes (f ∷ faults)) isnt
 

@@ -2,7 +2,6 @@
 use Rattle.std.proofs.Common.{◌≡◌, ℕ, zero, suc, ◌+◌, ◌<◌, ◌≤◌, List, [], ◌∷◌, ◌++◌, Bool, true, false, cond, length, map, take, drop, get_or, refl, ap, sym, ◌∙◌, subst, arith}
 use Rattle.std.specs.Prelude.{Option, Err, min, if◌then◌else◌}
 use Rattle.std.specs.List.{All}
-use Rattle.std.proofs.lemmas.List.Sums.{sum_by-cons}
 use Rattle.std.proofs.lemmas.List.{map-append, length-map}
 use Rattle.cedr_io.specs.Counts.{Counts, count_sum, last_count}
 use Rattle.cedr_io.specs.declared.fault.OutsideFault.{OutsideFault}
@@ -12,8 +11,9 @@ use Rattle.cedr_query.specs.Queries.{source_count}
 use Rattle.cedr_serial.specs.Sources.{AsksFirst, file_of, files_of, source_files}
 use Rattle.cedr_serial.proofs.SourceLemmas.{asks_on, files_more}
 use Rattle.cedr_source.specs.declared.fault.SourceFault.TheVariants as source_fault
-use Rattle.op_planned.specs.Ready.{is_source}
+use Rattle.op_node.specs.Ready.{is_source}
 use Rattle.cedr_answer.specs.Finds.{AreFound, count_with}
+use Rattle.cedr_crew.proofs.CountLemmas.{count_more}
 
 -- a list around one of its elements
 split_at : {X : Type 0} (xs : List X) (k : ℕ) (d : X) → k < length xs → xs ≡ take k xs ++ get_or xs k d ∷ drop (suc k) xs
@@ -46,10 +46,6 @@ found_more rest content content' nodes k n old new within here same found more =
     ∙ ap (map content) (sym (files_more nodes k n within here)))))
 
 -- ---- how many
-
--- one node more, which counts where it is a source
-pub count_more : (n : PlanNode) (nodes : List PlanNode) → source_count (n ∷ nodes) ≡ cond {A = ℕ} (is_source n.kind) 1 0 + source_count nodes
-count_more n nodes = sum_by-cons (λ (x : PlanNode). cond {A = ℕ} (is_source x.kind) 1 0) n nodes
 
 -- as many files as sources
 file_count : (nodes : List PlanNode) → length (source_files nodes) ≡ source_count nodes

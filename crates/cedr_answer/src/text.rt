@@ -1,49 +1,25 @@
-ghost use Rattle.std.specs.Prelude.{ℕ, ◌≡◌, ◌<◌, ◌++◌, [], List, map, length, IfOk, OnOk};
+ghost use Rattle.std.specs.Prelude.{◌≡◌, ◌<◌, ◌++◌, List, map, length, IfOk, OnOk};
 ghost use Rattle.std.specs.List.{All};
 ghost use Rattle.cedr_base.specs.declared.change.Message.{Message};
 ghost use Rattle.cedr_base.specs.declared.row.Row.{Row};
-ghost use Rattle.cedr_base.specs.Changes.{MayFollow};
 ghost use Rattle.cedr_base.specs.Messages.{IsLegal, IsTableOf, changes_of};
 ghost use Rattle.cedr_base.specs.Rows.{in_order};
 ghost use Rattle.cedr_crew.specs.declared.forgotten.PortForgotten.{PortForgotten};
 ghost use Rattle.cedr_crew.specs.Forgettings.{nodes_told, told as as_told};
 ghost use Rattle.cedr_laws.specs.declared.forgotten.Forgotten.{Forgotten};
-ghost use Rattle.cedr_serial.specs.Answers.{answer_text, cause_text, forgotten_line, port_text, tail_text};
+ghost use Rattle.cedr_serial.specs.Answers.{answer_text, tail_text};
 ghost use Rattle.cedr_serial.specs.Queries.{changes_text};
-ghost use Rattle.cedr_stream.specs.Repairs.{AreLegal, IsMoved, Leads};
 ghost use Rattle.cedr_answer.specs.Reports.{told_text};
 
-use cedr_base::{Change, OutOfMemory, Row, Text};
+use cedr_base::{Change, OutOfMemory, Row};
 use cedr_crew::PortForgotten;
-use cedr_laws::{Cause, Forgotten};
+use cedr_laws::Forgotten;
 use cedr_plan::PlanNode;
-use cedr_table::{Table, TableFault};
-use cedr_text::{write_change, write_forgotten, write_rows};
+use cedr_query::apply_all;
+use cedr_serial::write_port;
+use cedr_table::Table;
+use cedr_text::{write_change, write_rows};
 use std::alloc::Global;
-
-/// Applies a change that may follow in a table.
-fn apply_one(alloc: Global, table: &mut Table, change: &Change) -> Result<(), OutOfMemory>
-    requires { MayFollow table.old [] change.now }
-    ensures { OnOk result (IsMoved change.now table.old table.new) }
-{
-    let copied = change.copy(alloc)?;
-    match table.apply(copied) {
-        Ok(()) => Ok(()),
-        Err(TableFault::OutOfMemory) => Err(OutOfMemory),
-        Err(TableFault::NoSuchRow) => unreachable!(),
-    }
-}
-
-/// Applies changes that are legal from a table on.
-fn apply_all(alloc: Global, table: &mut Table, changes: &[Change]) -> Result<(), OutOfMemory>
-    requires { AreLegal table.old [] changes.now }
-    ensures { OnOk result (Leads table.old changes.now table.new) }
-{
-    for change in changes {
-        apply_one(alloc, table, change)?;
-    }
-    Ok(())
-}
 
 /// The rows that the changes of a legal list lead to, in canonical order. O(n log n).
 pub fn rows_of(alloc: Global, changes: &[Change]) -> Result<Vec<Row>, OutOfMemory>
@@ -53,44 +29,6 @@ pub fn rows_of(alloc: Global, changes: &[Change]) -> Result<Vec<Row>, OutOfMemor
     let mut table = Table::new(alloc);
     apply_all(alloc, &mut table, changes)?;
     table.canonical()
-}
-
-fn cause_text(cause: &Cause) -> &'static str
-    ensures { result.now ≡ cause_text cause.now }
-{
-    match cause {
-        Cause::Late => "late",
-        Cause::Orphan => "orphan",
-    }
-}
-
-/// The line of a change that a port forgot.
-fn write_one(
-    name: &Text,
-    port: usize,
-    one: &Forgotten,
-    out: &mut Vec<u8>,
-) -> Result<(), OutOfMemory>
-    ensures { OnOk result (out.new.items ≡ out.old.items ++ forgotten_line name.now port one.now) }
-{
-    let cause = cause_text(&one.cause);
-    write_forgotten(name, port, cause, one.high, &one.change, out)?;
-    Ok(())
-}
-
-/// The lines of what a port forgot.
-fn write_port(
-    name: &Text,
-    port: usize,
-    forgotten: &[Forgotten],
-    out: &mut Vec<u8>,
-) -> Result<(), OutOfMemory>
-    ensures { OnOk result (out.new.items ≡ out.old.items ++ port_text name.now port forgotten.now) }
-{
-    for one in forgotten {
-        write_one(name, port, one, out)?;
-    }
-    Ok(())
 }
 
 /// The lines of what all ports forgot, in the order in which the ports are listed.

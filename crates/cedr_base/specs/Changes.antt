@@ -11,6 +11,11 @@ abbrev pub sync_of : Change → ℕ
 sync_of (Add r) = r.begin
 sync_of (Cut r e) = e
 
+-- the row that a change adds or cuts
+abbrev pub changed_row : Change → Row
+changed_row (Add r) = r
+changed_row (Cut r e) = r
+
 -- a retraction shortens a row, and never to before its begin
 abbrev pub IsChange : Change → Type 0
 IsChange (Add r) = IsRow r

@@ -1,6 +1,6 @@
 ghost use Rattle.std.specs.Prelude.{◌≡◌, ◌≤◌, ◌<◌, ◌⊎◌, IfOk, OnErr};
 ghost use Rattle.cedr_base.specs.declared.change.Change.TheVariants as change;
-ghost use Rattle.cedr_base.specs.Changes.{sync_of};
+ghost use Rattle.cedr_base.specs.Changes.{sync_of, changed_row};
 
 use crate::memory::OutOfMemory;
 use crate::row::Row;
@@ -42,6 +42,16 @@ impl Change {
         match self {
             Change::Add(row) => row.begin,
             Change::Cut(_, end) => *end,
+        }
+    }
+
+    /// The row that is added or cut.
+    pub fn row(&self) -> &Row
+        ensures { result.now ≡ changed_row self.now }
+    {
+        match self {
+            Change::Add(row) => row,
+            Change::Cut(row, _) => row,
         }
     }
 

@@ -6,6 +6,7 @@
 
 mod change;
 mod field;
+mod interval;
 mod level;
 mod memory;
 mod payload;
@@ -15,6 +16,7 @@ mod time;
 
 pub use change::{BadCut, Change, Message};
 pub use field::{Field, FieldType};
+pub use interval::Interval;
 pub use level::Level;
 pub use memory::OutOfMemory;
 pub use payload::Payload;

@@ -119,7 +119,7 @@ fn a_cut_has_an_end_within_the_row(rt: HostRuntime) -> Result<(), Fail> {
         match Change::cut(row, end) {
             Ok(change) => {
                 assert!(rt; !refused, "end {end}");
-                assert_eq!(rt; change.sync(), end);
+                assert_eq!(rt; change.sync(), end, "end {end}");
             }
             Err(BadCut) => assert!(rt; refused, "end {end}"),
         }

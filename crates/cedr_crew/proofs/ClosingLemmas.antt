@@ -82,15 +82,6 @@ so_none rest faults [] none [] all = tt
 so_none rest faults [] none (r ∷ rs) all = absurd all
 so_none rest faults (e ∷ es) none roles all = absurd (cc none)
 
--- something is left of each worker
-pub count_left : {S R : Type 0} (rest : S → Option (List ℕ)) (faults : S → ℕ) (roles : List Role) (ws : List (Worker S R)) (es : List (Ended S R)) → AllWorkAs rest faults roles ws → AllEndAs rest faults roles es → length es ≡ length ws
-count_left rest faults [] [] [] works ends = refl
-count_left rest faults [] [] (e ∷ es) works ends = absurd ends
-count_left rest faults [] (w ∷ ws) es works ends = absurd works
-count_left rest faults (r ∷ rs) [] es works ends = absurd works
-count_left rest faults (r ∷ rs) (w ∷ ws) [] works ends = absurd ends
-count_left rest faults (r ∷ rs) (w ∷ ws) (e ∷ es) works ends = omega (arith, count_left rest faults rs ws es works.1 ends.1)
-
 -- ---- loops over a list
 
 -- at the end of a loop each element was yielded

@@ -1,5 +1,5 @@
 -- How many ends of sources are left.
-use Rattle.std.proofs.Common.{◌≡◌, ℕ, ◌+◌, List, [], ◌∷◌, Bool, true, false, cond, length, map, refl, ap, sym, arith, length-append}
+use Rattle.std.proofs.Common.{◌≡◌, ℕ, ◌+◌, List, [], ◌∷◌, Bool, cond, length, map, refl, ap, sym, arith, length-append}
 use Rattle.std.proofs.lemmas.List.Sums.{sum_by-cons}
 use Rattle.std.specs.Prelude.{Option}
 use Rattle.cedr_crew.specs.declared.ended.Ended.{Ended}
@@ -13,18 +13,14 @@ use Rattle.cedr_edge.specs.Ends.{OutEnd}
 use Rattle.cedr_laws.specs.Lists.{Lists}
 use Rattle.cedr_plan.specs.declared.plan.NodeKind.{NodeKind}
 use Rattle.cedr_plan.specs.declared.plan.NodeKind.TheVariants as kind
-use Rattle.cedr_query.specs.Queries.{is_output, source_count}
-use Rattle.op_planned.specs.Ready.{is_source}
+use Rattle.cedr_query.specs.Queries.{source_count}
+use Rattle.op_node.specs.Ready.{is_source}
 use Rattle.cedr_plan.specs.declared.plan.PlanNode.{PlanNode}
+use Rattle.cedr_crew.proofs.MakeLemmas.{output_no_source}
 
 -- one node more, which counts where it is a source
 pub count_more : (n : PlanNode) (nodes : List PlanNode) → source_count (n ∷ nodes) ≡ cond {A = ℕ} (is_source n.kind) 1 0 + source_count nodes
 count_more n nodes = sum_by-cons (λ (x : PlanNode). cond {A = ℕ} (is_source x.kind) 1 0) n nodes
-
--- an output is no source
-output_no_source : (k : NodeKind) → is_output k ≡ true → is_source k ≡ false
-output_no_source kind.Output is = refl
-output_no_source other is = absurd (cc is)
 
 -- one end is left of a source, and none of any other node
 part_count : {S R : Type 0} (rest : S → Option (List ℕ)) (faults : S → ℕ) (role : Role) (lists : Lists) (putters : List OutEnd) (left : Part S R) → PartEndsAs rest faults role lists putters left → length (source_left left) ≡ cond {A = ℕ} (is_source role.node.kind) 1 0

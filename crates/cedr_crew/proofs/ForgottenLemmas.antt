@@ -56,12 +56,6 @@ node_told place xs ls before all so_far list more within =
     let here = ap (λ (p : ℕ). nodes_told 0 (take place xs) ++ ports_told p 0 (get_or xs place [])) at ∙ ap (λ (ks : List (List Forgotten)). nodes_told 0 (take place xs) ++ ports_told place 0 ks) list in
     more ∙ (ap (λ (ts : List Told). ts ++ ports_told place 0 ls) so_far ∙ (sym here ∙ (sym (nodes_more 0 place xs within) ∙ ap (λ (k : ℕ). nodes_told 0 (take k xs)) next)))
 
--- there is a list of what its ports forgot for each node
-pub forgot_count : (nodes : List PlanNode) (ports : List Lists) → length (forgot_in nodes ports) ≡ length nodes
-forgot_count [] ports = refl
-forgot_count (n ∷ nodes) [] = omega (arith, forgot_count nodes [])
-forgot_count (n ∷ nodes) (p ∷ ports) = omega (arith, forgot_count nodes ports)
-
 -- and that of the node at a place is what its ports forgot
 pub forgot_at : (nodes : List PlanNode) (ports : List Lists) (place : ℕ) (n : PlanNode) → place < length nodes → n ≡ get_or nodes place n → get_or (forgot_in nodes ports) place [] ≡ forgot_on n (lists_at ports place)
 forgot_at [] ports place n within is = absurd (omega (arith, within))

@@ -23,14 +23,15 @@ use Rattle.cedr_worker.specs.declared.source.SourceEnd.{SourceEnd}
 use Rattle.cedr_worker.specs.Outputs.{passed_by}
 use Rattle.cedr_worker.specs.Sources.{SourceEnds}
 use Rattle.cedr_worker.specs.Stops.{last_at}
-use Rattle.op_planned.specs.Meanings.{meaning_of, port_levels}
-use Rattle.op_planned.specs.MeaningLaws.{alike}
-use Rattle.op_planned.specs.Ready.{is_source}
+use Rattle.op_node.specs.Meanings.{meaning_of, port_levels}
+use Rattle.op_node.proofs.ReadyMeanings.{alike}
+use Rattle.op_node.specs.Ready.{is_source}
 use Rattle.cedr_crew.specs.declared.ended.Part.{Part}
 use Rattle.cedr_crew.specs.declared.ended.Part.TheVariants as part
 use Rattle.cedr_crew.specs.Ends.{OperatorEndsAs, PartEndsAs}
 use Rattle.cedr_crew.specs.Roles.{Role}
 use Rattle.cedr_crew.specs.Wents.{LostWent, part_lacked, source_left}
+use Rattle.cedr_crew.proofs.MakeLemmas.{output_no_source}
 
 -- what is left of the source of a node says what it gave
 pub record SourceGave {S : Type 0} (rest : S → Option (List ℕ)) (faults : S → ℕ) (node : PlanNode) (content : Option (List ℕ)) (count : ℕ) (end : SourceEnd S) (given : List Message) : Type 0 where
@@ -54,11 +55,6 @@ pub record Gave {S R : Type 0} (rest : S → Option (List ℕ)) (faults : S → 
   pub sound : is_source role.node.kind ≡ false → part_lacked left ≡ false → IsLawful (meaning_of role.node) (port_levels role.node) lists given
   pub lost : is_source role.node.kind ≡ false → is_output role.node.kind ≡ false → part_lacked left ≡ true → LostWent role.node lists given
   pub passed : is_output role.node.kind ≡ true → given ≡ pass role.node.level (list_at lists 0)
-
--- an output is no source
-output_source : (k : NodeKind) → is_output k ≡ true → is_source k ≡ false
-output_source kind.Output e = refl
-output_source k e = cc
 
 -- what is lawful as the copy of a node is lawful as the node
 as_made : (made n : PlanNode) (lists : Lists) (given : List Message) → node_of made ≡ node_of n → IsLawful (meaning_of made) (port_levels made) lists given → IsLawful (meaning_of n) (port_levels n) lists given
@@ -104,13 +100,13 @@ gave rest faults role lists putters (part.Source end) is = record {
   other = λ source. absurd (cc (source, is.kind));
   sound = λ source found. absurd (cc (source, is.kind));
   lost = λ source output lacked. absurd (cc (source, is.kind));
-  passed = λ output. absurd (cc (is.kind, output_source role.node.kind output));
+  passed = λ output. absurd (cc (is.kind, output_no_source role.node.kind output));
 }
 gave rest faults role lists putters (part.Operator node lacked) is = operator_gave rest faults role lists putters node lacked is
 gave rest faults role lists putters (part.Output node lacked held) is = record {
   given = passed_by node (list_at lists 0);
   sent = subst (λ ends. All (λ (e : OutEnd). e.sent ≡ passed_by node (list_at lists 0)) ends) (sym is.nobody) (All-nil (λ (e : OutEnd). e.sent ≡ passed_by node (list_at lists 0)));
-  source = λ source. absurd (cc (source, output_source role.node.kind is.output));
+  source = λ source. absurd (cc (source, output_no_source role.node.kind is.output));
   other = λ source. refl;
   sound = λ source found. node_lawful node role.node lists (passed_by node (list_at lists 0)) is.made (is.stands found);
   lost = λ source output lacked. absurd (cc (output, is.output));

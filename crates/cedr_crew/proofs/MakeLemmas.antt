@@ -15,7 +15,7 @@ use Rattle.cedr_plan.specs.declared.plan.PlanNode.{PlanNode}
 use Rattle.cedr_query.specs.Queries.{is_output, source_count}
 use Rattle.cedr_query.proofs.PlaceLemmas.{output_alike}
 use Rattle.cedr_wires.specs.Wires.{AreWired}
-use Rattle.op_planned.specs.Ready.{is_source, IsReady}
+use Rattle.op_node.specs.Ready.{is_source, IsReady}
 use Rattle.cedr_crew.specs.declared.held.HeldWriter.{HeldWriter}
 use Rattle.cedr_crew.specs.declared.worker.Worker.{Worker}
 use Rattle.cedr_crew.specs.Crews.{IsCrew, content_in, count_in, source_roles}

@@ -9,8 +9,8 @@ use Rattle.std.proofs.lemmas.List.Folds.{list_any-append, list_any_none}
 use Rattle.atomic_table.specs.Seated.{TableId}
 use Rattle.cedr_edge.specs.Ends.{InEnd, OutEnd}
 use Rattle.cedr_node.proofs.LevelLemmas.{within_memory}
-use Rattle.cedr_plan.specs.Drawn.{Node, node_of, kind_of, is_output as is_drawn_output}
-use Rattle.cedr_plan.specs.Operators.{row_of}
+use Rattle.cedr_plan.specs.Drawn.{Node, node_of, is_output as is_drawn_output}
+use Rattle.cedr_plan.specs.Operators.{operator_row}
 use Rattle.cedr_plan.specs.Rules.{IsInput, IsPlan, AreNodes, first_unused, is_read, operator_of_kind}
 use Rattle.cedr_plan.specs.declared.plan.NodeKind.{NodeKind}
 use Rattle.cedr_plan.specs.declared.plan.NodeKind.TheVariants as kind
@@ -20,8 +20,8 @@ use Rattle.cedr_query.specs.Queries.{is_output}
 use Rattle.cedr_query.proofs.PlaceLemmas.{output_alike}
 use Rattle.cedr_runs.proofs.PlanNodes.{node_stands}
 use Rattle.cedr_wires.specs.Wires.{froms, port_count, new_in, new_out, in_edge, out_edge, all_ends, edges_from, puts_at, AreWired, AreNew}
-use Rattle.op_planned.specs.Ready.{is_source}
-use Rattle.op_planned.specs.ReadyLaws.{node_ready}
+use Rattle.op_node.specs.Ready.{is_source}
+use Rattle.op_node.specs.ReadyLaws.{node_ready}
 use Rattle.cedr_crew.specs.Making.{CanWork, AllCanWork}
 
 -- a node is among these places
@@ -141,7 +141,7 @@ edge_count (n ∷ nodes) (t ∷ ts) is =
 -- ---- a node and its ends
 
 -- a source has no port
-portless : (k : NodeKind) (ports : ℕ) → is_source k ≡ true → ports ≤ (row_of (operator_of_kind (kind_of k))).most → ports ≡ 0
+portless : (k : NodeKind) (ports : ℕ) → is_source k ≡ true → ports ≤ (operator_row (operator_of_kind k)).most → ports ≡ 0
 portless (kind.Source file) ports is most = omega (arith, most)
 portless other ports is most = absurd (cc is)
 

@@ -22,7 +22,7 @@ use Rattle.cedr_plan.specs.declared.plan.PlanNode.{PlanNode}
 use Rattle.cedr_query.specs.Queries.{is_output}
 use Rattle.cedr_runs.specs.Runs.{lists_at}
 use Rattle.cedr_wires.specs.Wires.{taken_of}
-use Rattle.op_planned.specs.Ready.{is_source}
+use Rattle.op_node.specs.Ready.{is_source}
 use Rattle.cedr_crew.specs.declared.ended.Ended.{Ended}
 use Rattle.cedr_crew.specs.declared.ended.Part.{Part}
 use Rattle.cedr_crew.specs.declared.ended.Part.TheVariants as part

@@ -1,8 +1,8 @@
 -- What the workers of a plan gave together, node by node.
-use Rattle.std.proofs.Common.{◌≡◌, ℕ, zero, suc, ◌+◌, ◌-◌, ◌<◌, ◌++◌, Bool, true, false, cond, List, [], ◌∷◌, Option, length, map, take, drop, slice_index_or, nat_eq, if◌then◌else◌, refl, sym, ap, ◌∙◌, subst, arith}
+use Rattle.std.proofs.Common.{◌≡◌, ℕ, zero, suc, ◌+◌, ◌-◌, ◌<◌, ◌++◌, Bool, true, false, cond, List, [], ◌∷◌, Option, length, map, slice_index_or, nat_eq, if◌then◌else◌, refl, sym, ap, ◌∙◌, subst, arith}
 use Rattle.std.specs.List.{All}
 use Rattle.std.proofs.lemmas.Bool.{ne_eqb}
-use Rattle.std.proofs.lemmas.List.{length-map, map-append, get_or-append-add}
+use Rattle.std.proofs.lemmas.List.{get_or-append-add}
 use Rattle.std.proofs.lemmas.List.Elements.{All-nil}
 use Rattle.std.proofs.lemmas.List.Sums.{sum_by-cons}
 use Rattle.std.proofs.Math.ListN.{get_or-map}
@@ -17,10 +17,10 @@ use Rattle.cedr_query.specs.Queries.{is_output, source_count}
 use Rattle.cedr_runs.specs.Runs.{IsRun, lists_at, input_lists, sources_in}
 use Rattle.cedr_runs.proofs.Partial.{source_at}
 use Rattle.cedr_runs.proofs.PlanNodes.{place_within}
-use Rattle.cedr_wires.specs.Wires.{AreClosed, AreSent, AreWired, carried, froms, port_count, ports_of, taken_of}
+use Rattle.cedr_wires.specs.Wires.{AreClosed, AreSent, AreWired, carried, froms, ports_of, taken_of}
 use Rattle.cedr_worker.specs.declared.source.SourceEnd.{SourceEnd}
-use Rattle.op_planned.specs.Meanings.{meaning_of, port_levels}
-use Rattle.op_planned.specs.Ready.{is_source}
+use Rattle.op_node.specs.Meanings.{meaning_of, port_levels}
+use Rattle.op_node.specs.Ready.{is_source}
 use Rattle.cedr_crew.specs.declared.ended.Ended.{Ended}
 use Rattle.cedr_crew.specs.declared.ended.Part.{Part}
 use Rattle.cedr_crew.specs.Crews.{AreRoles, content_in, count_in, node_in, source_roles}
@@ -29,6 +29,7 @@ use Rattle.cedr_crew.specs.Roles.{Role}
 use Rattle.cedr_crew.specs.Wents.{LostWent, SourceWent, Went, lacked_at, part_lacked, putters_left, source_left, sources_left, takers_left}
 use Rattle.cedr_crew.proofs.GaveLemmas.{Gave, SourceGave, gave}
 use Rattle.cedr_crew.proofs.LeftLemmas.{ports_left}
+use Rattle.cedr_wires.proofs.RunLemmas.{given_ports}
 
 -- ---- the worker at a place
 
@@ -153,26 +154,6 @@ all_gave rest faults (r ∷ rs) (e ∷ es) are =
     at first later (b ∷ bs) after n is = later_gave rest faults r rs e es b bs n later.given (cc is) first (later.each bs after n (cc is))
 
 -- ---- what went over the edges
-
--- the first elements of joined lists are those of the first
-take_all : {A : Type 0} (xs ys : List A) → take (length xs) (xs ++ ys) ≡ xs
-take_all [] ys = refl
-take_all (x ∷ xs) ys = ap (λ zs. x ∷ zs) (take_all xs ys)
-
--- the others are those of the second
-drop_all : {A : Type 0} (xs ys : List A) → drop (length xs) (xs ++ ys) ≡ ys
-drop_all [] ys = refl
-drop_all (x ∷ xs) ys = drop_all xs ys
-
--- the lists of the nodes that the edges come from are the input lists of each node
-given_ports : (given : Lists) (nodes : List PlanNode) → ports_of nodes (map (list_at given) (froms nodes)) ≡ map (input_lists given) nodes
-given_ports given [] = refl
-given_ports given (n ∷ nodes) =
-    let count : length (input_lists given n) ≡ port_count n = length-map n.inputs.items (list_at given) in
-    let rest = map (list_at given) (froms nodes) in
-    ap (ports_of (n ∷ nodes)) (map-append (list_at given) n.inputs.items (froms nodes))
-    ∙ (subst (λ (k : ℕ). take k (input_lists given n ++ rest) ∷ ports_of nodes (drop k (input_lists given n ++ rest)) ≡ input_lists given n ∷ ports_of nodes rest) count (cc (take_all (input_lists given n) rest, drop_all (input_lists given n) rest))
-    ∙ ap (λ ls. input_lists given n ∷ ls) (given_ports given nodes))
 
 -- the lists that a node reads stand at its place
 inputs_at : (given : Lists) (before after : List PlanNode) (n : PlanNode) → lists_at (map (input_lists given) (before ++ n ∷ after)) (length before) ≡ input_lists given n

@@ -8,7 +8,7 @@ use Rattle.cedr_history.specs.Ends.{Reads}
 use Rattle.cedr_history.specs.Lists.{nothing}
 use Rattle.cedr_plan.specs.declared.plan.PlanNode.{PlanNode}
 use Rattle.cedr_wires.specs.Wires.{in_edge, out_edge, AreWired}
-use Rattle.op_planned.specs.Ready.{is_source}
+use Rattle.op_node.specs.Ready.{is_source}
 use Rattle.cedr_crew.specs.declared.worker.Worker.{Worker}
 use Rattle.cedr_crew.specs.Roles.{Role, AllWorkAs}
 

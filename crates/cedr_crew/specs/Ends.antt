@@ -18,7 +18,7 @@ use Rattle.cedr_worker.specs.Operators.{LostEnd, SoundEnd}
 use Rattle.cedr_worker.specs.Outputs.{IsBeginning, output_list, passed_by}
 use Rattle.cedr_worker.specs.Sources.{SourceEnds}
 use Rattle.cedr_worker.specs.Stops.{last_at}
-use Rattle.op_planned.specs.Ready.{is_source}
+use Rattle.op_node.specs.Ready.{is_source}
 use Rattle.cedr_crew.specs.declared.ended.Ended.{Ended}
 use Rattle.cedr_crew.specs.declared.ended.Part.{Part}
 use Rattle.cedr_crew.specs.declared.ended.Part.TheVariants as part

@@ -11,7 +11,7 @@ use Rattle.cedr_plan.specs.declared.plan.PlanNode.{PlanNode}
 use Rattle.cedr_query.specs.Queries.{is_output}
 use Rattle.cedr_text.specs.declared.event_line.Shape.{Shape}
 use Rattle.cedr_wires.specs.Wires.{in_edge, out_edge}
-use Rattle.op_planned.specs.Ready.{is_source, IsReady}
+use Rattle.op_node.specs.Ready.{is_source, IsReady}
 use Rattle.cedr_crew.specs.declared.held.HeldWriter.{HeldWriter}
 use Rattle.cedr_crew.specs.declared.worker.Worker.{Worker}
 use Rattle.cedr_crew.specs.declared.worker.Worker.TheVariants as worker

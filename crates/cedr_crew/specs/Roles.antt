@@ -16,7 +16,7 @@ use Rattle.cedr_worker.specs.Inputs.{input_edge}
 use Rattle.cedr_worker.specs.OutputTurns.{HasEnded as OutputEnded, OutputWorks}
 use Rattle.cedr_worker.specs.Sources.{SourceWorks}
 use Rattle.cedr_worker.specs.Workers.{IsWorking}
-use Rattle.op_planned.specs.Ready.{is_source}
+use Rattle.op_node.specs.Ready.{is_source}
 use Rattle.cedr_crew.specs.declared.held.Held.{Held}
 use Rattle.cedr_crew.specs.declared.worker.Worker.{Worker}
 use Rattle.cedr_crew.specs.declared.worker.Worker.TheVariants as worker

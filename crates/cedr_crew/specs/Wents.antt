@@ -19,8 +19,8 @@ use Rattle.cedr_worker.specs.declared.source.SourceEnd.{SourceEnd}
 use Rattle.cedr_worker.specs.Sources.{SourceEnds}
 use Rattle.cedr_worker.specs.declared.stop.SourceStop.TheVariants as stop
 use Rattle.cedr_worker.specs.Stops.{last_at}
-use Rattle.op_planned.specs.Meanings.{meaning_of, port_levels}
-use Rattle.op_planned.specs.Ready.{is_source}
+use Rattle.op_node.specs.Meanings.{meaning_of, port_levels}
+use Rattle.op_node.specs.Ready.{is_source}
 use Rattle.cedr_crew.specs.declared.ended.Ended.{Ended}
 use Rattle.cedr_crew.specs.declared.ended.Part.{Part}
 use Rattle.cedr_crew.specs.declared.ended.Part.TheVariants as part

@@ -152,7 +152,8 @@ pub fn finish_each<S: Source + Drop, R: Wait + Drop>(
     requires works { (roles : List Role) × AllWorkAs S.rest S.faults roles workers.items }
     requires ended { All HasEnded workers.items }
     requires room { (room.items ≡ []) × (length workers.items ≤ vec_capacity room) }
-    ensures { (roles : List Role) → AllWorkAs S.rest S.faults roles workers.items → AllEndAs S.rest S.faults roles result.items }
+    ensures left { (roles : List Role) → AllWorkAs S.rest S.faults roles workers.items → AllEndAs S.rest S.faults roles result.items }
+    ensures count { length result.items ≡ length workers.items }
 {
     let mut ends = room;
     for worker in workers {

@@ -8,7 +8,7 @@ ghost use Rattle.cedr_query.specs.Queries.{is_output, source_count};
 ghost use Rattle.cedr_text.specs.declared.event_line.Shape.{Shape};
 ghost use Rattle.cedr_text.specs.declared.event_line.Shape.TheVariants.{AnyText};
 ghost use Rattle.cedr_wires.specs.Wires.{AreNew, AreWired, froms};
-ghost use Rattle.op_planned.specs.Ready.{is_source};
+ghost use Rattle.op_node.specs.Ready.{is_source};
 ghost use Rattle.cedr_crew.specs.declared.worker.Worker.{Worker};
 ghost use Rattle.cedr_crew.specs.Crews.{IsCrew};
 ghost use Rattle.cedr_crew.specs.Making.{AllCanWork, AreMade, Awaits, CanWork, HasWriter, IsMade, IsNewWriter, role_for, source_in, sources_of};

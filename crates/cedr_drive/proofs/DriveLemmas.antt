@@ -2,7 +2,7 @@
 use Rattle.std.proofs.Common.{◌≡◌, ℕ, ◌<◌, ◌≤◌, ◌⊎◌, inl, inr, zero, suc, List, [], ◌∷◌, ◌++◌, Bool, true, false, cond, refl, ap, sym, ◌∙◌, subst, arith, length, max, set, append_assoc, take, drop, get_or}
 use Rattle.std.specs.Prelude.{map, nat_lt, replicate}
 use Rattle.std.proofs.lemmas.Bool.{cases_lt, ltb-true, ltb-false}
-use Rattle.std.proofs.lemmas.List.{append-nil, map-append, length-take, take-append-le, take-append-drop}
+use Rattle.std.proofs.lemmas.List.{append-nil, length-take, take-append-le, take-append-drop}
 use Rattle.cedr_base.specs.declared.time.TheConstants.{FOREVER}
 use Rattle.cedr_base.specs.declared.row.Row.{Row}
 use Rattle.cedr_base.specs.declared.change.Change.{Change}
@@ -12,8 +12,8 @@ use Rattle.cedr_base.specs.declared.change.Message.TheVariants as message
 use Rattle.cedr_base.specs.Rows.{count_of, SameRows}
 use Rattle.cedr_base.specs.Changes.{puts, takes, all_puts, all_takes, count_after, MayFollow}
 use Rattle.cedr_base.specs.Messages.{changes_of, mark_of, IsOpen, IsTableOf, MayCome, IsLegal, IsLegalBehind}
-use Rattle.cedr_base.proofs.Bags.{count_of-append, one_if_same_exact}
-use Rattle.cedr_stream.specs.Repairs.{AreLegal, AllFrom, Repair, wrapped}
+use Rattle.cedr_base.proofs.Bags.{count_of-append}
+use Rattle.cedr_stream.specs.Repairs.{AreLegal, Repair, wrapped}
 use Rattle.cedr_stream.proofs.BagSums.{same_itself, same_back}
 use Rattle.cedr_stream.proofs.Moves.{applied, applied_moves}
 use Rattle.cedr_stream.proofs.RepairLemmas.{takes-append, puts-append}
@@ -22,18 +22,10 @@ use Rattle.cedr_table.specs.Operators.{Tables, Meaning, table_at, mark_at, with_
 use Rattle.cedr_table.specs.PortLaws.{rise_set, times_set}
 use Rattle.cedr_laws.specs.Lists.{Lists, list_at, with_more, AreTables, AreTablesOfPrefixes, IsReal, mark_above}
 use Rattle.cedr_drive.specs.Driving.{Works, Drives, MayTake, IsFed, Answers}
-
-in_one : (r x : Row) → 0 < count_of r (x ∷ []) → r ≡ x
-in_one r x there = one_if_same_exact r x (omega arith)
-
-takes-one : (r : Row) (c : Change) → count_of r (all_takes (c ∷ [])) ≡ count_of r (takes c)
-takes-one r c = omega (arith, count_of-append r (takes c) [])
-
-puts-one : (r : Row) (c : Change) → count_of r (all_puts (c ∷ [])) ≡ count_of r (puts c)
-puts-one r c = omega (arith, count_of-append r (puts c) [])
-
-wrapped-append : (cs ds : List Change) → wrapped (cs ++ ds) ≡ wrapped cs ++ wrapped ds
-wrapped-append cs ds = map-append (λ c. message.Change c) cs ds
+use Rattle.cedr_laws.proofs.Splits.{takes-one, puts-one, in_one}
+use Rattle.cedr_laws.proofs.Passes.{wrapped-append, from-weaker, table_alike}
+use Rattle.cedr_laws.proofs.Strong.{changes_marks}
+use Rattle.cedr_laws.proofs.ListLemmas.{at_more}
 
 -- there are as many tables as lists whose tables they are
 pub are_length : (ls : Lists) (ts : Tables) → AreTables ls ts → length ts ≡ length ls
@@ -128,12 +120,8 @@ put_is_there old new m cs r fix there = elim (cases_lt 0 (count_of r old)) [
   ]
 ]
 
-from_weaker : (t u : ℕ) (cs : List Change) → t ≤ u → AllFrom u cs → AllFrom t cs
-from_weaker t u [] h k = tt
-from_weaker t u (c ∷ cs) h k = (let e = k.0 in omega arith, from_weaker t u cs h k.1)
-
 repair_from : (old new : List Row) (t u : ℕ) (cs : List Change) → t ≤ u → Repair old new u cs → Repair old new t cs
-repair_from old new t u cs h fix = record { legal = fix.legal; leads = fix.leads; from = from_weaker t u cs h fix.from; between = fix.between }
+repair_from old new t u cs h fix = record { legal = fix.legal; leads = fix.leads; from = from-weaker t u cs h fix.from; between = fix.between }
 
 module _ (meaning : Meaning) (stands stands' : Tables → List ℕ → Type 0) (marks : List ℕ) (lists : Lists) (given : List Message) (port : ℕ) (w : Works meaning stands marks lists given) where
   pub can_take : (c : Change) → MayTake lists port (message.Change c) → CanTake w.tables marks port c
@@ -201,7 +189,7 @@ module _ (meaning : Meaning) (stands stands' : Tables → List ℕ → Type 0) (
         real = λ r there. real_grow meaning lists port (message.Mark t ∷ []) r (w.real r there);
       })
 
-  pub feed_close : (m : Message) → changes_of (m ∷ []) ≡ [] → mark_of (m ∷ []) ≡ 0 → stands' w.tables marks → Works meaning stands' marks (with_more lists port (m ∷ [])) (given ++ [])
+  feed_close : (m : Message) → changes_of (m ∷ []) ≡ [] → mark_of (m ∷ []) ≡ 0 → stands' w.tables marks → Works meaning stands' marks (with_more lists port (m ∷ [])) (given ++ [])
   feed_close m no_change no_mark op =
       let list = list_at lists port in
       let list_mark : mark_of (list_at lists port ++ m ∷ []) ≡ mark_of (list_at lists port) = omega (arith, mark-append list (m ∷ [])) in
@@ -217,6 +205,16 @@ module _ (meaning : Meaning) (stands stands' : Tables → List ℕ → Type 0) (
         mark = w.mark;
         real = λ r there. real_grow meaning lists port (m ∷ []) r (w.real r there);
       })
+
+  -- nothing is given for what closes a port
+  pub fed_close : (m : Message) (before : List Message) → changes_of (m ∷ []) ≡ [] → mark_of (m ∷ []) ≡ 0 → stands' w.tables marks → IsFed meaning stands' marks lists port (m ∷ []) given before before
+  fed_close m before no_change no_mark op = record {
+    gained = [];
+    appended = sym (append-nil before);
+    works = feed_close m no_change no_mark op;
+    no_mark = refl;
+    echo = λ e. sym (ap (λ (cs : List Change). wrapped cs) no_change);
+  }
 
 -- what stands before a list's end stands before that of each longer one
 pub kept_along : {X : Type 0} (xs ys zs : List X) → take (length xs) ys ≡ xs → take (length ys) zs ≡ ys → take (length xs) zs ≡ xs
@@ -234,12 +232,6 @@ pub with_more-none : (lists : Lists) (port : ℕ) → with_more lists port [] �
 with_more-none [] port = refl
 with_more-none (l ∷ ls) zero = ap (λ (ms : List Message). ms ∷ ls) (append-nil l)
 with_more-none (l ∷ ls) (suc k) = ap (λ (ms : Lists). l ∷ ms) (with_more-none ls k)
-
--- with more messages on a port its list goes on with them
-pub list_at-more : (lists : Lists) (port : ℕ) (xs : List Message) → port < length lists → list_at (with_more lists port xs) port ≡ list_at lists port ++ xs
-list_at-more [] port xs h = absurd (omega arith)
-list_at-more (l ∷ ls) zero xs h = refl
-list_at-more (l ∷ ls) (suc k) xs h = list_at-more ls k xs (omega arith)
 
 -- more messages on a port leave the number of lists as it is
 pub length-more : (lists : Lists) (port : ℕ) (xs : List Message) → length (with_more lists port xs) ≡ length lists
@@ -289,7 +281,7 @@ works_as meaning meaning' stands marks lists given same w = subst (λ (h : Meani
 may_take_at : (lists : Lists) (port : ℕ) (taken : List Message) (i : ℕ) (m : Message) → port < length lists → IsLegalBehind (list_at lists port) taken → i < length taken → get_or taken i m ≡ m → MayTake (with_more lists port (take i taken)) port m
 may_take_at lists port taken i m port_is legal within at = record {
   port_is = omega (arith, length-more lists port (take i taken));
-  comes = subst (λ (x : Message). MayCome (list_at (with_more lists port (take i taken)) port) x) at (subst (λ (bs : List Message). MayCome bs (get_or taken i m)) (sym (list_at-more lists port (take i taken) port_is)) (legal_at (list_at lists port) taken i m within legal));
+  comes = subst (λ (x : Message). MayCome (list_at (with_more lists port (take i taken)) port) x) at (subst (λ (bs : List Message). MayCome bs (get_or taken i m)) (sym (at_more lists port (take i taken) port_is)) (legal_at (list_at lists port) taken i m within legal));
 }
 
 -- the next message of a list that is legal may be taken after those before it
@@ -308,19 +300,6 @@ same_tables_back [] [] h = tt
 same_tables_back [] (u ∷ us) h = absurd h
 same_tables_back (t ∷ ts) [] h = absurd h
 same_tables_back (t ∷ ts) (u ∷ us) h = (same_back t u h.0, same_tables_back ts us h.1)
-
--- a list has each bag that is the same as its table
-pub table_alike : (given : List Message) (rows others : List Row) → SameRows others rows → IsTableOf given rows → IsTableOf given others
-table_alike given rows others same table = record {
-  sums = record {
-    each = λ r. omega (arith, table.sums.each r, same.each r, count_of-append r rows (all_takes (changes_of given)), count_of-append r others (all_takes (changes_of given)));
-  };
-}
-
--- a mark is no change
-changes_mark_at : (old t : ℕ) (b : Bool) → changes_of (cond b (message.Mark t ∷ []) []) ≡ []
-changes_mark_at old t true = refl
-changes_mark_at old t false = refl
 
 record IsMarked (given : List Message) (rows : List Row) (t : ℕ) : Type 0 where
   legal : IsLegal given
@@ -363,7 +342,7 @@ module _ (meaning : Meaning) (stands stands' : Tables → List ℕ → Type 0) (
       let no_change : changes_of (given ++ (f.gained ++ mark_above sent b)) ≡ changes_of (given ++ f.gained) =
       ap (λ (g : List Message). changes_of g) (sym seam)
       ∙ (changes-append (given ++ f.gained) (mark_above sent b)
-      ∙ (ap (λ (cs : List Change). changes_of (given ++ f.gained) ++ cs) (changes_mark_at sent b (nat_lt sent b)) ∙ append-nil (changes_of (given ++ f.gained)))) in
+      ∙ (ap (λ (cs : List Change). changes_of (given ++ f.gained) ++ cs) (changes_marks sent b (nat_lt sent b)) ∙ append-nil (changes_of (given ++ f.gained)))) in
       let works' : Works meaning stands' marks (with_more lists port taken) (given ++ (f.gained ++ mark_above sent b)) = record {
         tables = w.tables;
         are = w.are;

@@ -1,8 +1,9 @@
 -- Tags: numbers that are the same for a left and a right payload that pass tests together.
-use Rattle.std.specs.Prelude.{ℕ, ◌+◌, ◌*◌, ◌/◌, ◌%◌, List, [], ◌∷◌, length, unsigned_abs}
+use Rattle.std.specs.Prelude.{ℕ, ◌+◌, ◌*◌, ◌/◌, ◌%◌, List, [], ◌∷◌, length, unsigned_abs, nat_eq, if◌then◌else◌}
 use Rattle.cedr_base.specs.declared.field.Field.{Field}
 use Rattle.cedr_base.specs.declared.field.Field.TheVariants.{Number, Bytes}
 use Rattle.cedr_expr.specs.declared.side.Side.{Side}
+use Rattle.cedr_expr.specs.declared.side.Side.TheVariants.{Left, Right}
 use Rattle.cedr_expr.specs.declared.test.Test.{Test}
 use Rattle.cedr_expr.specs.Ties.{tied_fields}
 
@@ -28,3 +29,16 @@ fields_mixed h (f ∷ fs) = fields_mixed (field_mixed h f) fs
 -- the tag of one side's payload, from 1 to 2^62, where left payloads have this many fields
 abbrev pub tag_of : Side → ℕ → List Test → List Field → ℕ
 tag_of side width tests payload = fields_mixed 0 (tied_fields side width payload tests) / 4 + 1
+
+-- the tag of a left payload beside left payloads of this width, and 0 where it has another one
+abbrev pub left_tag : ℕ → List Test → List Field → ℕ
+left_tag width tests payload = if nat_eq (length payload) width then tag_of Left width tests payload else 0
+
+-- the tag of a right payload beside left payloads of this width
+abbrev pub right_tag : ℕ → List Test → List Field → ℕ
+right_tag width tests payload = tag_of Right width tests payload
+
+-- the tag of a payload on one side
+abbrev pub side_tag : Side → ℕ → List Test → List Field → ℕ
+side_tag Left width tests payload = left_tag width tests payload
+side_tag Right width tests payload = right_tag width tests payload

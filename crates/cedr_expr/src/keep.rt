@@ -35,6 +35,13 @@ impl Keep {
         }
     }
 
+    /// It takes no memory. O(1).
+    pub fn columns(&self) -> &[usize]
+        ensures { result.now ≡ self.now }
+    {
+        self.columns.as_slice()
+    }
+
     /// The payload's fields at the columns, and none for a column past the end. O(n) in what they hold.
     #[tactic(auto, using(crate::proofs::KeptLemmas::kept_more))]
     pub fn apply(&self, alloc: Global, payload: &Payload) -> Result<Payload, OutOfMemory>

@@ -1,6 +1,6 @@
 ghost use Rattle.std.specs.Prelude.{◌≡◌, IfOk};
 ghost use Rattle.std.specs.Result.{result_err};
-ghost use Rattle.cedr_expr.specs.Tags.{tag_of};
+ghost use Rattle.cedr_expr.specs.Tags.{side_tag, tag_of};
 ghost use Rattle.cedr_expr.specs.Tests.{passes};
 ghost use Rattle.cedr_expr.specs.Types.{sides_of, has_two_types, first_bad_column, first_differing, type_fault_of};
 
@@ -65,6 +65,23 @@ impl Tests {
         ensures { result ≡ tag_of side width self.now payload.now }
     {
         tag_by(self.as_slice(), side, width, payload.fields())
+    }
+
+    /// The tag of a payload beside left payloads of this many fields: 0 for a left payload of another number of them.
+    /// It takes no memory, and what `tag` costs.
+    pub fn side_tag(&self, side: Side, width: usize, payload: &Payload) -> u64
+        ensures { result ≡ side_tag side width self.now payload.now }
+    {
+        match side {
+            Side::Left => {
+                if payload.fields().len() == width {
+                    self.tag(Side::Left, width, payload)
+                } else {
+                    0
+                }
+            }
+            Side::Right => self.tag(Side::Right, width, payload),
+        }
     }
 
     /// The tests, in the order in which they were given. It takes no memory.

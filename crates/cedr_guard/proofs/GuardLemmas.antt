@@ -9,15 +9,15 @@ use Rattle.cedr_text.specs.declared.event_line.EventLine.{EventLine}
 use Rattle.cedr_text.specs.declared.event_line.EventLine.TheVariants.{Insert, Retract, Promise}
 use Rattle.cedr_text.specs.declared.fault.LineFault.{LineFault}
 use Rattle.cedr_text.specs.declared.fault.LineFault.TheVariants.{KnownId}
-use Rattle.cedr_guard.specs.declared.judge.Interval.{Interval}
+use Rattle.cedr_base.specs.declared.interval.Interval.{Interval}
 use Rattle.cedr_guard.specs.declared.judge.Retracted.{Retracted}
 use Rattle.cedr_guard.specs.declared.guard.Guard.{Guard}
-use Rattle.cedr_guard.specs.Judging.{guarantee_of, event_of, late_fault, retraction_fault, fault_behind, AreAccepted}
+use Rattle.cedr_guard.specs.Judging.{guarantee_of, event_of, guarantee_fault, retraction_fault, fault_behind, AreAccepted}
 use Rattle.cedr_text.specs.Reading.{IsEvent}
 use Rattle.cedr_guard.specs.History.{rows_among}
 use Rattle.cedr_guard.specs.Standing.{place_of, place_in, interval_of, payload_of, IsEventOf, StandsFor, Guards}
 use Rattle.cedr_guard.proofs.EventLemmas.{place_below}
-use Rattle.cedr_guard.proofs.StandingLemmas.{fault-insert, event_here, shorter}
+use Rattle.cedr_guard.proofs.StandingLemmas.{fault-insert, event_here, shorter, none_at}
 use Rattle.cedr_guard.proofs.ApartLemmas.{rows-insert, rows-retract, rows-promise}
 use Rattle.cedr_guard.proofs.SourceLemmas.{accepted-push}
 
@@ -36,15 +36,11 @@ unknown_at : (known : Bool) (late : Option LineFault) → cond known (Some Known
 unknown_at true late h = cc
 unknown_at false late h = refl
 
-none_at : (place : Option ℕ) → is_some place ≡ false → place ≡ None
-none_at None h = refl
-none_at (Some p) h = cc
-
 -- an insertion without a fault has a new id
 new_id : (guard : Guard) (before : List EventLine) (id : ℕ) (row : Row) → Guards guard before → fault_behind before (Insert id row) ≡ None → place_of id before ≡ None
 new_id guard before id row guards none =
     sym (guards.judge.places id)
-    ∙ none_at (place_in guard.judge.ids id) (unknown_at (is_some (place_in guard.judge.ids id)) (late_fault row.begin guard.judge.mark) (sym (fault-insert guard.judge before id row guards.judge) ∙ none))
+    ∙ none_at (place_in guard.judge.ids id) (unknown_at (is_some (place_in guard.judge.ids id)) (guarantee_fault row.begin guard.judge.mark) (sym (fault-insert guard.judge before id row guards.judge) ∙ none))
 
 -- a guard stands for one more insertion without a fault, where its judge does and it adds the payload
 pub guards-insert : (guard next : Guard) (before : List EventLine) (id : ℕ) (row : Row) → Guards guard before → IsEvent (Insert id row) → fault_behind before (Insert id row) ≡ None

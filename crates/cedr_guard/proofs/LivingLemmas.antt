@@ -1,51 +1,29 @@
 -- Bags of rows that live, where one row more comes or one ends earlier.
-use Rattle.std.proofs.Common.{◌≡◌, ℕ, zero, suc, ◌+◌, ◌<◌, List, [], ◌∷◌, ◌++◌, Bool, true, false, cond, length, get_or, filter, refl, ap, ◌∙◌, arith}
+use Rattle.std.proofs.Common.{◌≡◌, ℕ, zero, suc, ◌+◌, ◌<◌, List, [], ◌∷◌, ◌++◌, Bool, true, false, cond, length, get_or, filter, ap, sym, ◌∙◌, arith}
 use Rattle.std.specs.Prelude.{nat_lt}
 use Rattle.std.specs.List.{flat_map}
-use Rattle.std.specs.Ordering.{is_eq, is_le}
 use Rattle.std.proofs.lemmas.Bool.{lt-ltb}
-use Rattle.std.proofs.lemmas.Cmp.{tied_itself}
 use Rattle.std.proofs.lemmas.Grind.{flat_map-append}
 use Rattle.std.proofs.lemmas.List.{append-nil}
 use Rattle.std.proofs.lemmas.List.Elements.{filter-append}
-use Rattle.std.proofs.lemmas.List.Sums.{sum_by-cons, sum_by-append}
 use Rattle.cedr_base.specs.declared.row.Row.{Row}
-use Rattle.cedr_base.specs.RowLaws.{row_total}
-use Rattle.cedr_base.specs.Rows.{row_cmp, same_row, one_if_same, count_of, put_in_order, in_order}
+use Rattle.cedr_base.specs.Rows.{one_if_same, count_of, in_order}
 use Rattle.cedr_base.specs.Changes.{remnant}
 use Rattle.cedr_guard.specs.History.{lives}
 use Rattle.cedr_guard.proofs.EventLemmas.{cut_at}
+use Rattle.cedr_base.proofs.Bags.{count_of-append, count_of-cons, one_of_itself}
+use Rattle.cedr_base.proofs.Sorting.{in_order_counts}
 
 -- ---- counts
-
-one_of_itself : (r : Row) → one_if_same r r ≡ 1
-unfolding same_row
-one_of_itself r = ap {B = ℕ} (λ o. cond (is_eq o) 1 0) (tied_itself row_total r)
-
-count_of-cons : (r x : Row) (xs : List Row) → count_of r (x ∷ xs) ≡ one_if_same r x + count_of r xs
-count_of-cons r x xs = sum_by-cons (one_if_same r) x xs
-
--- copies add up
-pub count_of-append : (r : Row) (xs ys : List Row) → count_of r (xs ++ ys) ≡ count_of r xs + count_of r ys
-count_of-append r xs ys = sum_by-append (one_if_same r) xs ys
 
 -- what one more change puts in or takes out is added
 pub count_of-push : {X : Type 0} (r : Row) (f : X → List Row) (xs : List X) (x : X) → count_of r (flat_map f (xs ++ x ∷ [])) ≡ count_of r (flat_map f xs) + count_of r (f x)
 count_of-push r f xs x =
     ap (count_of r) (flat_map-append f xs (x ∷ []) ∙ ap (λ rows. flat_map f xs ++ rows) (append-nil (f x))) ∙ count_of-append r (flat_map f xs) (f x)
 
-put_count_at : (r x y : Row) (ys zs : List Row) (b : Bool) → count_of r zs ≡ one_if_same r x + count_of r ys → count_of r (cond b (x ∷ y ∷ ys) (y ∷ zs)) ≡ one_if_same r x + count_of r (y ∷ ys)
-put_count_at r x y ys zs true h = count_of-cons r x (y ∷ ys)
-put_count_at r x y ys zs false h = omega (arith, h, count_of-cons r y zs, count_of-cons r y ys)
-
-put_count : (r x : Row) (xs : List Row) → count_of r (put_in_order x xs) ≡ one_if_same r x + count_of r xs
-put_count r x [] = omega arith
-put_count r x (y ∷ ys) = put_count_at r x y ys (put_in_order x ys) (is_le (row_cmp x y)) (put_count r x ys)
-
 -- the canonical order has as many copies
 pub in_order_count : (r : Row) (xs : List Row) → count_of r (in_order xs) ≡ count_of r xs
-in_order_count r [] = refl
-in_order_count r (x ∷ xs) = omega (arith, count_of-cons r x xs, put_count r x (in_order xs), in_order_count r xs)
+in_order_count r xs = sym ((in_order_counts xs).each r)
 
 -- ---- rows that live
 

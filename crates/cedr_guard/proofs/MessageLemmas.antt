@@ -1,5 +1,5 @@
 -- The messages of accepted lines are legal, and their table is the canonical history.
-use Rattle.std.proofs.Common.{◌≡◌, ℕ, zero, suc, ◌+◌, ◌<◌, ◌≤◌, List, [], ◌∷◌, ◌++◌, Bool, true, false, cond, ◌&&◌, length, get_or, max, filter, Option, None, Some, refl, ap, sym, ◌∙◌, subst, subst₂, arith, append_assoc, append-nil}
+use Rattle.std.proofs.Common.{◌≡◌, ℕ, zero, suc, ◌+◌, ◌<◌, ◌≤◌, List, [], ◌∷◌, ◌++◌, Bool, true, false, cond, ◌&&◌, length, get_or, filter, Option, None, Some, refl, ap, sym, ◌∙◌, subst, subst₂, arith, append_assoc, append-nil}
 use Rattle.std.specs.Prelude.{option_map, is_some, nat_lt, nat_le}
 use Rattle.std.proofs.lemmas.Bool.{ltb-true, ltb-false, leb-true}
 use Rattle.cedr_base.specs.declared.time.TheConstants.{FOREVER}
@@ -14,43 +14,15 @@ use Rattle.cedr_base.specs.Messages.{changes_of, mark_of, IsOpen, IsTableOf, IsL
 use Rattle.cedr_text.specs.declared.event_line.EventLine.{EventLine}
 use Rattle.cedr_text.specs.declared.event_line.EventLine.TheVariants.{Insert, Retract, Promise}
 use Rattle.cedr_text.specs.declared.fault.LineFault.TheVariants.{KnownId, BadEnd, BeforeGuarantee}
-use Rattle.cedr_guard.specs.Judging.{guarantee_of, ends_of, least_of, late_fault, retraction_fault, IsAccepted, AreAccepted, AreAcceptedBehind}
+use Rattle.cedr_guard.specs.Judging.{guarantee_of, ends_of, least_of, guarantee_fault, retraction_fault, IsAccepted, AreAccepted, AreAcceptedBehind}
 use Rattle.cedr_guard.specs.History.{lives, rows_among, history_of}
 use Rattle.cedr_guard.specs.Messages.{message_of, cut_of, messages_behind}
 use Rattle.cedr_guard.specs.Standing.{place_of, AreKnown}
 use Rattle.cedr_guard.proofs.EventLemmas.{guarantee_of-append, event_place, place_below}
 use Rattle.cedr_guard.proofs.ApartLemmas.{known-insert, known-retract, known-promise, rows-insert, rows-retract, rows-promise}
-use Rattle.cedr_guard.proofs.LivingLemmas.{count_of-append, count_of-push, in_order_count, living_push, living_at, living_cut}
-
--- ---- messages after messages
-
--- the changes of messages one after the other
-pub changes_of-append : (ms ns : List Message) → changes_of (ms ++ ns) ≡ changes_of ms ++ changes_of ns
-changes_of-append [] ns = refl
-changes_of-append (message.Change c ∷ ms) ns = ap (λ cs. c ∷ cs) (changes_of-append ms ns)
-changes_of-append (message.Mark t ∷ ms) ns = changes_of-append ms ns
-changes_of-append (message.End ∷ ms) ns = changes_of-append ms ns
-changes_of-append (message.Broken ∷ ms) ns = changes_of-append ms ns
-
-mark_of-append : (ms ns : List Message) → mark_of (ms ++ ns) ≡ max (mark_of ms) (mark_of ns)
-mark_of-append [] ns = omega arith
-mark_of-append (message.Change c ∷ ms) ns = mark_of-append ms ns
-mark_of-append (message.Mark t ∷ ms) ns = let rest = mark_of-append ms ns in omega arith
-mark_of-append (message.End ∷ ms) ns = mark_of-append ms ns
-mark_of-append (message.Broken ∷ ms) ns = mark_of-append ms ns
-
-open-append : (ms ns : List Message) → IsOpen ms → IsOpen ns → IsOpen (ms ++ ns)
-open-append [] ns open_ms open_ns = open_ns
-open-append (message.Change c ∷ ms) ns open_ms open_ns = open-append ms ns open_ms open_ns
-open-append (message.Mark t ∷ ms) ns open_ms open_ns = open-append ms ns open_ms open_ns
-open-append (message.End ∷ ms) ns open_ms open_ns = absurd open_ms
-open-append (message.Broken ∷ ms) ns open_ms open_ns = absurd open_ms
-
--- legal messages after legal messages
-pub legal-append : (before ms ns : List Message) → IsLegalBehind before ms → IsLegalBehind (before ++ ms) ns → IsLegalBehind before (ms ++ ns)
-legal-append before [] ns first rest = subst (λ (b : List Message). IsLegalBehind b ns) (append-nil before) rest
-legal-append before (m ∷ ms) ns first rest =
-    (first.0, legal-append (before ++ m ∷ []) ms ns first.1 (subst (λ (b : List Message). IsLegalBehind b ns) (sym (append_assoc before (m ∷ []) ms)) rest))
+use Rattle.cedr_guard.proofs.LivingLemmas.{count_of-push, in_order_count, living_push, living_at, living_cut}
+use Rattle.cedr_base.proofs.Bags.{count_of-append}
+use Rattle.cedr_stream.proofs.Legal.{changes-append, mark-append, open-append, legal-append}
 
 -- ---- what messages and accepted lines have in common
 
@@ -89,13 +61,13 @@ table-push : (r : Row) (ms : List Message) (c : Change) (old new : List Row) →
     → count_of r new + count_of r (takes c) ≡ count_of r old + count_of r (puts c)
     → count_of r new + count_of r (all_takes (changes_of (ms ++ message.Change c ∷ []))) ≡ count_of r (all_puts (changes_of (ms ++ message.Change c ∷ [])))
 table-push r ms c old new was moved =
-    let changes = changes_of-append ms (message.Change c ∷ []) in
+    let changes = changes-append ms (message.Change c ∷ []) in
     omega (arith, was, moved, ap (λ cs. count_of r (all_takes cs)) changes, ap (λ cs. count_of r (all_puts cs)) changes, count_of-push r takes (changes_of ms) c, count_of-push r puts (changes_of ms) c)
 
 -- ---- an insertion
 
-fresh_at : (place : Option ℕ) (rows : List Row) (d : Row) (sync mark : ℕ) → cond (is_some (option_map (λ p. get_or rows p d) place)) (Some KnownId) (late_fault sync mark) ≡ None
-    → (place ≡ None) × (late_fault sync mark ≡ None)
+fresh_at : (place : Option ℕ) (rows : List Row) (d : Row) (sync mark : ℕ) → cond (is_some (option_map (λ p. get_or rows p d) place)) (Some KnownId) (guarantee_fault sync mark) ≡ None
+    → (place ≡ None) × (guarantee_fault sync mark ≡ None)
 fresh_at None rows d sync mark h = (refl, h)
 fresh_at (Some p) rows d sync mark h = cc
 
@@ -103,20 +75,20 @@ in_time_at : (test : Bool) (sync mark : ℕ) → nat_lt sync mark ≡ test → c
 in_time_at true sync mark is h = cc
 in_time_at false sync mark is h = ltb-false sync mark is
 
-in_time : (sync mark : ℕ) → late_fault sync mark ≡ None → mark ≤ sync
+in_time : (sync mark : ℕ) → guarantee_fault sync mark ≡ None → mark ≤ sync
 in_time sync mark h = in_time_at (nat_lt sync mark) sync mark refl h
 
 follows-insert : (before : List EventLine) (ms : List Message) (id : ℕ) (row : Row) → AreOf before ms → IsAccepted before (Insert id row) → Follows before (Insert id row) ms (message.Change (Add row) ∷ [])
 follows-insert before ms id row are accepted =
     let fresh = fresh_at (place_of id before) (rows_among before before) row row.begin (guarantee_of before)
-    (subst (λ event. cond (is_some event) (Some KnownId) (late_fault row.begin (guarantee_of before)) ≡ None) (event_place id before before row) accepted.faultless) in
+    (subst (λ event. cond (is_some event) (Some KnownId) (guarantee_fault row.begin (guarantee_of before)) ≡ None) (event_place id before before row) accepted.faultless) in
     let early = in_time row.begin (guarantee_of before) fresh.1 in
     let now = rows-insert id row before are.known fresh.0 in
     record {
       legal = ((are.goes_on, (accepted.event, omega (arith, are.mark, early))), tt);
       all = record {
         goes_on = open-append ms (message.Change (Add row) ∷ []) are.goes_on tt;
-        mark = omega (arith, are.mark, mark_of-append ms (message.Change (Add row) ∷ []), guarantee_of-append before (Insert id row ∷ []));
+        mark = omega (arith, are.mark, mark-append ms (message.Change (Add row) ∷ []), guarantee_of-append before (Insert id row ∷ []));
         table = λ r. table-push r ms (Add row) (living before) (living (before ++ Insert id row ∷ [])) (are.table r)
             (omega (arith, ap (λ rows. count_of r (filter lives rows)) now, living_push r row (rows_among before before) accepted.event.lives));
         known = known-insert id row before are.known fresh.0;
@@ -147,7 +119,7 @@ record IsEnd (row : Row) (end mark : ℕ) : Type 0 where
   shorter : end < row.end
   in_time : mark ≤ end
 
-end_at : (low high : Bool) (row : Row) (end mark : ℕ) → nat_le row.begin end ≡ low → nat_lt end row.end ≡ high → cond (low && high) (late_fault end mark) (Some (BadEnd row.begin row.end)) ≡ None → IsEnd row end mark
+end_at : (low high : Bool) (row : Row) (end mark : ℕ) → nat_le row.begin end ≡ low → nat_lt end row.end ≡ high → cond (low && high) (guarantee_fault end mark) (Some (BadEnd row.begin row.end)) ≡ None → IsEnd row end mark
 end_at true true row end mark is_low is_high h = record { begun = leb-true row.begin end is_low; shorter = ltb-true end row.end is_high; in_time = in_time end mark h }
 end_at true false row end mark is_low is_high h = cc
 end_at false high row end mark is_low is_high h = cc
@@ -177,7 +149,7 @@ follows-cut before ms id end p are at right =
       );
       all = record {
         goes_on = open-append ms (change ∷ []) are.goes_on tt;
-        mark = omega (arith, are.mark, mark_of-append ms (change ∷ []), guarantee_of-append before (Retract id end ∷ []));
+        mark = omega (arith, are.mark, mark-append ms (change ∷ []), guarantee_of-append before (Retract id end ∷ []));
         table = λ r. table-push r ms (Cut row end) (living before) (living (before ++ Retract id end ∷ [])) (are.table r)
             (omega (arith, ap (λ rows. count_of r (filter lives rows)) now, living_cut r rows p no_row end within alive));
         known = known-retract id end p before are.known at;
@@ -199,12 +171,12 @@ follows-rise : (before : List EventLine) (ms : List Message) (time : ℕ) (rises
     → Follows before (Promise time) ms (cond rises (message.Mark time ∷ []) [])
 follows-rise before ms time true rises are finite =
     let above = ltb-true (guarantee_of before) time rises in
-    let changes = changes_of-append ms (message.Mark time ∷ []) ∙ append-nil (changes_of ms) in
+    let changes = changes-append ms (message.Mark time ∷ []) ∙ append-nil (changes_of ms) in
     record {
       legal = ((are.goes_on, (omega (arith, are.mark, above), finite)), tt);
       all = record {
         goes_on = open-append ms (message.Mark time ∷ []) are.goes_on tt;
-        mark = omega (arith, are.mark, mark_of-append ms (message.Mark time ∷ []), guarantee_of-append before (Promise time ∷ []));
+        mark = omega (arith, are.mark, mark-append ms (message.Mark time ∷ []), guarantee_of-append before (Promise time ∷ []));
         table = λ r. omega (arith, are.table r, ap (λ rows. count_of r (filter lives rows)) (rows-promise time before), ap (λ cs. count_of r (all_takes cs)) changes, ap (λ cs. count_of r (all_puts cs)) changes);
         known = known-promise time before are.known;
         rows = rows-append before (Promise time ∷ []) are.rows tt;

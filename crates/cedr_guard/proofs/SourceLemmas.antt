@@ -13,7 +13,8 @@ use Rattle.cedr_text.specs.declared.fault.LineFault.{LineFault}
 use Rattle.cedr_text.specs.declared.fault.LineFault.TheVariants.{LineTooLong}
 use Rattle.cedr_text.specs.declared.lines.TheConstants.{LINE_LIMIT}
 use Rattle.cedr_text.specs.Lines.{raw_lines, without_return}
-use Rattle.cedr_text.specs.Parts.{line_feed, parts_of}
+use Rattle.cedr_base.specs.Bytes.{line_feed}
+use Rattle.cedr_text.specs.Parts.{parts_of}
 use Rattle.cedr_text.specs.Reading.{reading, SaysEvent}
 use Rattle.cedr_guard.specs.declared.refusal.Refusal.{Refusal}
 use Rattle.cedr_guard.specs.declared.refusal.TheConstants.{FILE_LIMIT}
@@ -21,19 +22,17 @@ use Rattle.cedr_guard.specs.Judging.{fault_behind, IsAccepted, AreAccepted, AreA
 use Rattle.cedr_text.specs.Reading.{IsEvent}
 use Rattle.cedr_guard.specs.Messages.{messages_behind}
 use Rattle.cedr_guard.specs.Sources.{with_event, with_reading, line_reading, Judged, go_on, judged_behind, judged_lines, judged_front, judged, ending, messages_of, history_of_bytes, whole_lines}
-use Rattle.cedr_guard.proofs.MessageLemmas.{AreLegalOf, accepted_messages, table_is_history, changes_of-append, legal-append}
-
-said_long : (long : Bool) (read : Result (Option EventLine) LineFault) → SaysEvent read → SaysEvent (cond long (Err LineTooLong) read)
-said_long true read event = omega arith
-said_long false read event = event
+use Rattle.cedr_guard.proofs.MessageLemmas.{AreLegalOf, accepted_messages, table_is_history}
+use Rattle.cedr_stream.proofs.Legal.{changes-append, legal-append}
+use Rattle.cedr_text.proofs.ReadingLemmas.{unless_long}
 
 -- the law of what lines say
-abbrev Law : Type 0
+abbrev pub Law : Type 0
 Law = (shape : Shape) (line : List ℕ) → SaysEvent (reading shape line)
 
 -- by it a line that isn't too long says an event
 line_event : Law → (shape : Shape) (line : List ℕ) → SaysEvent (line_reading shape line)
-line_event law shape line = said_long (nat_lt LINE_LIMIT (length line)) (reading shape (without_return line)) (law shape (without_return line))
+line_event law shape line = unless_long (nat_lt LINE_LIMIT (length line)) (reading shape (without_return line)) (law shape (without_return line))
 
 -- ---- lines that are too long
 
@@ -70,15 +69,18 @@ accepted-push front (first ∷ lines) line accepted next =
     (accepted.0, accepted-push (front ++ first ∷ []) lines line accepted.1 (subst (λ before. IsAccepted before line) (sym (append_assoc front (first ∷ []) lines)) next))
 
 -- the lines that are accepted now, unless there was a fault
-abbrev AreAcceptedNow : Result (List EventLine) LineFault → Type 0
+-- the lines are accepted, where there are any
+abbrev pub AreAcceptedNow : Result (List EventLine) LineFault → Type 0
 AreAcceptedNow (Ok now) = AreAccepted now
 AreAcceptedNow (Err fault) = Unit {0}
 
-event_accepted : (before : List EventLine) (line : EventLine) (fault : Option LineFault) → fault_behind before line ≡ fault → AreAccepted before → IsEvent line → AreAcceptedNow (with_event before line fault)
+-- what an accepted event makes of accepted lines is accepted
+pub event_accepted : (before : List EventLine) (line : EventLine) (fault : Option LineFault) → fault_behind before line ≡ fault → AreAccepted before → IsEvent line → AreAcceptedNow (with_event before line fault)
 event_accepted before line None none accepted event = accepted-push [] before line accepted (record { event = event; faultless = none })
 event_accepted before line (Some fault) is accepted event = tt
 
-reading_accepted : (before : List EventLine) (read : Result (Option EventLine) LineFault) → AreAccepted before → SaysEvent read → AreAcceptedNow (with_reading before read)
+-- what a line that says an event, if any, makes of accepted lines is accepted
+pub reading_accepted : (before : List EventLine) (read : Result (Option EventLine) LineFault) → AreAccepted before → SaysEvent read → AreAcceptedNow (with_reading before read)
 reading_accepted before (Err fault) accepted event = tt
 reading_accepted before (Ok None) accepted event = accepted
 reading_accepted before (Ok (Some line)) accepted event = event_accepted before line (fault_behind before line) refl accepted event
@@ -128,6 +130,6 @@ source_messages_table law shape bytes =
     let good = (judged shape bytes).good in
     let ms = messages_behind [] good in
     let fault = (judged shape bytes).fault in
-    let same : changes_of ms ≡ changes_of (ms ++ ending fault) = sym (changes_of-append ms (ending fault) ∙ (ap (λ cs. changes_of ms ++ cs) (no_changes fault) ∙ append-nil (changes_of ms))) in
+    let same : changes_of ms ≡ changes_of (ms ++ ending fault) = sym (changes-append ms (ending fault) ∙ (ap (λ cs. changes_of ms ++ cs) (no_changes fault) ∙ append-nil (changes_of ms))) in
     let table = table_is_history good ms (accepted_messages good (good_accepted law shape bytes)).all in
     record { sums = subst (λ cs. SameRows (history_of_bytes shape bytes ++ all_takes cs) (all_puts cs)) same table.sums }

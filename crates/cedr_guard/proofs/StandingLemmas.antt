@@ -1,5 +1,5 @@
 -- A judge that takes one more line stands for the lines with that one.
-use Rattle.std.proofs.Common.{◌≡◌, ℕ, ◌<◌, ◌≤◌, List, [], ◌∷◌, ◌++◌, Bool, true, false, cond, ◌&&◌, eqb, length, get_or, set, max, Option, None, Some, refl, ap, sym, ◌∙◌, subst, arith}
+use Rattle.std.proofs.Common.{◌≡◌, ℕ, ◌<◌, ◌≤◌, List, [], ◌∷◌, ◌++◌, Bool, true, false, cond, ◌&&◌, eqb, length, get_or, set, max, Option, None, Some, refl, ap, sym, ◌∙◌, arith}
 use Rattle.std.specs.Prelude.{option_map, is_some, nat_lt, nat_le, map}
 use Rattle.std.specs.Option.{option_or}
 use Rattle.std.proofs.lemmas.Bool.{ltb-true}
@@ -9,8 +9,8 @@ use Rattle.cedr_text.specs.declared.event_line.EventLine.{EventLine}
 use Rattle.cedr_text.specs.declared.event_line.EventLine.TheVariants.{Insert, Retract, Promise}
 use Rattle.cedr_text.specs.declared.fault.LineFault.TheVariants.{KnownId, BadEnd}
 use Rattle.cedr_guard.specs.declared.judge.Judge.{Judge}
-use Rattle.cedr_guard.specs.declared.judge.Interval.{Interval}
-use Rattle.cedr_guard.specs.Judging.{guarantee_of, event_of, fault_behind, late_fault, retraction_fault}
+use Rattle.cedr_base.specs.declared.interval.Interval.{Interval}
+use Rattle.cedr_guard.specs.Judging.{guarantee_of, event_of, fault_behind, guarantee_fault, retraction_fault}
 use Rattle.cedr_guard.specs.History.{rows_among}
 use Rattle.cedr_guard.specs.Standing.{place_of, place_in, interval_of, StandsFor}
 use Rattle.cedr_guard.proofs.ApartLemmas.{known-insert, known-retract, known-promise, rows-insert, rows-retract, rows-promise}
@@ -79,10 +79,10 @@ known_id judge before id row stands =
 
 -- the fault of an insertion
 pub fault-insert : (judge : Judge) (before : List EventLine) (id : ℕ) (row : Row) → StandsFor judge before
-    → fault_behind before (Insert id row) ≡ cond (is_some (place_in judge.ids id)) (Some KnownId) (late_fault row.begin judge.mark)
+    → fault_behind before (Insert id row) ≡ cond (is_some (place_in judge.ids id)) (Some KnownId) (guarantee_fault row.begin judge.mark)
 fault-insert judge before id row stands =
-    ap (λ test. cond test (Some KnownId) (late_fault row.begin (guarantee_of before))) (known_id judge before id row stands)
-    ∙ ap (λ mark. cond (is_some (place_in judge.ids id)) (Some KnownId) (late_fault row.begin mark)) (sym stands.mark)
+    ap (λ test. cond test (Some KnownId) (guarantee_fault row.begin (guarantee_of before))) (known_id judge before id row stands)
+    ∙ ap (λ mark. cond (is_some (place_in judge.ids id)) (Some KnownId) (guarantee_fault row.begin mark)) (sym stands.mark)
 
 -- an id at this place has the row there
 pub event_here : (judge : Judge) (before : List EventLine) (id p : ℕ) (d : Row) → StandsFor judge before → place_in judge.ids id ≡ Some p → event_of id before ≡ Some (get_or (rows_among before before) p d)
@@ -99,12 +99,13 @@ pub interval_here : (judge : Judge) (before : List EventLine) (id p : ℕ) (d : 
 interval_here judge before id p d e stands there =
     ap (λ intervals. get_or intervals p e) stands.intervals ∙ get_or-map interval_of (rows_among before before) p d e (row_here judge before id p stands there)
 
-none_at : (place : Option ℕ) → is_some place ≡ false → place ≡ None
+-- an id that has no place
+pub none_at : (place : Option ℕ) → is_some place ≡ false → place ≡ None
 none_at None h = refl
 none_at (Some p) h = cc
 
 -- a retraction without a fault shortens the row
-shorter_at : (low high : Bool) (end mark : ℕ) (row : Row) → cond (low && high) (late_fault end mark) (Some (BadEnd row.begin row.end)) ≡ None → high ≡ true
+shorter_at : (low high : Bool) (end mark : ℕ) (row : Row) → cond (low && high) (guarantee_fault end mark) (Some (BadEnd row.begin row.end)) ≡ None → high ≡ true
 shorter_at true true end mark row h = refl
 shorter_at true false end mark row h = cc
 shorter_at false high end mark row h = cc

@@ -46,17 +46,17 @@ event_of id lines = event_among id lines lines
 -- ---- a line against the lines before it
 
 -- the sync is below the guarantee
-abbrev pub late_fault : ℕ → ℕ → Option LineFault
-late_fault sync mark = if nat_lt sync mark then Some (BeforeGuarantee sync mark) else None
+abbrev pub guarantee_fault : ℕ → ℕ → Option LineFault
+guarantee_fault sync mark = if nat_lt sync mark then Some (BeforeGuarantee sync mark) else None
 
 -- a retraction's event, its new end, and the guarantee
 abbrev pub retraction_fault : Option Row → ℕ → ℕ → Option LineFault
 retraction_fault None end mark = Some UnknownId
-retraction_fault (Some row) end mark = if nat_le row.begin end && nat_lt end row.end then late_fault end mark else Some (BadEnd row.begin row.end)
+retraction_fault (Some row) end mark = if nat_le row.begin end && nat_lt end row.end then guarantee_fault end mark else Some (BadEnd row.begin row.end)
 
 -- the least fault that a line has after these, if it has one
 abbrev pub fault_behind : List EventLine → EventLine → Option LineFault
-fault_behind before (Insert id row) = if is_some (event_of id before) then Some KnownId else late_fault row.begin (guarantee_of before)
+fault_behind before (Insert id row) = if is_some (event_of id before) then Some KnownId else guarantee_fault row.begin (guarantee_of before)
 fault_behind before (Retract id end) = retraction_fault (event_of id before) end (guarantee_of before)
 fault_behind before (Promise time) = None
 

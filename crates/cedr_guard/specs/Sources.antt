@@ -9,7 +9,8 @@ use Rattle.cedr_text.specs.declared.fault.LineFault.{LineFault}
 use Rattle.cedr_text.specs.declared.fault.LineFault.TheVariants.{LineTooLong, TooLarge}
 use Rattle.cedr_text.specs.declared.lines.TheConstants.{LINE_LIMIT}
 use Rattle.cedr_text.specs.Lines.{raw_lines, without_return}
-use Rattle.cedr_text.specs.Parts.{line_feed, parts_of}
+use Rattle.cedr_base.specs.Bytes.{line_feed}
+use Rattle.cedr_text.specs.Parts.{parts_of}
 use Rattle.cedr_text.specs.Reading.{reading}
 use Rattle.cedr_guard.specs.declared.refusal.Refusal.{Refusal}
 use Rattle.cedr_guard.specs.declared.refusal.TheConstants.{FILE_LIMIT}

@@ -12,7 +12,7 @@ use Rattle.cedr_text.specs.declared.fault.LineFault.{LineFault}
 use Rattle.cedr_guard.specs.declared.fault.GuardFault.{GuardFault}
 use Rattle.cedr_guard.specs.declared.fault.GuardFault.TheVariants as guard_fault
 use Rattle.cedr_guard.specs.declared.ids.Ids.{Ids}
-use Rattle.cedr_guard.specs.declared.judge.Interval.{Interval}
+use Rattle.cedr_base.specs.declared.interval.Interval.{Interval}
 use Rattle.cedr_guard.specs.declared.judge.Judge.{Judge}
 use Rattle.cedr_guard.specs.declared.judge.Retracted.{Retracted}
 use Rattle.cedr_guard.specs.declared.guard.Guard.{Guard}

@@ -17,7 +17,7 @@ pub(crate) struct IdPlace {
     place: usize,
 }
 
-/// Ids, each with a place. Of a file whose ids ascend they stand in a list alone, without gaps in memory.
+/// Ids, each with a place: those that were above all before them in a list, the others in an ordered map.
 #[derive(Drop)]
 pub(crate) struct Ids {
     /// Each id that was above all before it.
@@ -28,7 +28,7 @@ pub(crate) struct Ids {
     ghost below: { (id : ℕ) → AreBelow id rising.items → get nat_cmp others id ≡ None } by { Prim.hlevel props },
 }
 
-/// Where an id stands in a list whose ids have even gaps. In another list another id may stand there.
+/// Where an id stands in a list whose ids have even gaps. In a list with other gaps another id may stand there.
 fn even_index(rising: &[IdPlace], id: u64) -> Option<usize> {
     let first = rising.first()?.id;
     let span = rising.last()?.id.checked_sub(first)?;

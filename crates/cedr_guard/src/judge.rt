@@ -2,22 +2,15 @@ ghost use Rattle.std.specs.Prelude.{◌≡◌, ◌++◌, ◌∷◌, [], List, No
 ghost use Rattle.cedr_base.specs.declared.row.Row.{Row};
 ghost use Rattle.cedr_text.specs.declared.event_line.EventLine.{EventLine};
 ghost use Rattle.cedr_text.specs.declared.event_line.EventLine.TheVariants.{Insert, Retract, Promise};
-ghost use Rattle.cedr_guard.specs.Judging.{fault_behind, late_fault, retraction_fault, guarantee_of};
+ghost use Rattle.cedr_guard.specs.Judging.{fault_behind, guarantee_fault, retraction_fault, guarantee_of};
 ghost use Rattle.cedr_guard.specs.History.{rows_among};
 ghost use Rattle.cedr_guard.specs.Standing.{StandsFor, Judges, IsEventOf, interval_of, place_of};
 
 use crate::fault::GuardFault;
 use crate::ids::Ids;
-use cedr_base::{OutOfMemory, Time};
+use cedr_base::{Interval, OutOfMemory, Time};
 use cedr_text::LineFault;
 use std::alloc::Global;
-
-/// When an event is valid: from `begin` on and before `end`, and never where these are the same.
-#[derive(Clone, Copy, Debug, PartialEq, Eq)]
-pub struct Interval {
-    pub begin: Time,
-    pub end: Time,
-}
 
 /// What a retraction is about.
 #[derive(Clone, Copy)]
@@ -64,7 +57,7 @@ impl Judge {
             → StandsFor self.new (before ++ Insert id row ∷ [])) }
         ensures stays { OnErr result ((before : List EventLine) → StandsFor self.old before → StandsFor self.new before) }
     {
-        if let Some(fault) = late_fault(begin, self.mark) {
+        if let Some(fault) = guarantee_fault(begin, self.mark) {
             let known = self.ids.place(id).is_some();
             return Err(GuardFault::Line(if known { LineFault::KnownId } else { fault }));
         }
@@ -144,8 +137,8 @@ impl Judge {
 }
 
 /// The fault of a sync that is below the guarantee.
-fn late_fault(sync: Time, mark: Time) -> Option<LineFault>
-    ensures { result ≡ late_fault sync mark }
+fn guarantee_fault(sync: Time, mark: Time) -> Option<LineFault>
+    ensures { result ≡ guarantee_fault sync mark }
 {
     if sync < mark {
         Some(LineFault::BeforeGuarantee { sync, mark })
@@ -164,5 +157,5 @@ fn retraction_fault(interval: Interval, end: Time, mark: Time) -> Option<LineFau
             end: interval.end,
         });
     }
-    late_fault(end, mark)
+    guarantee_fault(end, mark)
 }

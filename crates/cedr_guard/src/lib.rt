@@ -16,7 +16,7 @@ mod refusal;
 
 pub use fault::GuardFault;
 pub use guard::Guard;
-pub use judge::{Interval, Judge};
+pub use judge::Judge;
 pub use law::{message_laws, source_limits};
 pub use refusal::{FILE_LIMIT, Refusal, limit_fault};
 

@@ -1,5 +1,5 @@
 use super::*;
-use cedr_base::{Change, Message, OutOfMemory};
+use cedr_base::{Change, Interval, Message, OutOfMemory};
 use cedr_text::{LineFault, Shape, read_line, write_row, write_time};
 use std::alloc::Global;
 use std::test::Fail;
@@ -51,8 +51,9 @@ fn accepted_lines_become_messages(rt: HostRuntime) -> Result<(), Fail> {
         (b"=,inf", b"inf", 4_611_686_018_427_387_904),
     ] {
         let answered = answer(alloc, &mut guard, line)?;
-        assert!(rt; answered.is_ok_and(|text| text.as_slice() == message));
-        assert_eq!(rt; guard.mark(), mark);
+        let same = answered.is_ok_and(|text| text.as_slice() == message);
+        assert!(rt; same, "{}", line.escape_ascii());
+        assert_eq!(rt; guard.mark(), mark, "{}", line.escape_ascii());
     }
     Ok(())
 }
@@ -62,7 +63,11 @@ fn a_refused_line_has_its_least_fault_and_changes_nothing(rt: HostRuntime) -> Re
     let alloc = rt.alloc();
     let mut guard = Guard::new(alloc);
     for line in [b"+,1,2,9,a".as_slice(), b"=,5", b"+,3,6,8,c"] {
-        assert!(rt; answer(alloc, &mut guard, line)?.is_ok());
+        assert!(rt;
+            answer(alloc, &mut guard, line)?.is_ok(),
+            "{}",
+            line.escape_ascii()
+        );
     }
     for (line, fault) in [
         (b"+,1,6,9,x".as_slice(), LineFault::KnownId),
@@ -78,7 +83,7 @@ fn a_refused_line_has_its_least_fault_and_changes_nothing(rt: HostRuntime) -> Re
         ),
     ] {
         let refused = answer(alloc, &mut guard, line)?;
-        assert!(rt; refused.is_err_and(|found| found == fault));
+        assert_eq!(rt; refused.err(), Some(fault), "{}", line.escape_ascii());
     }
     let answered = answer(alloc, &mut guard, b"-,1,5")?;
     assert!(rt; answered.is_ok_and(|text| text.as_slice() == b"5 2,9,a\n".as_slice()));
@@ -119,19 +124,21 @@ fn a_judge_keeps_the_intervals_of_events(rt: HostRuntime) -> Result<(), Fail> {
 fn ids_are_known_in_whichever_order_they_come(rt: HostRuntime) -> Result<(), Fail> {
     let mut judge = Judge::new(rt.alloc());
     let last = u64::MAX;
-    for id in [10, 20, 30, 31, last, 25, 0, 12, last - 1] {
+    for id in [10, 20, 30, 31, last, 25, 12, 0, last - 1] {
         judge.insert(id, 1, 9)?;
     }
     for known in [10, 30, last, 25, 0, last - 1] {
         assert_eq!(rt;
             judge.insert(known, 1, 9),
-            Err(GuardFault::Line(LineFault::KnownId))
+            Err(GuardFault::Line(LineFault::KnownId)),
+            "{known}"
         );
     }
     for unknown in [1, 11, 21, 29, 32, last - 2] {
         assert_eq!(rt;
             judge.retract(unknown, 2),
-            Err(GuardFault::Line(LineFault::UnknownId))
+            Err(GuardFault::Line(LineFault::UnknownId)),
+            "{unknown}"
         );
     }
     for (id, end) in [(20, 2), (31, 3), (last, 4), (25, 5), (0, 6), (last - 1, 7)] {
@@ -141,6 +148,6 @@ fn ids_are_known_in_whichever_order_they_come(rt: HostRuntime) -> Result<(), Fai
     for interval in judge.into_intervals() {
         ends.push(interval.end)?;
     }
-    assert_eq!(rt; ends.as_slice(), [9, 2, 9, 3, 4, 5, 6, 9, 7].as_slice());
+    assert_eq!(rt; ends.as_slice(), [9, 2, 9, 3, 4, 5, 9, 6, 7].as_slice());
     Ok(())
 }

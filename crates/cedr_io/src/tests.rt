@@ -75,8 +75,8 @@ fn a_refused_read_takes_nothing(rt: HostRuntime) -> Result<(), Fail> {
         (Ok(2), b"89".as_slice()),
         (Ok(0), b"".as_slice()),
     ] {
-        assert_eq!(rt; source.read(&mut buf), wanted);
-        assert!(rt; buf.starts_with(bytes));
+        assert_eq!(rt; source.read(&mut buf), wanted, "{}", bytes.escape_ascii());
+        assert!(rt; buf.starts_with(bytes), "{}", bytes.escape_ascii());
     }
     files.give_back(source);
     Ok(())
@@ -90,7 +90,7 @@ fn all_is_written_in_parts_up_to_a_refused_write(rt: HostRuntime) -> Result<(), 
         sink.set_piece(piece);
         write_all(&mut sink, b"abcdefg")?;
         write_all(&mut sink, b"")?;
-        assert_eq!(rt; sink.written(), b"abcdefg".as_slice());
+        assert_eq!(rt; sink.written(), b"abcdefg".as_slice(), "piece {piece}");
     }
     let mut sink = MemSink::new(alloc);
     sink.set_piece(4);

@@ -35,9 +35,15 @@ came_none : (n : ℕ) → any_came (replicate n []) ≡ false
 came_none zero = refl
 came_none (suc n) = came_none n
 
-unbroken_none : (n : ℕ) → any_broken (replicate n []) ≡ false
+-- no list without a message is broken
+pub unbroken_none : (n : ℕ) → any_broken (replicate n []) ≡ false
 unbroken_none zero = refl
 unbroken_none (suc n) = unbroken_none n
+
+-- of lists without a message nothing is passed on
+pub passes_none : (vs : List Level) → passes_of vs (replicate (length vs) []) ≡ replicate (length vs) []
+passes_none [] = refl
+passes_none (v ∷ vs) = let a = pass-nil v in let b = passes_none vs in cc
 
 abbrev AllLegal : Lists → Type 0
 AllLegal lists = (port : ℕ) → IsLegal (list_at lists port)
@@ -176,10 +182,6 @@ module _ (meaning : Meaning) (echoes : meaning.echoes ≡ true) where
       let last = right.last some over in
       let grown = pass-push v l message.Broken in
       cc
-
-  passes_none : (vs : List Level) → passes_of vs (replicate (length vs) []) ≡ replicate (length vs) []
-  passes_none [] = refl
-  passes_none (v ∷ vs) = let a = pass-nil v in let b = passes_none vs in cc
 
   pub lawful_echo : (levels : List Level) (lists : Lists) (given : List Message) → IsLawful meaning levels lists given → ((port : ℕ) → IsLegal (list_at lists port)) → length levels ≡ 1 → passes_of levels lists ≡ given ∷ []
   lawful_echo levels lists given lawful legal one =

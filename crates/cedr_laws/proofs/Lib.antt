@@ -12,3 +12,4 @@ pub mod Ends
 pub mod Giving
 pub mod Parts
 pub mod Middle
+pub mod ListLemmas

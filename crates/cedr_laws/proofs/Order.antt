@@ -1,5 +1,5 @@
 -- Bags less other bags, filters of bags, and the canonical order.
-use Rattle.std.proofs.Common.{◌≡◌, ℕ, ◌+◌, ◌-◌, ◌<◌, ◌⊎◌, inl, inr, List, [], ◌∷◌, ◌++◌, Bool, true, false, cond, refl, ap, sym, ◌∙◌, subst, arith}
+use Rattle.std.proofs.Common.{◌≡◌, ℕ, ◌-◌, ◌<◌, ◌⊎◌, inl, inr, List, [], ◌∷◌, ◌++◌, Bool, true, false, cond, refl, ap, sym, ◌∙◌, subst, arith}
 use Rattle.std.specs.declared.cmp.Ordering.{Ordering}
 use Rattle.std.specs.declared.cmp.Ordering.TheVariants.{Less, Equal, Greater}
 use Rattle.std.specs.Ordering.{is_gt, is_le, ordering_reverse}
@@ -13,6 +13,7 @@ use Rattle.cedr_stream.proofs.BagSums.{count_of-itself}
 use Rattle.cedr_base.proofs.Bags.{same_row_exact, same_row_itself, count_of-cons}
 use Rattle.cedr_base.proofs.RowLemmas.{exact_rows}
 use Rattle.cedr_laws.specs.Surplus.{less, is_after, AllFromRow, Ascend}
+use Rattle.cedr_base.proofs.Sorting.{in_order_counts}
 
 not_both_at : (r x y : Row) (b d : Bool) → same_row x y ≡ false → same_row r x ≡ b → same_row r y ≡ d → (cond {A = ℕ} b 1 0 ≡ 0) ⊎ (cond {A = ℕ} d 1 0 ≡ 0)
 not_both_at r x y false d h p q = inl refl
@@ -120,18 +121,9 @@ pub ascend-in_order : (xs : List Row) → Ascend (in_order xs)
 ascend-in_order [] = tt
 ascend-in_order (x ∷ xs) = ascend-put x (in_order xs) (ascend-in_order xs)
 
-count-put_at : (q r x : Row) (xs : List Row) (b : Bool) → count_of q (put_in_order r xs) ≡ one_if_same q r + count_of q xs → count_of q (cond b (r ∷ x ∷ xs) (x ∷ put_in_order r xs)) ≡ one_if_same q r + count_of q (x ∷ xs)
-count-put_at q r x xs true h = omega (arith, count_of-cons q r (x ∷ xs))
-count-put_at q r x xs false h = omega (arith, count_of-cons q x (put_in_order r xs), count_of-cons q x xs, h)
-
-count-put : (q r : Row) (xs : List Row) → count_of q (put_in_order r xs) ≡ one_if_same q r + count_of q xs
-count-put q r [] = omega (arith, count_of-cons q r [])
-count-put q r (x ∷ xs) = count-put_at q r x xs (is_le (row_cmp r x)) (count-put q r xs)
-
 -- the rows of a bag in canonical order are the same bag
 pub count-in_order : (q : Row) (xs : List Row) → count_of q (in_order xs) ≡ count_of q xs
-count-in_order q [] = refl
-count-in_order q (x ∷ xs) = omega (arith, count-put q x (in_order xs), count-in_order q xs, count_of-cons q x xs)
+count-in_order q xs = sym ((in_order_counts xs).each q)
 
 -- a bag has one list in canonical order
 pub one_order : (xs ys : List Row) → Ascend xs → Ascend ys → SameRows xs ys → xs ≡ ys

@@ -89,7 +89,8 @@ adds_from : (t : ℕ) (rows : List Row) → ((r : Row) → 0 < count_of r rows �
 adds_from t [] h = tt
 adds_from t (x ∷ rows) h = (h x (count_of-itself x rows), adds_from t rows (λ r there. h r (omega (arith, count_of-cons r x rows))))
 
-from-weaker : (t u : ℕ) (cs : List Change) → t ≤ u → AllFrom u cs → AllFrom t cs
+-- changes from a time on are from each earlier one on
+pub from-weaker : (t u : ℕ) (cs : List Change) → t ≤ u → AllFrom u cs → AllFrom t cs
 from-weaker t u [] h k = tt
 from-weaker t u (c ∷ cs) h k = (let e = k.0 in omega arith, from-weaker t u cs h k.1)
 
@@ -271,6 +272,12 @@ table_alike given rows others same table = record {
   sums = record {
     each = λ r. let a = table.sums.each r in let b = same.each r in omega (arith, count_of-append r rows (all_takes (changes_of given)), count_of-append r others (all_takes (changes_of given)));
   };
+}
+
+-- the tables of one list are the same bag
+pub one_table : (ms : List Message) (xs ys : List Row) → IsTableOf ms xs → IsTableOf ms ys → SameRows xs ys
+one_table ms xs ys h k = record {
+  each = λ r. omega (arith, h.sums.each r, k.sums.each r, count_of-append r xs (all_takes (changes_of ms)), count_of-append r ys (all_takes (changes_of ms)));
 }
 
 stands_broken : (level : Level) (ms : List Message) → MayCome ms message.Broken → Stands level ms → Stands level (ms ++ message.Broken ∷ [])

@@ -9,7 +9,7 @@ use Rattle.cedr_base.specs.declared.change.Change.TheVariants.{Add, Cut}
 use Rattle.cedr_base.specs.declared.change.Message.{Message}
 use Rattle.cedr_base.specs.declared.change.Message.TheVariants as message
 use Rattle.cedr_base.specs.Rows.{same_row, count_of}
-use Rattle.cedr_base.specs.Changes.{IsChange, sync_of, puts, takes, all_puts, all_takes, MayFollow}
+use Rattle.cedr_base.specs.Changes.{IsChange, sync_of, puts, takes, all_puts, all_takes, MayFollow, changed_row}
 use Rattle.cedr_base.specs.Messages.{changes_of, MayCome, IsLegal}
 use Rattle.cedr_base.proofs.Bags.{count_of-cons}
 use Rattle.cedr_stream.proofs.Moves.{may_is}
@@ -19,7 +19,7 @@ use Rattle.cedr_base.specs.declared.level.Level.{Level}
 use Rattle.cedr_laws.specs.declared.forgotten.Forgotten.{Forgotten}
 use Rattle.cedr_laws.specs.declared.forgotten.Cause.TheVariants.{Late, Orphan}
 use Rattle.cedr_laws.specs.Surplus.{table_of}
-use Rattle.cedr_laws.specs.Kept.{high_of, is_late, is_orphan, kept_alone, kept, kept_table, forgotten_alone, forgotten_of, forgot, IsRecent, AreOld, AgreeOnRecent, row_of}
+use Rattle.cedr_laws.specs.Kept.{high_of, is_late, is_orphan, kept_alone, kept, kept_table, forgotten_alone, forgotten_of, forgot, IsRecent, AreOld, AgreeOnRecent}
 use Rattle.cedr_laws.proofs.Grows.{forgot-push, high-append, count-table}
 use Rattle.cedr_laws.proofs.Splits.{in_one, in_remnant, takes-one, puts-one}
 use Rattle.cedr_laws.proofs.Steps.{Stands, part, kept-moved}
@@ -35,24 +35,24 @@ recent_begin None high r s e h = tt
 recent_begin (Some m) high r s e h = omega arith
 
 -- the rows that a change touches begin with its own row
-touched : (c : Change) (r : Row) → 0 < count_of r (takes c) + count_of r (puts c) → r.begin ≡ (row_of c).begin
+touched : (c : Change) (r : Row) → 0 < count_of r (takes c) + count_of r (puts c) → r.begin ≡ (changed_row c).begin
 touched (Add b) r h = ap (λ (x : Row). x.begin) (in_one r b (omega arith))
 touched (Cut a e) r h = elim (cases_lt 0 (count_of r (a ∷ []))) [
   | inl t ↦ ap (λ (x : Row). x.begin) (in_one r a t)
   | inr p ↦ ap (λ (x : Row). x.begin) (in_remnant a r e (omega arith))
 ]
 
-begins_by : (c : Change) → IsChange c → (row_of c).begin ≤ sync_of c
+begins_by : (c : Change) → IsChange c → (changed_row c).begin ≤ sync_of c
 begins_by (Add b) h = omega arith
 begins_by (Cut a e) h = h.1
 
 -- a late change's row is old
-late_old : (memory : Option ℕ) (high : ℕ) (c : Change) → IsChange c → is_late memory high c ≡ true → IsRecent memory high (row_of c) → ⊥
+late_old : (memory : Option ℕ) (high : ℕ) (c : Change) → IsChange c → is_late memory high c ≡ true → IsRecent memory high (changed_row c) → ⊥
 late_old None high c is h recent = cc
 late_old (Some m) high c is h recent = let l = ltb-true (sync_of c + m) high h in omega (arith, begins_by c is)
 
 -- the row of an orphan is old, since it stands in the full table
-orphan_old : (memory : Option ℕ) (ms : List Message) (c : Change) → MayFollow [] (changes_of ms) c → AgreeOnRecent memory ms → is_orphan (kept memory ms) c ≡ true → IsRecent memory (high_of ms) (row_of c) → ⊥
+orphan_old : (memory : Option ℕ) (ms : List Message) (c : Change) → MayFollow [] (changes_of ms) c → AgreeOnRecent memory ms → is_orphan (kept memory ms) c ≡ true → IsRecent memory (high_of ms) (changed_row c) → ⊥
 orphan_old memory ms (Add b) may agree h recent = cc
 orphan_old memory ms (Cut a e) may agree h recent = let none = eqb-true (count_of a (kept_table memory ms)) 0 h in let there = may.1 in absurd (omega (arith, agree a recent, count-table a (changes_of ms)))
 
@@ -98,9 +98,9 @@ module _ (level : Level) (ms : List Message) (c : Change) (may : MayCome ms (mes
   high_now = omega (arith, high-append ms (message.Change c ∷ []))
 
   -- a forgotten change leaves the counts of recent rows
-  forgot_agrees : (IsRecent level.memory (high_of ms) (row_of c) → ⊥) → (r : Row) → IsRecent level.memory (high_of ms) r → count_of r (takes c) + count_of r (puts c) ≡ 0
+  forgot_agrees : (IsRecent level.memory (high_of ms) (changed_row c) → ⊥) → (r : Row) → IsRecent level.memory (high_of ms) r → count_of r (takes c) + count_of r (puts c) ≡ 0
   forgot_agrees old r recent = elim (cases_lt 0 (count_of r (takes c) + count_of r (puts c))) [
-    | inl t ↦ absurd (old (recent_begin level.memory (high_of ms) r (row_of c) (touched c r t) recent))
+    | inl t ↦ absurd (old (recent_begin level.memory (high_of ms) r (changed_row c) (touched c r t) recent))
     | inr n ↦ omega arith
   ]
 
@@ -159,6 +159,6 @@ agrees level ms legal = by_legal (Agrees level.memory) (agrees_step level) (agre
 -- without a limit of the memory no change of a legal list is an orphan
 pub no_orphan : (level : Level) (ms : List Message) (c : Change) → level.memory ≡ None → IsLegal ms → MayCome ms (message.Change c) → is_orphan (kept level.memory ms) c ≡ false
 no_orphan level ms c none legal may = elim (cases_Bool (is_orphan (kept level.memory ms) c)) [
-  | inl orphan ↦ absurd (orphan_old level.memory ms c may.1.0 (agrees level ms legal).agree orphan (subst (λ (v : Option ℕ). IsRecent v (high_of ms) (row_of c)) (sym none) tt))
+  | inl orphan ↦ absurd (orphan_old level.memory ms c may.1.0 (agrees level ms legal).agree orphan (subst (λ (v : Option ℕ). IsRecent v (high_of ms) (changed_row c)) (sym none) tt))
   | inr there ↦ there
 ]

@@ -13,7 +13,7 @@ use Rattle.cedr_base.specs.Rows.{IsRow, same_row, count_of}
 use Rattle.cedr_base.specs.Changes.{IsChange, sync_of, puts, takes, all_puts, all_takes, remnant}
 use Rattle.cedr_stream.specs.Repairs.{AllFrom}
 use Rattle.cedr_base.specs.Messages.{changes_of, mark_of, IsOpen, MayCome}
-use Rattle.cedr_base.proofs.Bags.{count_of-append, count_of-cons, same_row_exact}
+use Rattle.cedr_base.proofs.Bags.{count_of-append, count_of-cons, same_row_exact, one_if_same_exact}
 use Rattle.cedr_stream.proofs.BagSums.{count_of-itself}
 use Rattle.cedr_stream.proofs.Moves.{may_is, apart_change, puts_are_rows}
 use Rattle.cedr_stream.proofs.RepairLemmas.{AllChanges}
@@ -88,13 +88,9 @@ pub record Split (level : Level) (ms : List Message) (cs own other : List Change
   pub one_only : (r : Row) → (count_of r (all_takes own) ≡ 0) ⊎ (count_of r (all_puts other) ≡ 0)
   pub apart : (r : Row) → (count_of r (all_takes own) ≡ 0) ⊎ (count_of r (all_puts own) ≡ 0)
 
-in_one_at : (r x : Row) (b : Bool) → same_row r x ≡ b → 0 < cond {A = ℕ} b 1 0 → r ≡ x
-in_one_at r x true h k = same_row_exact r x h
-in_one_at r x false h k = absurd (omega arith)
-
 -- a row of a list of one row is that row
 pub in_one : (r x : Row) → 0 < count_of r (x ∷ []) → r ≡ x
-in_one r x there = in_one_at r x (same_row r x) refl (omega (arith, count_of-cons r x []))
+in_one r x there = one_if_same_exact r x (omega (arith, count_of-cons r x []))
 
 in_remnant_at : (a r : Row) (e : ℕ) (b : Bool) → 0 < count_of r (cond b (record a { end = e } ∷ []) []) → r ≡ record a { end = e }
 in_remnant_at a r e true there = in_one r (record a { end = e }) there

@@ -6,7 +6,7 @@ use Rattle.cedr_base.specs.declared.change.Change.TheVariants.{Add, Cut}
 use Rattle.cedr_base.specs.declared.change.Message.{Message}
 use Rattle.cedr_base.specs.declared.change.Message.TheVariants as message
 use Rattle.cedr_base.specs.Rows.{count_of}
-use Rattle.cedr_base.specs.Changes.{sync_of}
+use Rattle.cedr_base.specs.Changes.{sync_of, changed_row}
 use Rattle.cedr_base.specs.Messages.{changes_of}
 use Rattle.cedr_laws.specs.declared.forgotten.Cause.{Cause}
 use Rattle.cedr_laws.specs.declared.forgotten.Cause.TheVariants.{Late, Orphan}
@@ -86,15 +86,10 @@ abbrev pub IsRecent : Option ℕ → ℕ → Row → Type 0
 IsRecent None high r = Unit {0}
 IsRecent (Some m) high r = high ≤ r.begin + m
 
--- the row that a change adds or cuts
-abbrev pub row_of : Change → Row
-row_of (Add r) = r
-row_of (Cut r e) = r
-
 -- of each forgotten change the row begins more than the memory before the greatest time
 abbrev pub AreOld : Option ℕ → List Forgotten → Type 0
 AreOld memory [] = Unit {0}
-AreOld memory (f ∷ fs) = (IsRecent memory f.high (row_of f.change) → ⊥) × AreOld memory fs
+AreOld memory (f ∷ fs) = (IsRecent memory f.high (changed_row f.change) → ⊥) × AreOld memory fs
 
 -- what is kept and what came agree on each row that is recent
 abbrev pub AgreeOnRecent : Option ℕ → List Message → Type 0

@@ -14,10 +14,10 @@ use Rattle.cedr_laws.specs.Lists.{Lists, list_at, with_more}
 use Rattle.cedr_net.specs.declared.net.SerialNet.{SerialNet}
 use Rattle.cedr_net.specs.Edges.{NothingWaits, joined}
 use Rattle.cedr_net.specs.Flows.{IsSourceAt, reads_of}
-use Rattle.cedr_net.specs.Networks.{NetStands, AllGrow, IsSettled, waiting_at}
+use Rattle.cedr_net.specs.Networks.{NetStands, IsSettled, waiting_at}
 use Rattle.cedr_net.proofs.FlowLemmas.{same_or_not}
-use Rattle.cedr_net.proofs.ListLemmas.{at_more, at_more_other}
-use Rattle.cedr_net.proofs.SettleLemmas.{grow_none, grow_along}
+use Rattle.cedr_laws.proofs.ListLemmas.{at_more_other, at_more}
+use Rattle.cedr_net.proofs.SettleLemmas.{grow_none, grow_along, grow_more}
 use Rattle.cedr_plan.specs.declared.plan.PlanNode.{PlanNode}
 use Rattle.cedr_runs.specs.Runs.{lists_at}
 use Rattle.cedr_source.specs.Steps.{JudgesLine}
@@ -26,6 +26,7 @@ use Rattle.cedr_text.specs.declared.fault.LineFault.{LineFault}
 use Rattle.cedr_live.specs.declared.player.Player.{Player}
 use Rattle.cedr_live.specs.Scripts.{Accepted, lines_at, no_lines, with_lines}
 use Rattle.cedr_live.specs.Playing.{IsSettledNet, IsFedOn, PlaysStand, TakesLine}
+use Rattle.cedr_net.proofs.NewLemmas.{no_list}
 
 -- ---- one source gave more
 
@@ -35,12 +36,6 @@ at_none given place k within = at (same_or_not k place) where
   at : (k ≡ place) ⊎ (k ≢ place) → list_at (with_more given place []) k ≡ list_at given k
   at (inl e) = ap (list_at (with_more given place [])) e ∙ (at_more given place [] within ∙ (append-nil (list_at given place) ∙ ap (list_at given) (sym e)))
   at (inr ne) = at_more_other given place k [] ne
-
-grow_more : (given : Lists) (place : ℕ) (ms : List Message) → place < length given → AllGrow given (with_more given place ms)
-grow_more given place ms within = record { grows = λ k. at k (same_or_not k place) } where
-  at : (k : ℕ) → (k ≡ place) ⊎ (k ≢ place) → (more : List Message) × (list_at (with_more given place ms) k ≡ list_at given k ++ more)
-  at k (inl e) = (ms, ap (list_at (with_more given place ms)) e ∙ (at_more given place ms within ∙ ap (λ (j : ℕ). list_at given j ++ ms) (sym e)))
-  at k (inr ne) = ([], at_more_other given place k ms ne ∙ sym (append-nil (list_at given k)))
 
 -- a settled network has a list for each node of what it gave
 pub given_count : (nodes : List PlanNode) (net : SerialNet) (given : Lists) → IsSettledNet nodes net given → length given ≡ length nodes
@@ -127,11 +122,6 @@ no_lines_count : (nodes : List PlanNode) → length (no_lines nodes) ≡ length 
 no_lines_count [] = refl
 no_lines_count (n ∷ nodes) = ap (λ (k : ℕ). suc k) (no_lines_count nodes)
 
-none_given : (count k : ℕ) → list_at (replicate count []) k ≡ []
-none_given zero k = refl
-none_given (suc count) zero = refl
-none_given (suc count) (suc k) = none_given count k
-
 append_none : (l q : List Message) → l ++ q ≡ [] → q ≡ []
 append_none [] q e = e
 append_none (m ∷ l) q e = absurd (let x = e in cc)
@@ -159,7 +149,7 @@ pub first_stands : (nodes : List PlanNode) (player : Player) (ports : List Lists
     → NetStands nodes player.net ports (replicate (length nodes) []) → PlaysStand nodes player (no_lines nodes) []
 first_stands nodes player ports count guards stands =
     let given : Lists = replicate (length nodes) [] in
-    let none : (k : ℕ) → list_at given k ≡ [] = none_given (length nodes) in
+    let none : (k : ℕ) → list_at given k ≡ [] = no_list (length nodes) in
     record {
       lines_count = no_lines_count nodes;
       guards_count = count;

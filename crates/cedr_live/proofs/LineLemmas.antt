@@ -12,11 +12,11 @@ use Rattle.cedr_net.proofs.EdgeLemmas.{any_default}
 use Rattle.cedr_net.proofs.FedLemmas.{source_here}
 use Rattle.cedr_plan.specs.declared.plan.PlanNode.{PlanNode}
 use Rattle.cedr_serial.specs.Sources.{HasTypes}
-use Rattle.cedr_text.specs.Parts.{comma}
+use Rattle.cedr_base.specs.Bytes.{comma}
 use Rattle.cedr_text.specs.Reading.{reading}
 use Rattle.cedr_text.specs.declared.event_line.Shape.{Shape}
 use Rattle.cedr_text.specs.declared.event_line.Shape.TheVariants.{AnyText, Fields}
-use Rattle.op_planned.specs.Ready.{is_source}
+use Rattle.op_node.specs.Ready.{is_source}
 use Rattle.cedr_live.specs.Scripts.{Accepted, HaveTypes, with_byte, cut_at_comma, named_from, lines_at, with_lines, with_event_line, with_cut, with_line}
 use Rattle.cedr_live.specs.Playing.{is_named}
 

@@ -16,7 +16,8 @@ use Rattle.cedr_text.specs.declared.fault.LineFault.{LineFault}
 use Rattle.cedr_text.specs.declared.fault.LineFault.TheVariants.{LineTooLong}
 use Rattle.cedr_text.specs.declared.lines.TheConstants.{LINE_LIMIT}
 use Rattle.cedr_text.specs.Lines.{raw_lines, without_return, without_empty_end}
-use Rattle.cedr_text.specs.Parts.{line_feed, parts_of}
+use Rattle.cedr_base.specs.Bytes.{line_feed}
+use Rattle.cedr_text.specs.Parts.{parts_of}
 use Rattle.cedr_live.specs.declared.player.Player.{Player}
 use Rattle.cedr_live.specs.Scripts.{Accepted, HaveTypes, no_lines, with_line, is_question, Played, asked, stopped, play_on, played_behind, played_lines, played_front, played}
 use Rattle.cedr_live.specs.Shown.{AreShown, AreShownFirst, IsShown}

@@ -16,7 +16,7 @@ use Rattle.cedr_net.proofs.SettleLemmas.{grow_none}
 use Rattle.cedr_plan.specs.declared.plan.PlanNode.{PlanNode}
 use Rattle.cedr_runs.specs.Runs.{sources_in, IsRun}
 use Rattle.cedr_serial.proofs.RunLemmas.{same_sources}
-use Rattle.op_planned.specs.Ready.{is_source}
+use Rattle.op_node.specs.Ready.{is_source}
 use Rattle.cedr_live.specs.declared.player.Player.{Player}
 use Rattle.cedr_live.specs.Scripts.{Accepted, lines_at, messages_so_far}
 use Rattle.cedr_live.specs.Shown.{IsShown}

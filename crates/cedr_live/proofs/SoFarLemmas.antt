@@ -4,27 +4,25 @@ use Rattle.std.specs.Prelude.{map, nat_lt, Option, None, Some, Result, Ok, Err}
 use Rattle.cedr_base.specs.declared.row.Row.{Row}
 use Rattle.cedr_base.specs.declared.change.Message.TheVariants as message
 use Rattle.cedr_base.specs.Messages.{IsTableOf, mark_of}
-use Rattle.cedr_base.specs.Rows.{SameRows, in_order}
 use Rattle.cedr_guard.specs.History.{history_of}
 use Rattle.cedr_guard.specs.declared.refusal.TheConstants.{FILE_LIMIT}
-use Rattle.cedr_guard.specs.Judging.{guarantee_of, event_of, fault_behind, AreAccepted}
+use Rattle.cedr_guard.specs.Judging.{guarantee_of, event_of, AreAccepted}
 use Rattle.cedr_guard.specs.Messages.{cut_of, message_of, messages_behind}
-use Rattle.cedr_guard.specs.Sources.{with_event, with_reading, whole_lines}
+use Rattle.cedr_guard.specs.Sources.{with_reading, whole_lines}
 use Rattle.cedr_guard.proofs.MessageLemmas.{accepted_messages, table_is_history}
-use Rattle.cedr_guard.proofs.SourceLemmas.{accepted-push}
+use Rattle.cedr_guard.proofs.SourceLemmas.{reading_accepted, Law, AreAcceptedNow}
 use Rattle.cedr_laws.specs.Lawful.{has_broken}
 use Rattle.cedr_laws.specs.Lists.{Lists, list_at, AreTables}
 use Rattle.cedr_laws.specs.Pass.{has_end}
 use Rattle.cedr_laws.proofs.Ends.{broken-append}
 use Rattle.cedr_laws.proofs.Grows.{end-append}
-use Rattle.cedr_laws.proofs.Order.{ascend-in_order, canonical_is, count-in_order}
 use Rattle.cedr_net.proofs.FlowLemmas.{split}
 use Rattle.cedr_net.proofs.NewLemmas.{output_kind}
 use Rattle.cedr_plan.specs.declared.plan.NodeKind.TheVariants as kind
 use Rattle.cedr_plan.specs.declared.plan.Plan.{Plan}
 use Rattle.cedr_plan.specs.declared.plan.PlanNode.{PlanNode}
 use Rattle.cedr_plan.specs.Rules.{IsPlan}
-use Rattle.cedr_query.specs.Queries.{is_output, output_place, source_count, query, reaches}
+use Rattle.cedr_query.specs.Queries.{output_place, source_count, query, reaches}
 use Rattle.cedr_query.proofs.PlaceLemmas.{output_stands}
 use Rattle.cedr_query.proofs.PlaceLemmas as places
 use Rattle.cedr_runs.specs.Middle.{IsGoing, AllGoing, AreMiddle, AreMarks}
@@ -32,7 +30,6 @@ use Rattle.cedr_runs.specs.Runs.{lists_at, sources_in, IsRun}
 use Rattle.cedr_runs.proofs.Going.{going_table}
 use Rattle.cedr_runs.proofs.Output.{input, output_mark, output_table}
 use Rattle.cedr_runs.proofs.PlanNodes.{place_within}
-use Rattle.cedr_runs.proofs.Ports.{one_table}
 use Rattle.cedr_table.specs.Operators.{Tables, table_at, mark_at}
 use Rattle.cedr_text.specs.declared.event_line.EventLine.{EventLine}
 use Rattle.cedr_text.specs.declared.event_line.EventLine.TheVariants.{Insert, Retract, Promise}
@@ -42,14 +39,17 @@ use Rattle.cedr_text.specs.declared.fault.LineFault.{LineFault}
 use Rattle.cedr_text.specs.declared.fault.LineFault.TheVariants.{LineTooLong}
 use Rattle.cedr_text.specs.declared.lines.TheConstants.{LINE_LIMIT}
 use Rattle.cedr_text.specs.Lines.{raw_lines, without_return}
-use Rattle.cedr_text.specs.Parts.{line_feed, parts_of}
-use Rattle.cedr_text.specs.Reading.{reading, IsEvent, SaysEvent}
+use Rattle.cedr_base.specs.Bytes.{line_feed}
+use Rattle.cedr_text.specs.Parts.{parts_of}
+use Rattle.cedr_text.specs.Reading.{reading}
 use Rattle.cedr_text.specs.Texts.{rows_text}
-use Rattle.op_planned.specs.Ready.{is_source}
+use Rattle.op_node.specs.Ready.{is_source}
 use Rattle.cedr_live.specs.Scripts.{Accepted, cut_at_comma, named_from, lines_at, no_lines, with_lines, with_event_line, with_named, with_cut, with_line, Played, asked, stopped, play_on, is_question, played_behind, played_lines, played_front, played, messages_so_far}
 use Rattle.cedr_live.specs.Shown.{reach_text, IsShown}
 use Rattle.cedr_live.specs.SoFar.{AreLines, AllAreLines, source_lines, histories_so_far, guarantees_so_far, rows_so_far, reach_so_far, ending_before, text_so_far}
 use Rattle.cedr_live.proofs.ShownLemmas.{messages_at}
+use Rattle.cedr_serial.proofs.AcceptedLemmas.{one_canonical}
+use Rattle.cedr_laws.proofs.Passes.{one_table}
 
 -- ---- the sources
 
@@ -115,9 +115,6 @@ marks_so_far count (l ∷ lines) are (suc k) within = marks_so_far count lines (
 
 -- ---- the output
 
-same_order : (xs ys : List Row) → SameRows xs ys → in_order xs ≡ in_order ys
-same_order xs ys same = canonical_is xs (in_order ys) (ascend-in_order ys) (λ r. count-in_order r ys ∙ sym (same.each r))
-
 module _ (plan : Plan) (before : Lists) (lines : Accepted) (given : Lists) (text : List ℕ) (is : IsPlan plan) (are : AreLines lines) (shown : IsShown plan.nodes.items before lines given text)
     (front after : List PlanNode) (output : PlanNode) (whole : plan.nodes.items ≡ front ++ output ∷ after) (here : length front ≡ output_place plan.nodes.items) (middle : AreMiddle (length front) plan.nodes.items) where
   abbrev nodes : List PlanNode
@@ -172,7 +169,7 @@ module _ (plan : Plan) (before : Lists) (lines : Accepted) (given : Lists) (text
   pub text_of : (rows : List Row) → IsTableOf (list_at given place) rows → text ≡ text_so_far rows (reach_so_far nodes lines)
   text_of rows table =
       shown.text_is
-      ∙ (ap (λ (ordered : List Row). rows_text ordered ++ reach_text (mark_of (list_at (lists_at shown.ports place) 0))) (same_order shown.rows rows (one_table (list_at given place) shown.rows rows shown.table table))
+      ∙ (ap (λ (ordered : List Row). rows_text ordered ++ reach_text (mark_of (list_at (lists_at shown.ports place) 0))) (one_canonical shown.rows rows (one_table (list_at given place) shown.rows rows shown.table table))
       ∙ ap (λ (reach : ℕ). text_so_far rows reach) reach_is)
 
   pub strong_text : output.level.block ≡ None → output.level.memory ≡ None → text ≡ text_so_far (ending_before (reach_so_far nodes lines) (rows_so_far nodes lines)) (reach_so_far nodes lines)
@@ -200,17 +197,9 @@ middle_text plan before lines given text is all are shown =
 
 -- ---- the lines that a `?` follows
 
--- the law of what lines say
-abbrev pub Law : Type 0
-Law = (shape : Shape) (line : List ℕ) → SaysEvent (reading shape line)
-
 abbrev AreLinesNow : Result Accepted LineFault → Type 0
 AreLinesNow (Ok now) = AreLines now
 AreLinesNow (Err fault) = Unit {0}
-
-abbrev AreAcceptedNow : Result (List EventLine) LineFault → Type 0
-AreAcceptedNow (Ok now) = AreAccepted now
-AreAcceptedNow (Err fault) = Unit {0}
 
 set_are : (before : Accepted) (place : ℕ) (now : List EventLine) → AreLines before → AreAccepted now → AreLines (set before place now)
 set_are [] place now are one k = tt
@@ -222,15 +211,6 @@ set_are (l ∷ before) (suc place) now are one (suc k) = set_are before place no
 lines_are : (before : Accepted) (place : ℕ) (now : Result (List EventLine) LineFault) → AreLines before → AreAcceptedNow now → AreLinesNow (with_lines before place now)
 lines_are before place (Ok now) are one = set_are before place now are one
 lines_are before place (Err fault) are one = tt
-
-event_accepted : (before : List EventLine) (line : EventLine) (fault : Option LineFault) → fault_behind before line ≡ fault → AreAccepted before → IsEvent line → AreAcceptedNow (with_event before line fault)
-event_accepted before line None none accepted event = accepted-push [] before line accepted (record { event = event; faultless = none })
-event_accepted before line (Some fault) is accepted event = tt
-
-reading_accepted : (before : List EventLine) (read : Result (Option EventLine) LineFault) → AreAccepted before → SaysEvent read → AreAcceptedNow (with_reading before read)
-reading_accepted before (Err fault) accepted event = tt
-reading_accepted before (Ok None) accepted event = accepted
-reading_accepted before (Ok (Some line)) accepted event = event_accepted before line (fault_behind before line) refl accepted event
 
 module _ (law : Law) (nodes : List PlanNode) (shapes : List Shape) where
   event_are : (before : Accepted) (place : ℕ) (bytes : List ℕ) → AreLines before → AreLinesNow (with_event_line shapes before place bytes)

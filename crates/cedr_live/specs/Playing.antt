@@ -31,7 +31,7 @@ use Rattle.cedr_text.specs.declared.fault.LineFault.TheVariants.{LineTooLong}
 use Rattle.cedr_text.specs.declared.lines.TheConstants.{LINE_LIMIT}
 use Rattle.cedr_text.specs.Lines.{without_return}
 use Rattle.cedr_text.specs.Texts.{rows_text}
-use Rattle.op_planned.specs.Ready.{is_source}
+use Rattle.op_node.specs.Ready.{is_source}
 use Rattle.cedr_live.specs.declared.player.Player.{Player}
 use Rattle.cedr_live.specs.Scripts.{Accepted, lines_at, with_line, is_question, Played, played_behind}
 use Rattle.cedr_live.specs.Shown.{reach_text, IsShown, AreShown, AreShownFirst}

@@ -9,7 +9,8 @@ use Rattle.cedr_text.specs.declared.fault.LineFault.{LineFault}
 use Rattle.cedr_text.specs.declared.fault.LineFault.TheVariants.{LineTooLong, BadForm}
 use Rattle.cedr_text.specs.declared.lines.TheConstants.{LINE_LIMIT}
 use Rattle.cedr_text.specs.Lines.{raw_lines, without_return}
-use Rattle.cedr_text.specs.Parts.{comma, line_feed, parts_of}
+use Rattle.cedr_base.specs.Bytes.{comma, line_feed}
+use Rattle.cedr_text.specs.Parts.{parts_of}
 use Rattle.cedr_text.specs.Reading.{reading}
 use Rattle.cedr_guard.specs.declared.refusal.Refusal.{Refusal}
 use Rattle.cedr_guard.specs.declared.refusal.TheConstants.{FILE_LIMIT}
@@ -18,7 +19,7 @@ use Rattle.cedr_laws.specs.Lists.{Lists}
 use Rattle.cedr_guard.specs.Messages.{messages_behind}
 use Rattle.cedr_plan.specs.declared.plan.PlanNode.{PlanNode}
 use Rattle.cedr_serial.specs.Sources.{HasTypes}
-use Rattle.op_planned.specs.Ready.{is_source}
+use Rattle.op_node.specs.Ready.{is_source}
 
 -- ---- the parts of a line
 

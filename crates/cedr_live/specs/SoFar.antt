@@ -8,7 +8,7 @@ use Rattle.cedr_plan.specs.declared.plan.PlanNode.{PlanNode}
 use Rattle.cedr_query.specs.Queries.{output_place, query, reaches}
 use Rattle.cedr_table.specs.Operators.{Tables, table_at, mark_at}
 use Rattle.cedr_text.specs.Texts.{rows_text}
-use Rattle.op_planned.specs.Ready.{is_source}
+use Rattle.op_node.specs.Ready.{is_source}
 use Rattle.cedr_live.specs.Scripts.{Accepted, lines_at}
 use Rattle.cedr_live.specs.Shown.{reach_text}
 

@@ -6,7 +6,7 @@ ghost use Rattle.cedr_live.specs.Playing.{is_named};
 
 use cedr_plan::PlanNode;
 use memchr::memchr;
-use op_planned::is_source;
+use op_node::is_source;
 
 /// Whether a line asks for the rows.
 pub(crate) fn is_question(line: &[u8]) -> bool

@@ -1,7 +1,8 @@
 ghost use Rattle.std.specs.Prelude.{◌≡◌, ◌≤◌, Some, length};
 ghost use Rattle.cedr_io.specs.Counts.{Counts};
 ghost use Rattle.cedr_plan.specs.Rules.{IsPlan};
-ghost use Rattle.cedr_text.specs.Parts.{line_feed, parts_of};
+ghost use Rattle.cedr_base.specs.Bytes.{line_feed};
+ghost use Rattle.cedr_text.specs.Parts.{parts_of};
 ghost use Rattle.cedr_live.specs.Scripts.{HaveTypes, no_lines};
 ghost use Rattle.cedr_live.specs.Playing.{PlaysAs, parts_played};
 ghost use Rattle.cedr_live.specs.Plays.{Plays};

@@ -7,6 +7,7 @@ use cedr_io::{MemSink, OutsideFault};
 use cedr_plan::{Plan, read_plan};
 use cedr_text::LineFault;
 use std::alloc::Global;
+use std::process::Abort;
 use std::test::Fail;
 
 const WINDOW: &str = r#"{"version":1,"nodes":[
@@ -36,18 +37,21 @@ fn plan(alloc: Global, text: &str) -> Result<Plan, Fail>
     Ok(read_plan(alloc, text.as_bytes())?)
 }
 
-/// Whether a script over a plan has this fault, and these bytes are written.
-fn plays(
+/// A script over a plan has this fault, and these bytes are written.
+fn check(
+    rt: &impl Abort,
     alloc: Global,
     text: &str,
     script: &[u8],
     fault: Option<Refusal>,
     written: &[u8],
-) -> Result<bool, Fail> {
+) -> Result<(), Fail> {
     let plan = plan(alloc, text)?;
     let mut out = MemSink::new(alloc);
     let found = play(alloc, &plan, script, &mut out)?;
-    Ok(found == fault && out.written() == written)
+    assert_eq!(rt; found, fault, "{}", script.escape_ascii());
+    assert_eq!(rt; out.written(), written, "{}", script.escape_ascii());
+    Ok(())
 }
 
 fn at(line: u64, fault: LineFault) -> Option<Refusal> {
@@ -58,23 +62,20 @@ fn at(line: u64, fault: LineFault) -> Option<Refusal> {
 fn a_window_is_shown_as_it_stands(rt: HostRuntime) -> Result<(), Fail> {
     let script = b"s,+,1,1,10,a\n?\ns,-,1,8\n?\ns,-,1,2\n?\n";
     let written = b"1,4,a\n. 0\n1,4,a\n. 0\n1,2,a\n. 0\n";
-    assert!(rt; plays(rt.alloc(), WINDOW, script, None, written)?);
-    Ok(())
+    check(&rt, rt.alloc(), WINDOW, script, None, written)
 }
 
 #[test]
 fn counts_are_shown_as_they_stand(rt: HostRuntime) -> Result<(), Fail> {
     let script = b"?\ns,+,1,0,10,x\ns,+,2,5,7,x\n?\ns,=,5\ns,-,2,5\n?";
     let written = b". 0\n0,5,x,1\n5,7,x,2\n7,10,x,1\n. 0\n0,10,x,1\n. 0\n";
-    assert!(rt; plays(rt.alloc(), GROUP, script, None, written)?);
-    Ok(())
+    check(&rt, rt.alloc(), GROUP, script, None, written)
 }
 
 #[test]
 fn a_strong_output_waits_for_a_guarantee(rt: HostRuntime) -> Result<(), Fail> {
     let script = b"s,+,1,1,5,a\ns,+,2,2,9,b\ns,=,6\n?\n";
-    assert!(rt; plays(rt.alloc(), STRONG, script, None, b"1,5,a\n. 6\n")?);
-    Ok(())
+    check(&rt, rt.alloc(), STRONG, script, None, b"1,5,a\n. 6\n")
 }
 
 #[test]
@@ -82,24 +83,43 @@ fn a_source_is_judged_by_its_own_lines(rt: HostRuntime) -> Result<(), Fail> {
     let alloc = rt.alloc();
     let script = b"s,+,1,1,5,a\nt,=,4\nt,+,1,4,9,b\ns,+,2,2,3,c\ns,=,4\n?\nt,+,1,6,7,d\n";
     let written = b"2,3,c\n1,5,a\n4,9,b\n. 4\n";
-    assert!(rt; plays(alloc, UNION, script, at(7, LineFault::KnownId), written)?);
+    check(
+        &rt,
+        alloc,
+        UNION,
+        script,
+        at(7, LineFault::KnownId),
+        written,
+    )?;
     let late = LineFault::BeforeGuarantee { sync: 3, mark: 4 };
-    assert!(rt; plays(alloc, UNION, b"s,=,4\n\ns,+,1,3,9,a", at(3, late), b"")?);
-    Ok(())
+    check(&rt, alloc, UNION, b"s,=,4\n\ns,+,1,3,9,a", at(3, late), b"")
 }
 
 #[test]
 fn a_script_stops_at_its_first_fault(rt: HostRuntime) -> Result<(), Fail> {
     let alloc = rt.alloc();
     let bad = LineFault::BadForm;
-    assert!(rt; plays(alloc, WINDOW, b"t,=,1\n?\n", at(1, bad), b"")?);
-    assert!(rt; plays(alloc, WINDOW, b"?\nw,=,1\n?\n", at(2, bad), b". 0\n")?);
-    assert!(rt; plays(alloc, WINDOW, b"\n\r\n?\r\ns,\n?\n", at(4, bad), b". 0\n")?);
-    assert!(rt; plays(alloc, WINDOW, b"s", at(1, bad), b"")?);
-    assert!(rt; plays(alloc, WINDOW, b"??\n", at(1, bad), b"")?);
-    assert!(rt; plays(alloc, WINDOW, b"s,+,1,1\n", at(1, bad), b"")?);
-    assert!(rt; plays(alloc, WINDOW, b"s,=,1\r\n?\r\n\n?\r", None, b". 1\n. 1\n")?);
-    Ok(())
+    check(&rt, alloc, WINDOW, b"t,=,1\n?\n", at(1, bad), b"")?;
+    check(&rt, alloc, WINDOW, b"?\nw,=,1\n?\n", at(2, bad), b". 0\n")?;
+    check(
+        &rt,
+        alloc,
+        WINDOW,
+        b"\n\r\n?\r\ns,\n?\n",
+        at(4, bad),
+        b". 0\n",
+    )?;
+    check(&rt, alloc, WINDOW, b"s", at(1, bad), b"")?;
+    check(&rt, alloc, WINDOW, b"??\n", at(1, bad), b"")?;
+    check(&rt, alloc, WINDOW, b"s,+,1,1\n", at(1, bad), b"")?;
+    check(
+        &rt,
+        alloc,
+        WINDOW,
+        b"s,=,1\r\n?\r\n\n?\r",
+        None,
+        b". 1\n. 1\n",
+    )
 }
 
 #[test]
@@ -108,11 +128,10 @@ fn a_line_may_have_65536_bytes(rt: HostRuntime) -> Result<(), Fail> {
     let mut script = Vec::from_slice(alloc, b"?\ns,=,1")?;
     script.extend_from_slice(&vec![in alloc; b' '; 65_531]?)?;
     let fits = at(2, LineFault::BadNumber);
-    assert!(rt; plays(alloc, WINDOW, &script, fits, b". 0\n")?);
+    check(&rt, alloc, WINDOW, &script, fits, b". 0\n")?;
     script.push(b' ')?;
     let too_long = at(2, LineFault::LineTooLong);
-    assert!(rt; plays(alloc, WINDOW, &script, too_long, b". 0\n")?);
-    Ok(())
+    check(&rt, alloc, WINDOW, &script, too_long, b". 0\n")
 }
 
 #[test]
@@ -125,6 +144,6 @@ fn a_refused_write_leaves_a_front(rt: HostRuntime) -> Result<(), Fail> {
     let script = b"s,+,1,1,10,a\n?\n?\n";
     let played = play(alloc, &plan, script, &mut out);
     assert!(rt; matches!(played, Err(OutsideFault::Failed)));
-    assert!(rt; out.written() == b"1,4,a\n. 0\n".as_slice());
+    assert_eq!(rt; out.written(), b"1,4,a\n. 0\n".as_slice());
     Ok(())
 }

@@ -1,6 +1,6 @@
 -- Lines that are accepted one after the other: each event has the next id, is cut at once if at all, and none
 -- begins before a guarantee.
-use Rattle.std.proofs.Common.{◌≡◌, ◌==◌, ◌+◌, ◌-◌, ◌*◌, ◌<◌, ◌≤◌, ℕ, List, [], ◌∷◌, ◌++◌, Bool, true, false, cond, ltb, ◌&&◌, length, refl, ap, sym, ◌∙◌, subst, length-append, append_assoc, append-nil, arith, Option, None, Some, Ok}
+use Rattle.std.proofs.Common.{◌≡◌, ◌==◌, ◌+◌, ◌*◌, ◌<◌, ◌≤◌, ℕ, List, [], ◌∷◌, ◌++◌, Bool, true, false, cond, ltb, ◌&&◌, length, refl, ap, sym, ◌∙◌, subst, length-append, append_assoc, append-nil, arith, Option, None, Some, Ok}
 use Rattle.std.specs.Prelude.{All, is_some}
 use Rattle.std.proofs.lemmas.Bool.{le-ltb, lt-ltb, le-leb, eq-eqb, ne_eqb, or_parts}
 use Rattle.std.proofs.lemmas.List.Elements.{All-nil, All-cons}
@@ -11,11 +11,13 @@ use Rattle.cedr_text.specs.declared.event_line.EventLine.TheVariants.{Insert, Re
 use Rattle.cedr_text.specs.declared.event_line.Shape.{Shape}
 use Rattle.cedr_text.specs.declared.fault.LineFault.TheVariants.{KnownId, BadEnd, BeforeGuarantee}
 use Rattle.cedr_text.specs.Lines.{without_empty_end, raw_lines}
-use Rattle.cedr_text.specs.Parts.{line_feed, parts_of}
-use Rattle.cedr_guard.specs.Judging.{guarantee_of, ends_of, least_of, row_after, event_among, late_fault, event_of, retraction_fault, fault_behind}
+use Rattle.cedr_base.specs.Bytes.{line_feed}
+use Rattle.cedr_text.specs.Parts.{parts_of}
+use Rattle.cedr_guard.specs.Judging.{guarantee_of, ends_of, least_of, row_after, event_among, guarantee_fault, event_of, retraction_fault, fault_behind}
 use Rattle.cedr_guard.specs.Sources.{with_event, with_reading, line_reading, go_on, judged_behind}
 use Rattle.cedr_guard.proofs.EventLemmas.{ends_of-append, guarantee_of-append}
 use Rattle.cedr_make.proofs.FieldTexts.{has_byte}
+use Rattle.cedr_text.proofs.LineLemmas.{end_dropped}
 
 -- ---- a text of whole lines
 
@@ -39,14 +41,6 @@ one_line line none more =
 more_lines : (text next : List ℕ) (lines after : List (List ℕ)) → AreLines text lines → AreLines next after → AreLines (text ++ next) (lines ++ after)
 more_lines text next lines after are follow more =
     ap (parts_of line_feed) (append_assoc text next more) ∙ are (next ++ more) ∙ ap (λ rest. lines ++ rest) (follow more) ∙ sym (append_assoc lines after (parts_of line_feed more))
-
--- nothing stands after the last line feed
-end_dropped : (lines : List (List ℕ)) → without_empty_end (lines ++ [] ∷ []) ≡ lines
-end_dropped [] = refl
-end_dropped ([] ∷ []) = refl
-end_dropped ((b ∷ bs) ∷ []) = refl
-end_dropped ([] ∷ next ∷ lines) = ap (λ rest. [] ∷ rest) (end_dropped (next ∷ lines))
-end_dropped ((b ∷ bs) ∷ next ∷ lines) = ap (λ rest. (b ∷ bs) ∷ rest) (end_dropped (next ∷ lines))
 
 -- the lines of such a text
 pub lines_are : (text : List ℕ) (lines : List (List ℕ)) → AreLines text lines → raw_lines text ≡ lines
@@ -99,7 +93,7 @@ few_more line lines most few = let c = length-append lines (line ∷ []) in omeg
 -- ---- what a line more says
 
 -- a sync from the guarantee on is none below it
-not_late : (sync mark : ℕ) → mark ≤ sync → late_fault sync mark ≡ None
+not_late : (sync mark : ℕ) → mark ≤ sync → guarantee_fault sync mark ≡ None
 not_late sync mark from = ap (λ test. cond test (Some (BeforeGuarantee sync mark)) None) (le-ltb sync mark from)
 
 -- an event that isn't among some lines is looked for in those after them
@@ -176,7 +170,7 @@ pub stands_insert : (shape : Shape) (text : List ℕ) (id mark most : ℕ) (line
     → line_reading shape line ≡ Ok (Some (Insert id row)) → mark ≤ row.begin → Inserted shape (text ++ (line ++ 10 ∷ [])) id mark (most + 1) row
 stands_insert shape text id mark most line row s none few says from =
     let late = not_late row.begin (guarantee_of s.events) (let before = s.guarantee in omega arith) in
-    let faultless = ap (λ (found : Option Row). cond (is_some found) (Some KnownId) (late_fault row.begin (guarantee_of s.events))) (s.no_event id s.events (omega arith)) ∙ late in
+    let faultless = ap (λ (found : Option Row). cond (is_some found) (Some KnownId) (guarantee_fault row.begin (guarantee_of s.events))) (s.no_event id s.events (omega arith)) ∙ late in
     record {
       stands = stands_more shape text id (id + 1) mark mark most line (Insert id row) s (record { no_feed = none; short = few; says = says; faultless = faultless })
           (omega arith) (omega arith) (omega arith) (λ other later. refl) (λ other all later. at_other id other row all later);
@@ -186,8 +180,8 @@ stands_insert shape text id mark most line row s none few says from =
 -- a new end within the row's life and from the guarantee on has no fault
 no_bad_end : (row : Row) (end mark : ℕ) → row.begin ≤ end → end < row.end → mark ≤ end → retraction_fault (Some row) end mark ≡ None
 no_bad_end row end mark low high from =
-    ap (λ test. cond (test && ltb end row.end) (late_fault end mark) (Some (BadEnd row.begin row.end))) (le-leb row.begin end low)
-    ∙ ap (λ test. cond test (late_fault end mark) (Some (BadEnd row.begin row.end))) (lt-ltb end row.end high)
+    ap (λ test. cond (test && ltb end row.end) (guarantee_fault end mark) (Some (BadEnd row.begin row.end))) (le-leb row.begin end low)
+    ∙ ap (λ test. cond test (guarantee_fault end mark) (Some (BadEnd row.begin row.end))) (lt-ltb end row.end high)
     ∙ not_late end mark from
 
 -- a retraction of the id that was inserted last, or none

@@ -7,7 +7,8 @@ use Rattle.std.proofs.lemmas.Bool.{le-ltb}
 use Rattle.cedr_base.specs.declared.field.FieldType.{FieldType}
 use Rattle.cedr_text.specs.declared.event_line.Shape.TheVariants.{Fields}
 use Rattle.cedr_text.specs.Lines.{raw_lines}
-use Rattle.cedr_text.specs.Parts.{line_feed, parts_of}
+use Rattle.cedr_base.specs.Bytes.{line_feed}
+use Rattle.cedr_text.specs.Parts.{parts_of}
 use Rattle.cedr_guard.specs.declared.refusal.TheConstants.{FILE_LIMIT}
 use Rattle.cedr_guard.specs.Sources.{Judged, judged_lines, judged_front, judged}
 use Rattle.cedr_make.specs.BuiltIn.{event_types}

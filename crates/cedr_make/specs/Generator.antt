@@ -1,6 +1,6 @@
 -- The event files of a workload: two sources of as many events each, whose numbers come from one small generator.
 use Rattle.std.specs.Prelude.{ℕ, ◌+◌, ◌*◌, ◌/◌, ◌%◌, List, [], ◌∷◌, ◌++◌, codes, decimal, nat_eq, zero, suc, if◌then◌else◌}
-use Rattle.cedr_text.specs.Parts.{comma, line_feed}
+use Rattle.cedr_base.specs.Bytes.{comma, line_feed}
 
 -- a number below 4,096 that looks like chance
 abbrev pub chance : ℕ → ℕ

@@ -1,3 +1,4 @@
 pub mod Generator
 pub mod Summary
 pub mod BuiltIn
+pub mod Numbers

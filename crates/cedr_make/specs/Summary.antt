@@ -1,7 +1,7 @@
 -- What is reported of an answer: how many rows it has, and for how long they are valid together.
 use Rattle.std.specs.Prelude.{ℕ, ◌-◌, List, [], ◌∷◌, ◌++◌, codes, decimal, length, sum_by}
 use Rattle.cedr_base.specs.declared.row.Row.{Row}
-use Rattle.cedr_text.specs.Parts.{line_feed}
+use Rattle.cedr_base.specs.Bytes.{line_feed}
 
 -- for how long rows are valid together: the sum of the lengths of their valid intervals
 abbrev pub total_length : List Row → ℕ

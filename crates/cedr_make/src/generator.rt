@@ -1,5 +1,6 @@
 ghost use Rattle.std.specs.Prelude.{◌≡◌, ◌<◌, ◌≤◌, ◌++◌, IfOk, OnOk};
-ghost use Rattle.cedr_make.specs.Generator.{chance, begin_of, length_of, key_of, value_of, payload_text, insertion_text, retraction_text, guarantee_text, event_text, made_text};
+ghost use Rattle.cedr_make.specs.Generator.{chance, payload_text, insertion_text, retraction_text, guarantee_text, event_text, made_text};
+ghost use Rattle.cedr_make.specs.Numbers.{AreNumbers};
 
 use cedr_base::OutOfMemory;
 use cedr_text::write_number;
@@ -26,10 +27,7 @@ fn chance(k: u64) -> u64
 fn numbers_of(source: u64, i: u64) -> EventNumbers
     requires source { source ≤ 1 }
     requires number { i < 100000 }
-    ensures begin { result.begin ≡ begin_of source i }
-    ensures length { result.length ≡ length_of source i }
-    ensures key { result.key ≡ key_of source i }
-    ensures value { result.value ≡ value_of source i }
+    ensures { AreNumbers source i result }
 {
     let seed = 8 * i + 4 * source;
     EventNumbers {
@@ -47,8 +45,7 @@ fn push_payload(
     numbers: EventNumbers,
     out: &mut Vec<u8>,
 ) -> Result<(), OutOfMemory>
-    requires key { numbers.key ≡ key_of source i }
-    requires value { numbers.value ≡ value_of source i }
+    requires { AreNumbers source i numbers }
     ensures { OnOk result (out.new.items ≡ out.old.items ++ payload_text source i) }
 {
     out.extend_from_slice(b",k")?;
@@ -64,10 +61,7 @@ fn push_insertion(
     out: &mut Vec<u8>,
 ) -> Result<(), OutOfMemory>
     requires number { i < 100000 }
-    requires begin { numbers.begin ≡ begin_of source i }
-    requires length { numbers.length ≡ length_of source i }
-    requires key { numbers.key ≡ key_of source i }
-    requires value { numbers.value ≡ value_of source i }
+    requires numbers { AreNumbers source i numbers }
     ensures { OnOk result (out.new.items ≡ out.old.items ++ insertion_text source i) }
 {
     out.extend_from_slice(b"+,")?;
@@ -89,8 +83,7 @@ fn push_retraction(
     out: &mut Vec<u8>,
 ) -> Result<(), OutOfMemory>
     requires number { i < 100000 }
-    requires begin { numbers.begin ≡ begin_of source i }
-    requires length { numbers.length ≡ length_of source i }
+    requires numbers { AreNumbers source i numbers }
     ensures { OnOk result (out.new.items ≡ out.old.items ++ retraction_text source i) }
 {
     if i % 5 != 4 {

@@ -1,5 +1,5 @@
-ghost use Rattle.std.specs.Prelude.{◌≡◌, ◌∷◌, [], IfOk, map};
-ghost use Rattle.cedr_plan.specs.Drawn.{kind_of, node_of, drawn};
+ghost use Rattle.std.specs.Prelude.{◌≡◌, ◌<◌, ◌∷◌, [], IfOk, map};
+ghost use Rattle.cedr_plan.specs.Drawn.{node_of, drawn};
 ghost use Rattle.cedr_plan.specs.Rules.{IsPlan};
 ghost use Rattle.cedr_make.specs.BuiltIn.{node, source_node, same_keys, totals_node, built_in};
 
@@ -34,7 +34,7 @@ fn make_node(
     inputs: &[usize],
     types: &[FieldType],
 ) -> Result<PlanNode, OutOfMemory>
-    ensures { IfOk result (λ made. node_of made ≡ node name.now (kind_of kind) inputs.now types.now) }
+    ensures { IfOk result (λ made. node_of made ≡ node name.now kind inputs.now types.now) }
 {
     Ok(PlanNode {
         name: Text::from_slice(alloc, name)?,
@@ -68,13 +68,15 @@ fn make_tests(alloc: Global) -> Result<Tests, OutOfMemory>
     }
 }
 
-fn make_keys(alloc: Global) -> Result<Keep, OutOfMemory>
-    ensures { IfOk result (λ keys. keys ≡ 0 ∷ []) }
+/// One column of a pair.
+fn make_column(alloc: Global, column: usize) -> Result<Keep, OutOfMemory>
+    requires { column < 4 }
+    ensures { IfOk result (λ kept. kept ≡ column ∷ []) }
 {
     let mut columns = Vec::new(alloc);
-    columns.push(0)?;
+    columns.push(column)?;
     match Keep::new(columns, &PAIR) {
-        Ok(keys) => Ok(keys),
+        Ok(kept) => Ok(kept),
         Err(_) => unreachable!(),
     }
 }
@@ -82,9 +84,8 @@ fn make_keys(alloc: Global) -> Result<Keep, OutOfMemory>
 fn make_group(alloc: Global) -> Result<PlanNode, OutOfMemory>
     ensures { IfOk result (λ made. node_of made ≡ totals_node) }
 {
-    let keys = make_keys(alloc)?;
-    let mut sums = Vec::new(alloc);
-    sums.push(1)?;
+    let keys = make_column(alloc, 0)?;
+    let sums = make_column(alloc, 1)?;
     let kind = NodeKind::Group {
         keys,
         count: true,

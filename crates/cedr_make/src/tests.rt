@@ -116,10 +116,21 @@ fn the_plan_is_the_one_of_the_text(rt: HostRuntime) -> Result<(), Fail> {
     assert_eq!(rt; made.edge, read.edge);
     assert_eq!(rt; made.nodes.len(), read.nodes.len());
     for (made, read) in made.nodes.iter().zip(read.nodes.iter()) {
-        assert!(rt; made.name == read.name);
-        assert!(rt; made.inputs.as_slice() == read.inputs.as_slice());
-        assert_eq!(rt; made.level, read.level);
-        assert!(rt; made.types.as_slice() == read.types.as_slice());
+        let name = read.name.bytes();
+        assert_eq!(rt; made.name.bytes(), name);
+        assert_eq!(rt;
+            made.inputs.as_slice(),
+            read.inputs.as_slice(),
+            "{}",
+            name.escape_ascii()
+        );
+        assert_eq!(rt; made.level, read.level, "{}", name.escape_ascii());
+        assert_eq!(rt;
+            made.types.as_slice(),
+            read.types.as_slice(),
+            "{}",
+            name.escape_ascii()
+        );
     }
     Ok(())
 }
@@ -137,7 +148,7 @@ fn the_plan_has_the_lines_of_the_text(rt: HostRuntime) -> Result<(), Fail> {
     let wanted =
         b"a,source,text,int\nb,source,text,int\nj,join,text,int,text,int\ng,group,text,int,int\nout,output,text,int,int\n";
     for plan in [made_plan(alloc)?, read_plan(alloc, PLAN)?] {
-        assert!(rt; check(alloc, &plan)?.as_slice() == wanted.as_slice());
+        assert_eq!(rt; check(alloc, &plan)?.as_slice(), wanted.as_slice());
     }
     Ok(())
 }
@@ -181,7 +192,7 @@ fn the_nodes_do_what_the_text_says(rt: HostRuntime) -> Result<(), Fail> {
         let pair = row(alloc, 0, 1, b"k1", &[7, 8, 9])?;
         let key = row(alloc, 0, 1, b"k1", &[])?;
         assert!(rt; keys.apply(alloc, &pair.payload)? == key.payload);
-        assert!(rt; sums.as_slice() == [1].as_slice());
+        assert_eq!(rt; sums.columns(), [1].as_slice());
     }
     Ok(())
 }

@@ -3,7 +3,7 @@ use Rattle.std.proofs.Common.{◌≡◌, ◌≢◌, ◌≤◌, ℕ, zero, suc, �
 use Rattle.std.specs.Prelude.{nat_eq}
 use Rattle.std.proofs.lemmas.Bool.Decides.{eqb_tells}
 use Rattle.std.proofs.lemmas.List.{append-nil, length-set, length-append}
-use Rattle.std.proofs.Math.Seq.{get_or-append_seam}
+use Rattle.std.proofs.Math.Seq.{get_or-append_seam, take-length}
 use Rattle.cedr_base.specs.declared.change.Message.{Message}
 use Rattle.cedr_laws.specs.Lists.{Lists, list_at, with_more}
 use Rattle.cedr_runs.specs.Runs.{lists_at}
@@ -32,10 +32,7 @@ sized_at (r ∷ reads) (q ∷ waiting) h (suc k) = sized_at reads waiting h.1 k
 
 -- the first elements of a list, as many as it has, are the list
 pub take_whole : {X : Type 0} (xs : List X) (n : ℕ) → n ≡ length xs → take n xs ≡ xs
-take_whole xs n e = ap (λ (k : ℕ). take k xs) e ∙ take_all_of xs where
-  take_all_of : {X : Type 0} (xs : List X) → take (length xs) xs ≡ xs
-  take_all_of [] = refl
-  take_all_of (x ∷ xs) = ap (λ ys. x ∷ ys) (take_all_of xs)
+take_whole xs n e = ap (λ (k : ℕ). take k xs) e ∙ take-length xs
 
 -- an element that is there doesn't depend on the default
 pub any_default : {X : Type 0} (xs : List X) (k : ℕ) (d e : X) → k < length xs → get_or xs k d ≡ get_or xs k e

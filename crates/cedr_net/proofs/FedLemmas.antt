@@ -5,18 +5,19 @@ use Rattle.std.proofs.lemmas.List.{length-set}
 use Rattle.cedr_base.specs.declared.change.Message.{Message}
 use Rattle.cedr_laws.specs.Lists.{Lists, list_at, with_more}
 use Rattle.cedr_plan.specs.declared.plan.PlanNode.{PlanNode}
-use Rattle.msg_feed.specs.Came.{StandsFor}
-use Rattle.msg_feed.specs.declared.came.Came.{Came}
-use Rattle.op_planned.specs.Ready.{is_source}
+use Rattle.cedr_testing.specs.Came.{StandsFor}
+use Rattle.cedr_testing.specs.declared.came.Came.{Came}
+use Rattle.op_node.specs.Ready.{is_source}
 use Rattle.cedr_net.specs.declared.net.SerialNet.{SerialNet}
 use Rattle.cedr_net.specs.Fed.{WasFed}
 use Rattle.cedr_net.specs.Flows.{IsSourceAt}
 use Rattle.cedr_net.specs.Networks.{NetStands, HasPort}
 use Rattle.cedr_net.proofs.FlowLemmas.{split, same_or_not}
-use Rattle.cedr_net.proofs.ListLemmas.{at_more, at_more_other}
+use Rattle.cedr_laws.proofs.ListLemmas.{at_more_other, at_more}
 use Rattle.cedr_net.proofs.PortLemmas.{port_width, has_port}
 use Rattle.cedr_runs.specs.Runs.{lists_at}
 use Rattle.std.proofs.Math.Seq.{get_or-append_seam}
+use Rattle.cedr_net.proofs.NewLemmas.{no_list}
 
 -- the node at a place is a source
 pub source_here : (nodes : List PlanNode) (place : ℕ) (n : PlanNode) → place < length nodes → get_or nodes place n ≡ n → is_source n.kind ≡ true → IsSourceAt nodes place
@@ -62,11 +63,7 @@ fed_still nodes net net' came h ports given stands same = record {
 }
 
 none_came : (came : List Came) (count : ℕ) → ((k : ℕ) (d : Came) → k < length came → StandsFor (get_or came k d) []) → (k : ℕ) (d : Came) → k < length came → StandsFor (get_or came k d) (list_at (replicate count []) k)
-none_came came count all k d inside = subst (StandsFor (get_or came k d)) (sym (none_there count k)) (all k d inside) where
-  none_there : (n j : ℕ) → list_at (replicate n []) j ≡ []
-  none_there zero j = refl
-  none_there (suc n) zero = refl
-  none_there (suc n) (suc j) = none_there n j
+none_came came count all k d inside = subst (StandsFor (get_or came k d)) (sym (no_list count k)) (all k d inside)
 
 -- nothing came yet
 pub fed_none : (nodes : List PlanNode) (net : SerialNet) (came : List Came) (ports : List Lists) → NetStands nodes net ports (replicate (length nodes) []) → length came ≡ length nodes → ((k : ℕ) (d : Came) → k < length came → StandsFor (get_or came k d) []) → WasFed nodes net came

@@ -15,21 +15,21 @@ use Rattle.cedr_laws.specs.Lawful.{IsLawful}
 use Rattle.cedr_plan.specs.declared.plan.NodeKind.{NodeKind}
 use Rattle.cedr_plan.specs.declared.plan.NodeKind.TheVariants as kind
 use Rattle.cedr_plan.specs.declared.plan.PlanNode.{PlanNode}
-use Rattle.cedr_plan.specs.Drawn.{Node as DrawnNode, node_of, kind_of}
-use Rattle.cedr_plan.specs.Operators.{row_of}
+use Rattle.cedr_plan.specs.Drawn.{Node as DrawnNode, node_of}
+use Rattle.cedr_plan.specs.Operators.{operator_row}
 use Rattle.cedr_plan.specs.Rules.{IsNode, operator_of_kind}
 use Rattle.cedr_stream.proofs.Legal.{may_come_in}
-use Rattle.op_planned.specs.Meanings.{meaning_of, port_levels}
-use Rattle.op_planned.specs.MeaningLaws.{alike}
+use Rattle.op_node.specs.Meanings.{meaning_of, port_levels}
+use Rattle.op_node.proofs.ReadyMeanings.{alike}
 use Rattle.cedr_node.specs.Nodes.{made_of}
 use Rattle.cedr_node.proofs.NodeLemmas.{same_ports, stands_lawful, stands_legal}
-use Rattle.op_planned.specs.Ready.{is_source}
+use Rattle.op_node.specs.Ready.{is_source}
 use Rattle.cedr_runs.specs.Runs.{lists_at}
 use Rattle.cedr_runs.proofs.PlanNodes.{node_stands, place_within}
 use Rattle.cedr_base.specs.declared.level.Level.{Level}
 use Rattle.cedr_table.specs.Operators.{Meaning}
 use Rattle.cedr_laws.proofs.Giving.{lawful_legal}
-use Rattle.cedr_net.proofs.ListLemmas.{at_more, at_more_other}
+use Rattle.cedr_laws.proofs.ListLemmas.{at_more_other, at_more}
 use Rattle.cedr_net.specs.declared.work.Work.{Work}
 use Rattle.cedr_net.specs.Edges.{received, sent_on, joined, AreSized, IsPulled}
 use Rattle.cedr_net.specs.Flows.{WorksAt, IsWorked, Flows, MovesOn, with_taken}
@@ -182,20 +182,8 @@ module _ (nodes : List PlanNode) (reads : List (List ℕ)) (waiting : List Lists
 
 -- a source has no port
 pub no_inputs : (before : List DrawnNode) (n : PlanNode) (k : NodeKind) → n.kind ≡ k → IsNode before (node_of n) → is_source k ≡ true → length n.inputs.items ≡ 0
-no_inputs before n (kind.Source file) e is source = let most = is.most_ports in let few = ap (λ (x : NodeKind). (row_of (operator_of_kind (kind_of x))).most) e in omega (arith, most, few)
-no_inputs before n (kind.Select tests) e is source = cc
-no_inputs before n (kind.Project keep) e is source = cc
-no_inputs before n kind.Union e is source = cc
-no_inputs before n (kind.Join tests) e is source = cc
-no_inputs before n (kind.Window width) e is source = cc
-no_inputs before n (kind.Shift by) e is source = cc
-no_inputs before n (kind.Hop every width) e is source = cc
-no_inputs before n kind.Starts e is source = cc
-no_inputs before n kind.Ends e is source = cc
-no_inputs before n (kind.Group keys count sums) e is source = cc
-no_inputs before n (kind.Sequence scope tests) e is source = cc
-no_inputs before n (kind.Unless scope hold tests) e is source = cc
-no_inputs before n kind.Output e is source = cc
+no_inputs before n (kind.Source file) e is source = let most = is.most_ports in let few = ap (λ (x : NodeKind). (operator_row (operator_of_kind x)).most) e in omega (arith, most, few)
+no_inputs before n other e is source = absurd (cc source)
 
 -- a message waits at a node
 module _ (nodes : List PlanNode) (reads : List (List ℕ)) (waiting : List Lists) (works : List Work) (ports : List Lists) (given : Lists) (place port : ℕ) (m : Message) (more : List Message) (h : Flows nodes reads waiting works ports given)
@@ -232,7 +220,7 @@ sized_set (r ∷ reads) (q ∷ waiting) zero qs h e = (h.0 ∙ sym e, h.1)
 sized_set (r ∷ reads) (q ∷ waiting) (suc k) qs h e = (h.0, sized_set reads waiting k qs h.1 e)
 
 -- there is no list past the last port
-beyond : (ls : Lists) (k : ℕ) → length ls ≤ k → list_at ls k ≡ []
+pub beyond : (ls : Lists) (k : ℕ) → length ls ≤ k → list_at ls k ≡ []
 beyond [] k h = refl
 beyond (l ∷ ls) zero h = absurd (omega arith)
 beyond (l ∷ ls) (suc k) h = beyond ls k (omega arith)

@@ -12,14 +12,14 @@ use Rattle.cedr_plan.specs.declared.plan.PlanNode.{PlanNode}
 use Rattle.cedr_query.specs.Queries.{output_place}
 use Rattle.cedr_runs.specs.Runs.{lists_at}
 use Rattle.cedr_stream.proofs.Legal.{legal_rest}
-use Rattle.op_planned.specs.Ready.{is_source}
+use Rattle.op_node.specs.Ready.{is_source}
 use Rattle.cedr_net.specs.declared.work.Work.{Work}
 use Rattle.cedr_net.specs.declared.answer.Answer.{Answer}
 use Rattle.cedr_net.specs.declared.flow.Flow.{Flow}
 use Rattle.cedr_net.specs.Edges.{readers_from, all_wait, ArePorts, IsPulled, sent_on}
 use Rattle.cedr_net.specs.Flows.{reads_of, WorksAt, IsWorked, IsSourceAt, Flows, MovesOn, with_taken}
 use Rattle.cedr_net.specs.Networks.{IsAnswerOf, FlowStands, IsTurn}
-use Rattle.cedr_net.proofs.ListLemmas.{at_more, at_more_other}
+use Rattle.cedr_laws.proofs.ListLemmas.{at_more_other, at_more}
 use Rattle.cedr_net.proofs.EdgeLemmas.{all_sent, readers_are_ports}
 use Rattle.cedr_net.proofs.FlowLemmas.{same_or_not, pulled_sized, turned, flows_fed, source_has_none}
 

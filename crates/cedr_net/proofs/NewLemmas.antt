@@ -28,8 +28,8 @@ use Rattle.cedr_laws.specs.Pass.{IsLevel as IsPassLevel}
 use Rattle.cedr_node.proofs.LevelLemmas.{within_memory}
 use Rattle.cedr_query.proofs.NodeLemmas.{node_is}
 use Rattle.cedr_query.proofs.PlaceLemmas.{place_within, output_stands, output_alike}
-use Rattle.op_planned.specs.Ready.{is_source, IsReady}
-use Rattle.op_planned.specs.ReadyLaws.{node_ready}
+use Rattle.op_node.specs.Ready.{is_source, IsReady}
+use Rattle.op_node.specs.ReadyLaws.{node_ready}
 use Rattle.cedr_plan.specs.declared.plan.NodeKind.{NodeKind}
 use Rattle.cedr_plan.specs.declared.plan.NodeKind.TheVariants as kind
 use Rattle.cedr_runs.proofs.PlanNodes.{node_stands}
@@ -153,20 +153,8 @@ ports_here (b ∷ before) after n = ports_here before after n
 
 -- a kind that is that of an output is `Output`
 pub output_kind : (k : NodeKind) → is_output k ≡ true → k ≡ kind.Output
-output_kind (kind.Source file) e = cc
-output_kind (kind.Select tests) e = cc
-output_kind (kind.Project keep) e = cc
-output_kind kind.Union e = cc
-output_kind (kind.Join tests) e = cc
-output_kind (kind.Window width) e = cc
-output_kind (kind.Shift by) e = cc
-output_kind (kind.Hop every width) e = cc
-output_kind kind.Starts e = cc
-output_kind kind.Ends e = cc
-output_kind (kind.Group keys count sums) e = cc
-output_kind (kind.Sequence scope tests) e = cc
-output_kind (kind.Unless scope hold tests) e = cc
 output_kind kind.Output e = refl
+output_kind other e = absurd (cc e)
 
 -- the output of a plan has one port
 pub output_has_one : (plan : Plan) → IsPlan plan → length (lists_at (map no_ports plan.nodes.items) (output_place plan.nodes.items)) ≡ 1

@@ -10,7 +10,7 @@ use Rattle.cedr_node.proofs.NodeLemmas.{stands_ports}
 use Rattle.cedr_query.specs.Queries.{output_place}
 use Rattle.cedr_runs.specs.Runs.{lists_at}
 use Rattle.cedr_runs.proofs.PlanNodes.{place_within}
-use Rattle.op_planned.specs.Ready.{is_source}
+use Rattle.op_node.specs.Ready.{is_source}
 use Rattle.cedr_net.specs.declared.work.Work.{Work}
 use Rattle.cedr_net.specs.declared.flow.Flow.{Flow}
 use Rattle.cedr_net.specs.Flows.{reads_of, WorksAt, PortAt}

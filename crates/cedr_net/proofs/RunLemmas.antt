@@ -18,11 +18,11 @@ use Rattle.cedr_runs.proofs.Remembered.{remembered}
 use Rattle.cedr_runs.proofs.Closed.{closed_table}
 use Rattle.cedr_runs.proofs.PlanNodes.{place_within}
 use Rattle.cedr_base.specs.Messages.{IsTableOf}
-use Rattle.cedr_runs.proofs.Ports.{one_table}
 use Rattle.cedr_net.specs.declared.work.Work.{Work}
 use Rattle.cedr_net.specs.Edges.{joined, NothingWaits}
 use Rattle.cedr_net.specs.Flows.{Flows}
 use Rattle.cedr_net.proofs.FlowLemmas.{reads_at, works_lawful}
+use Rattle.cedr_laws.proofs.Passes.{one_table}
 
 prefixes : (ls qs ws : Lists) → length ls ≡ length qs → joined ls qs ≡ ws → ArePrefixes ls ws
 prefixes ls qs ws len e = subst (ArePrefixes ls) e (at ls qs len) where

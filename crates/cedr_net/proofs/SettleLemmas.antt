@@ -11,7 +11,7 @@ use Rattle.cedr_net.specs.declared.flow.Flow.{Flow}
 use Rattle.cedr_net.specs.Edges.{NothingWaits}
 use Rattle.cedr_net.specs.Flows.{reads_of, IsSourceAt, waiting_count}
 use Rattle.cedr_net.specs.Networks.{FlowStands, AllGrow, IsTurn, IsOnTheWay, IsDrained, IsSettledUpTo}
-use Rattle.cedr_net.proofs.ListLemmas.{at_more, at_more_other}
+use Rattle.cedr_laws.proofs.ListLemmas.{at_more_other, at_more}
 use Rattle.cedr_net.proofs.FlowLemmas.{split, same_or_not, no_source_waits, waits_port}
 
 -- one message fewer waits
@@ -34,7 +34,8 @@ grow_along a b c h j = record {
   grows = λ k. let x = h.grows k in let y = j.grows k in (x.0 ++ y.0, y.1 ∙ (ap (λ (ms : List Message). ms ++ y.0) x.1 ∙ append_assoc (list_at a k) x.0 y.0));
 }
 
-grow_more : (given : Lists) (place : ℕ) (piece : List Message) → place < length given → AllGrow given (with_more given place piece)
+-- lists with more messages go on
+pub grow_more : (given : Lists) (place : ℕ) (piece : List Message) → place < length given → AllGrow given (with_more given place piece)
 grow_more given place piece within = record { grows = λ k. at k (same_or_not k place) } where
   at : (k : ℕ) → (k ≡ place) ⊎ (k ≢ place) → (more : List Message) × (list_at (with_more given place piece) k ≡ list_at given k ++ more)
   at k (inl e) = (piece, ap (list_at (with_more given place piece)) e ∙ (at_more given place piece within ∙ ap (λ (j : ℕ). list_at given j ++ piece) (sym e)))

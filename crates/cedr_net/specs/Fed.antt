@@ -2,8 +2,8 @@
 use Rattle.std.specs.Prelude.{ℕ, ◌≡◌, ◌<◌, List, length, slice_index_or}
 use Rattle.cedr_laws.specs.Lists.{Lists, list_at}
 use Rattle.cedr_plan.specs.declared.plan.PlanNode.{PlanNode}
-use Rattle.msg_feed.specs.Came.{StandsFor}
-use Rattle.msg_feed.specs.declared.came.Came.{Came}
+use Rattle.cedr_testing.specs.Came.{StandsFor}
+use Rattle.cedr_testing.specs.declared.came.Came.{Came}
 use Rattle.cedr_net.specs.declared.net.SerialNet.{SerialNet}
 use Rattle.cedr_net.specs.Flows.{IsSourceAt}
 use Rattle.cedr_net.specs.Networks.{NetStands}

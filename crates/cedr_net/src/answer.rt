@@ -1,13 +1,12 @@
 ghost use Rattle.std.specs.Prelude.{◌≡◌, ◌++◌, ◌∷◌, [], List, true, OnOk};
 ghost use Rattle.cedr_base.specs.declared.change.Message.{Message};
 ghost use Rattle.cedr_base.specs.declared.change.Message.TheVariants as message;
-ghost use Rattle.cedr_base.specs.Changes.{MayFollow};
 ghost use Rattle.cedr_base.specs.Messages.{MayCome, IsLegalBehind};
-ghost use Rattle.cedr_stream.specs.Repairs.{IsMoved};
 ghost use Rattle.cedr_net.specs.Networks.{IsAnswerOf};
 
 use cedr_base::{Change, Message, OutOfMemory};
-use cedr_table::{Table, TableFault};
+use cedr_query::apply_change;
+use cedr_table::Table;
 use std::alloc::Global;
 
 /// The table of the changes that came of an output and, where they are kept, these changes.
@@ -17,18 +16,6 @@ pub(crate) struct Answer {
     /// None where they aren't kept.
     pub(crate) changes: Vec<Change>,
     pub(crate) table: Table,
-}
-
-/// Applies a change that may follow in a table.
-fn apply_one(table: &mut Table, change: Change) -> Result<(), OutOfMemory>
-    requires { MayFollow table.old [] change }
-    ensures { OnOk result (IsMoved change table.old table.new) }
-{
-    match table.apply(change) {
-        Ok(()) => Ok(()),
-        Err(TableFault::OutOfMemory) => Err(OutOfMemory),
-        Err(TableFault::NoSuchRow) => unreachable!(),
-    }
 }
 
 impl Answer {
@@ -62,7 +49,7 @@ impl Answer {
         ensures keeps { self.new.keeps ≡ self.old.keeps }
     {
         self.keep(&change)?;
-        apply_one(&mut self.table, change)?;
+        apply_change(&mut self.table, change)?;
         Ok(())
     }
 

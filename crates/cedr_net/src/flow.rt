@@ -6,7 +6,7 @@ ghost use Rattle.cedr_laws.specs.Lists.{Lists, list_at, with_more};
 ghost use Rattle.cedr_plan.specs.declared.plan.PlanNode.{PlanNode};
 ghost use Rattle.cedr_plan.specs.Rules.{IsPlan};
 ghost use Rattle.cedr_runs.specs.Runs.{lists_at};
-ghost use Rattle.op_planned.specs.Ready.{is_source};
+ghost use Rattle.op_node.specs.Ready.{is_source};
 ghost use Rattle.cedr_net.specs.declared.work.Work.{Work};
 ghost use Rattle.cedr_net.specs.Edges.{all_wait, ArePorts, NothingWaits};
 ghost use Rattle.cedr_net.specs.Flows.{WorksAt, IsWorked, IsSourceAt, no_ports};

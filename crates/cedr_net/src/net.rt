@@ -157,7 +157,8 @@ impl SerialNet {
         &self.flow.answer.table
     }
 
-    /// The changes that the output gave, in order, where the network keeps them, and else nothing. It takes no memory.
+    /// The changes that the output gave, in order, where the network was made by [`SerialNet::new`], which keeps them. It
+    /// takes no memory.
     pub fn changes(&self) -> &[Change]
         ensures { (nodes : List PlanNode) (ports : List Lists) (given : Lists) → NetStands nodes self.now ports given → keeps_changes self.now ≡ true → result.now ≡ changes_of (list_at given (output_place nodes)) }
     {

@@ -1,16 +1,17 @@
 ghost use Rattle.std.specs.Prelude.{ℕ, ◌≡◌, ◌<◌, List, [], IfOk, OnOk, length, slice_index_or};
 ghost use Rattle.cedr_plan.specs.Rules.{IsPlan};
-ghost use Rattle.msg_feed.specs.Came.{StandsFor};
-ghost use Rattle.msg_feed.specs.declared.came.Came.{Came};
+ghost use Rattle.cedr_testing.specs.Came.{StandsFor};
+ghost use Rattle.cedr_testing.specs.declared.came.Came.{Came};
 ghost use Rattle.cedr_net.specs.Fed.{WasFed};
 
 use super::*;
 use cedr_base::{Field, Message, OutOfMemory, Row, Time};
 use cedr_laws::Cause;
 use cedr_plan::{Plan, read_plan};
-use msg_feed::{Came, Told, message_of, tell_change};
-use op_planned::is_source;
+use cedr_testing::{Came, Told, message_of, tell_change, tell_changes};
+use op_node::is_source;
 use std::alloc::Global;
+use std::process::Abort;
 use std::test::Fail;
 
 const GROUP: &str = r#"{"version":1,"nodes":[
@@ -78,7 +79,7 @@ fn start(alloc: Global, text: &str) -> Result<Fed, Fail>
     Ok(Fed { plan, net, came })
 }
 
-/// Feeds a source, where the message may come there.
+/// Feeds a source, where the message may come there. Whether it was fed.
 fn feed(alloc: Global, fed: &mut Fed, place: usize, told: Told) -> Result<bool, Fail>
     requires { WasFed fed.old.plan.nodes.items fed.old.net fed.old.came.items }
     ensures { OnOk result (WasFed fed.new.plan.nodes.items fed.new.net fed.new.came.items) }
@@ -95,17 +96,15 @@ fn feed(alloc: Global, fed: &mut Fed, place: usize, told: Told) -> Result<bool, 
     Ok(true)
 }
 
-/// Whether the messages may come of the source in the first place, one after the other.
-fn feed_all(alloc: Global, fed: &mut Fed, told: &[Told]) -> Result<bool, Fail>
+/// Feeds the source in the first place, where the messages may come one after the other.
+fn feed_all(rt: &impl Abort, alloc: Global, fed: &mut Fed, told: &[Told]) -> Result<(), Fail>
     requires { WasFed fed.old.plan.nodes.items fed.old.net fed.old.came.items }
     ensures { OnOk result (WasFed fed.new.plan.nodes.items fed.new.net fed.new.came.items) }
 {
     for one in told {
-        if !feed(alloc, fed, 0, *one)? {
-            return Ok(false);
-        }
+        assert!(rt; feed(alloc, fed, 0, *one)?, "{one:?} may not come");
     }
-    Ok(true)
+    Ok(())
 }
 
 fn settle(alloc: Global, fed: &mut Fed) -> Result<(), Fail>
@@ -140,55 +139,54 @@ fn has_numbers(row: &Row, wanted: &Numbers) -> bool {
         })
 }
 
-/// Whether the answer has exactly these rows, in canonical order.
-fn answers(net: &SerialNet, wanted: &[Numbers]) -> Result<bool, OutOfMemory> {
+/// The answer has exactly these rows, in canonical order.
+fn check(rt: &impl Abort, net: &SerialNet, wanted: &[Numbers]) -> Result<(), OutOfMemory> {
     let rows = net.answer().canonical()?;
-    Ok(
-        rows.len() == wanted.len()
-            && rows
-                .iter()
-                .zip(wanted)
-                .all(|(row, one)| has_numbers(row, one)),
-    )
+    assert_eq!(rt; rows.len(), wanted.len());
+    for (row, one) in rows.iter().zip(wanted) {
+        assert!(rt; has_numbers(row, one), "{one:?}");
+    }
+    Ok(())
 }
 
-/// Whether the output gave exactly these changes.
-fn gave(net: &SerialNet, wanted: &[Told]) -> bool {
-    let changes = net.changes();
-    changes.len() == wanted.len()
-        && changes
-            .iter()
-            .zip(wanted)
-            .all(|(change, told)| tell_change(change) == *told)
-}
-
-/// Whether a port forgot exactly these changes, each with its cause and the greatest time before it.
-fn forgot(fed: &Fed, place: usize, port: usize, wanted: &[(Told, Cause, Time)]) -> bool
+/// What a port forgot: each change with its cause and the greatest time before it. None where there is no such port.
+fn forgotten_on(
+    alloc: Global,
+    fed: &Fed,
+    place: usize,
+    port: usize,
+) -> Result<Option<Vec<(Told, Cause, Time)>>, OutOfMemory>
     requires { WasFed fed.now.plan.nodes.items fed.now.net fed.now.came.items }
 {
     let nodes = fed.plan.nodes.as_slice();
     if place >= nodes.len() || port >= nodes[place].inputs.len() {
-        return false;
+        return Ok(None);
     }
     let forgotten = fed.net.forgotten(place, port);
-    forgotten.len() == wanted.len()
-        && forgotten.iter().zip(wanted).all(|(one, (told, cause, high))| {
-            tell_change(&one.change) == *told && one.cause == *cause && one.high == *high
-        })
+    let mut told = Vec::new(alloc);
+    for one in forgotten {
+        told.push((tell_change(&one.change), one.cause, one.high))?;
+    }
+    Ok(Some(told))
 }
 
 #[test]
 fn a_schedule_turns_its_nodes_in_order(rt: HostRuntime) -> Result<(), Fail> {
     let alloc = rt.alloc();
     let mut fed = start(alloc, GROUP)?;
-    let came = feed_all(alloc, &mut fed, &[Told::Add(1, 0, 10), Told::Add(1, 5, 7)])?;
-    assert!(rt; came && answers(&fed.net, &[])?);
+    feed_all(
+        &rt,
+        alloc,
+        &mut fed,
+        &[Told::Add(1, 0, 10), Told::Add(1, 5, 7)],
+    )?;
+    check(&rt, &fed.net, &[])?;
     assert!(rt; turn_two(alloc, &mut fed, 1, 2)?);
-    assert!(rt; answers(&fed.net, &[(0, 10, &[1, 1])])?);
+    check(&rt, &fed.net, &[(0, 10, &[1, 1])])?;
     assert!(rt; turn_two(alloc, &mut fed, 1, 2)?);
     settle(alloc, &mut fed)?;
     let counted: [Numbers; 3] = [(0, 5, &[1, 1]), (5, 7, &[1, 2]), (7, 10, &[1, 1])];
-    assert!(rt; answers(&fed.net, &counted)?);
+    check(&rt, &fed.net, &counted)?;
     assert_eq!(rt; fed.net.reach(), 0);
     Ok(())
 }
@@ -203,9 +201,9 @@ fn an_answer_is_repaired(rt: HostRuntime) -> Result<(), Fail> {
         Told::Mark(5),
         Told::Cut(1, 5, 7, 5),
     ];
-    assert!(rt; feed_all(alloc, &mut fed, &told)?);
+    feed_all(&rt, alloc, &mut fed, &told)?;
     settle(alloc, &mut fed)?;
-    assert!(rt; answers(&fed.net, &[(0, 10, &[1, 1])])?);
+    check(&rt, &fed.net, &[(0, 10, &[1, 1])])?;
     assert_eq!(rt; fed.net.reach(), 0);
     assert!(rt; !fed.net.ended());
     Ok(())
@@ -216,9 +214,9 @@ fn both_edges_of_a_node_have_its_messages(rt: HostRuntime) -> Result<(), Fail> {
     let alloc = rt.alloc();
     let mut fed = start(alloc, DIAMOND)?;
     let told = [Told::Add(1, 0, 10), Told::Add(2, 1, 3), Told::End];
-    assert!(rt; feed_all(alloc, &mut fed, &told)?);
+    feed_all(&rt, alloc, &mut fed, &told)?;
     settle(alloc, &mut fed)?;
-    assert!(rt; answers(&fed.net, &[(2, 4, &[1, 1])])?);
+    check(&rt, &fed.net, &[(2, 4, &[1, 1])])?;
     assert!(rt; fed.net.ended());
     Ok(())
 }
@@ -228,9 +226,9 @@ fn a_node_may_read_another_twice(rt: HostRuntime) -> Result<(), Fail> {
     let alloc = rt.alloc();
     let mut fed = start(alloc, ROWS)?;
     let told = [Told::Add(4, 1, 2), Told::Add(5, 3, 4), Told::End];
-    assert!(rt; feed_all(alloc, &mut fed, &told)?);
+    feed_all(&rt, alloc, &mut fed, &told)?;
     settle(alloc, &mut fed)?;
-    assert!(rt; answers(&fed.net, &[(3, 4, &[5]), (3, 4, &[5])])?);
+    check(&rt, &fed.net, &[(3, 4, &[5]), (3, 4, &[5])])?;
     Ok(())
 }
 
@@ -239,9 +237,9 @@ fn a_strong_output_holds_rows_back(rt: HostRuntime) -> Result<(), Fail> {
     let alloc = rt.alloc();
     let mut fed = start(alloc, STRONG)?;
     let told = [Told::Add(1, 1, 5), Told::Add(2, 2, 9), Told::Mark(6)];
-    assert!(rt; feed_all(alloc, &mut fed, &told)?);
+    feed_all(&rt, alloc, &mut fed, &told)?;
     settle(alloc, &mut fed)?;
-    assert!(rt; answers(&fed.net, &[(1, 5, &[1])])?);
+    check(&rt, &fed.net, &[(1, 5, &[1])])?;
     assert_eq!(rt; fed.net.reach(), 6);
     Ok(())
 }
@@ -257,9 +255,13 @@ fn a_strong_output_gives_additions_alone(rt: HostRuntime) -> Result<(), Fail> {
         Told::Cut(1, 1, 20, 10),
         Told::End,
     ];
-    assert!(rt; feed_all(alloc, &mut fed, &told)?);
+    feed_all(&rt, alloc, &mut fed, &told)?;
     settle(alloc, &mut fed)?;
-    assert!(rt; gave(&fed.net, &[Told::Add(1, 1, 10), Told::Add(2, 4, 10)]));
+    let wanted = [Told::Add(1, 1, 10), Told::Add(2, 4, 10)];
+    assert_eq!(rt;
+        tell_changes(alloc, fed.net.changes())?.as_slice(),
+        wanted.as_slice()
+    );
     Ok(())
 }
 
@@ -270,17 +272,12 @@ fn what_a_weak_port_forgot_is_listed(rt: HostRuntime) -> Result<(), Fail> {
     let late = Told::Add(3, 10, 40);
     let orphan = Told::Cut(3, 10, 40, 25);
     let told = [Told::Add(1, 1, 2), Told::Add(2, 20, 30), late, orphan];
-    assert!(rt; feed_all(alloc, &mut fed, &told)?);
+    feed_all(&rt, alloc, &mut fed, &told)?;
     settle(alloc, &mut fed)?;
-    assert!(rt; answers(&fed.net, &[(1, 2, &[1]), (20, 30, &[2])])?);
-    assert!(rt;
-        forgot(
-            &fed,
-            1,
-            0,
-            &[(late, Cause::Late, 20), (orphan, Cause::Orphan, 20)]
-        )
-    );
-    assert!(rt; forgot(&fed, 0, 0, &[]) == false);
+    check(&rt, &fed.net, &[(1, 2, &[1]), (20, 30, &[2])])?;
+    let wanted = [(late, Cause::Late, 20), (orphan, Cause::Orphan, 20)];
+    let forgotten = forgotten_on(alloc, &fed, 1, 0)?.ok_or("the output has a port")?;
+    assert_eq!(rt; forgotten.as_slice(), wanted.as_slice());
+    assert!(rt; forgotten_on(alloc, &fed, 0, 0)?.is_none());
     Ok(())
 }

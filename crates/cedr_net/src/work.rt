@@ -6,7 +6,7 @@ ghost use Rattle.cedr_laws.specs.Lawful.{all_over};
 ghost use Rattle.cedr_laws.specs.Lists.{Lists, list_at, with_more};
 ghost use Rattle.cedr_laws.specs.Pass.{IsLevel};
 ghost use Rattle.cedr_plan.specs.declared.plan.PlanNode.{PlanNode};
-ghost use Rattle.op_planned.specs.Ready.{is_source, IsReady};
+ghost use Rattle.op_node.specs.Ready.{is_source, IsReady};
 ghost use Rattle.cedr_net.specs.declared.work.Work.{Work};
 ghost use Rattle.cedr_net.specs.Flows.{WorksAt, PortAt, no_ports};
 

@@ -4,8 +4,8 @@ use Rattle.cedr_base.specs.declared.change.Message.{Message}
 use Rattle.cedr_base.specs.Messages.{MayCome}
 use Rattle.cedr_laws.specs.Lists.{Lists, list_at}
 use Rattle.cedr_drive.specs.Driving.{MayTake}
-use Rattle.msg_feed.specs.Came.{StandsFor}
-use Rattle.msg_feed.specs.declared.came.Came.{Came}
+use Rattle.cedr_testing.specs.Came.{StandsFor}
+use Rattle.cedr_testing.specs.declared.came.Came.{Came}
 use Rattle.cedr_node.specs.Fed.{AllCame, WasFed}
 use Rattle.cedr_node.specs.Nodes.{NodeStands}
 use Rattle.cedr_node.specs.declared.node.Node.{Node}

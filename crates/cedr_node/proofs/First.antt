@@ -6,11 +6,11 @@ use Rattle.cedr_base.specs.Messages.{mark_of}
 use Rattle.cedr_table.specs.Operators.{Tables, Meaning}
 use Rattle.cedr_base.specs.declared.level.Level.{Level}
 use Rattle.cedr_laws.specs.Lists.{Lists}
-use Rattle.cedr_laws.specs.Lawful.{passes_of, any_broken}
-use Rattle.cedr_laws.proofs.Grows.{pass-nil}
+use Rattle.cedr_laws.specs.Lawful.{passes_of}
 use Rattle.cedr_node.specs.declared.port.Port.{Port}
 use Rattle.cedr_node.specs.Standing.{PortStands, AllStand, levels_of, waiting_of, StandsBetween}
 use Rattle.cedr_drive.specs.Driving.{Drives}
+use Rattle.cedr_laws.proofs.Giving.{unbroken_none, passes_none}
 
 -- where ports stand for their lists and one more does for its own, all of them do
 pub all-push : (ps : List Port) (ls : Lists) (p : Port) (l : List Message) → AllStand ps ls → PortStands p l → AllStand (ps ++ p ∷ []) (ls ++ l ∷ [])
@@ -24,10 +24,6 @@ pub replicate-push : {X : Type 0} (n : ℕ) (x : X) → replicate (n + 1) x ≡ 
 replicate-push zero x = refl
 replicate-push (suc n) x = ap (λ (k : ℕ). replicate k x) (let e : suc n + 1 ≡ suc (n + 1) = omega arith in e) ∙ ap (λ xs. x ∷ xs) (replicate-push n x)
 
-passes_none : (vs : List Level) → passes_of vs (replicate (length vs) []) ≡ replicate (length vs) []
-passes_none [] = refl
-passes_none (v ∷ vs) = let a = pass-nil v in let b = passes_none vs in cc
-
 marks_none : (n : ℕ) → map mark_of (replicate n []) ≡ replicate n 0
 marks_none zero = refl
 marks_none (suc n) = ap (λ ns. 0 ∷ ns) (marks_none n)
@@ -35,10 +31,6 @@ marks_none (suc n) = ap (λ ns. 0 ∷ ns) (marks_none n)
 waiting_none : (n : ℕ) → waiting_of (replicate n []) ≡ n
 waiting_none zero = refl
 waiting_none (suc n) = omega (arith, waiting_none n)
-
-broken_none : (n : ℕ) → any_broken (replicate n []) ≡ false
-broken_none zero = refl
-broken_none (suc n) = broken_none n
 
 one : (n b : ℕ) → replicate n 0 ≡ b ∷ [] → replicate {A = List Message} n [] ≡ [] ∷ []
 one zero b h = cc
@@ -56,7 +48,7 @@ first_stands meaning stands ports marks sent vs count levels_are all drives echo
     record {
       ports_stand = all;
       waiting_is = sym (waiting_none (length vs));
-      broken_is = sym (broken_none (length vs));
+      broken_is = sym (unbroken_none (length vs));
       lawful = record { steps = []; on_ports = tt; lists_are = ap (λ (ws : List Level). replicate (length ws) []) levels_are; given_is = refl; right = tt };
       drives = λ _ _. subst (λ (ls : Lists). Drives meaning stands marks sent ls []) (sym passes_are) driven;
       echo = λ _ e.

@@ -11,7 +11,7 @@ use Rattle.cedr_laws.specs.declared.forgotten.Forgotten.{Forgotten}
 use Rattle.cedr_laws.specs.Kept.{forgot}
 use Rattle.cedr_laws.specs.Lists.{Lists, list_at}
 use Rattle.cedr_laws.specs.Lawful.{IsLawful}
-use Rattle.op_planned.specs.Meanings.{meaning_of, port_levels}
+use Rattle.op_node.specs.Meanings.{meaning_of, port_levels}
 use Rattle.cedr_node.specs.declared.node.Node.{Node}
 use Rattle.cedr_node.specs.declared.port.Port.{Port}
 use Rattle.cedr_node.specs.Standing.{AllStand, levels_of, IsForgottenAt}
@@ -44,19 +44,19 @@ module _ (node : Node) (lists : Lists) (given : List Message) (h : NodeStands no
       (subst (λ (vs : List Level). IsLawful (meaning_in node) vs lists given) h.levels h.between.lawful)
 
   pub stands_ports : length lists ≡ port_count node
-  stands_ports = sym (all_length node.works.ports.items lists h.between.ports_stand)
+  stands_ports = sym (all_length node.works.value.ports.items lists h.between.ports_stand)
 
   pub stands_inputs : length lists ≡ length (made_of node).inputs.items
   stands_inputs =
       stands_ports
-      ∙ (sym (length-map node.works.ports.items (λ (p : Port). p.aligner.level))
+      ∙ (sym (length-map node.works.value.ports.items (λ (p : Port). p.aligner.level))
       ∙ (ap (λ (vs : List Level). length vs) h.levels ∙ length-replicate (length (made_of node).inputs.items) (made_of node).level))
 
   pub stands_legal : (port : ℕ) → IsLegal (list_at lists port)
-  stands_legal = all_legal node.works.ports.items lists h.between.ports_stand
+  stands_legal = all_legal node.works.value.ports.items lists h.between.ports_stand
 
   -- what a port forgot, at its level
-  pub stands_forgot : (port : ℕ) (listed : List Forgotten) → port < port_count node → IsForgottenAt node.works.ports.items port (list_at lists port) listed → listed ≡ forgot (made_of node).level.memory (list_at lists port)
+  pub stands_forgot : (port : ℕ) (listed : List Forgotten) → port < port_count node → IsForgottenAt node.works.value.ports.items port (list_at lists port) listed → listed ≡ forgot (made_of node).level.memory (list_at lists port)
   stands_forgot port listed within f =
-      let at = level_at (length (made_of node).inputs.items) (made_of node).level node.works.ports.items port f.at h.levels within in
+      let at = level_at (length (made_of node).inputs.items) (made_of node).level node.works.value.ports.items port f.at h.levels within in
       f.all ∙ ap (λ (v : Level). forgot v.memory (list_at lists port)) (ap (λ (p : Port). p.aligner.level) (sym f.stands_at) ∙ at)

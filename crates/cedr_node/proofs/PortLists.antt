@@ -2,13 +2,9 @@
 use Rattle.std.proofs.Common.{◌≡◌, ℕ, ◌+◌, ◌<◌, zero, suc, List, [], ◌∷◌, ◌++◌, Bool, true, false, cond, ◌&&◌, ◌||◌, refl, ap, sym, ◌∙◌, arith, length, set, get_or}
 use Rattle.std.specs.Prelude.{map, nat_eq}
 use Rattle.std.proofs.lemmas.Bool.{ne_eqb}
-use Rattle.cedr_base.specs.declared.row.Row.{Row}
 use Rattle.cedr_base.specs.declared.change.Message.{Message}
 use Rattle.cedr_base.specs.declared.change.Message.TheVariants as message
-use Rattle.cedr_base.specs.Rows.{SameRows}
-use Rattle.cedr_base.specs.Changes.{all_takes}
-use Rattle.cedr_base.specs.Messages.{changes_of, mark_of, IsOpen, IsTableOf}
-use Rattle.cedr_base.proofs.Bags.{count_of-append}
+use Rattle.cedr_base.specs.Messages.{mark_of, IsOpen}
 use Rattle.cedr_table.specs.Operators.{SameTables, Tables}
 use Rattle.cedr_base.specs.declared.level.Level.{Level}
 use Rattle.cedr_laws.specs.Pass.{has_end, passed_of, passed_table, pass}
@@ -18,7 +14,7 @@ use Rattle.cedr_node.specs.Standing.{is_broken, is_closing, PortStands, AllStand
 use Rattle.cedr_laws.proofs.Grows.{pass-push, end-append}
 use Rattle.cedr_laws.proofs.Ends.{open_unbroken, broken-append, over_open}
 use Rattle.cedr_laws.proofs.Holds.{open_is}
-use Rattle.cedr_laws.proofs.Passes.{passes}
+use Rattle.cedr_laws.proofs.Passes.{passes, one_table}
 use Rattle.cedr_node.specs.declared.port.Port.{Port}
 
 -- there are as many ports as lists for which they stand
@@ -74,9 +70,6 @@ passes_more k (p ∷ ps) [] d m h within = absurd h
 passes_more zero (p ∷ ps) (l ∷ ls) d m h within = ap (λ (x : List Message). x ∷ passes_of (levels_of ps) ls) (pass-push p.aligner.level l m)
 passes_more (suc k) (p ∷ ps) (l ∷ ls) d m h within = ap (λ (xs : Lists). pass p.aligner.level l ∷ xs) (passes_more k ps ls d m h.1 (omega arith))
 
-same_of_tables : (ms : List Message) (rows others : List Row) → IsTableOf ms rows → IsTableOf ms others → SameRows rows others
-same_of_tables ms rows others h k = record { each = λ r. let a = h.sums.each r in let b = k.sums.each r in omega (arith, count_of-append r rows (all_takes (changes_of ms)), count_of-append r others (all_takes (changes_of ms))) }
-
 -- tables of the passed lists are the same bags as the passed tables
 pub tables_same : (ps : List Port) (ls : Lists) (ts : Tables) → AllStand ps ls → AreTables (passes_of (levels_of ps) ls) ts → SameTables ts (tables_of (levels_of ps) ls)
 tables_same [] [] [] h k = tt
@@ -86,7 +79,7 @@ tables_same (p ∷ ps) [] ts h k = absurd h
 tables_same (p ∷ ps) (l ∷ ls) [] h k = absurd k
 tables_same (p ∷ ps) (l ∷ ls) (t ∷ ts) h k =
     let a = h.0 in
-    (same_of_tables (pass p.aligner.level l) t (passed_table p.aligner.level l) k.0 (passes p.aligner.level l a.aligns.legal).table, tables_same ps ls ts h.1 k.1)
+    (one_table (pass p.aligner.level l) t (passed_table p.aligner.level l) k.0 (passes p.aligner.level l a.aligns.legal).table, tables_same ps ls ts h.1 k.1)
 
 -- the marks of the passed lists are the fronts of the ports
 pub fronts_are : (ps : List Port) (ls : Lists) → AllStand ps ls → map mark_of (passes_of (levels_of ps) ls) ≡ fronts_of (levels_of ps) ls

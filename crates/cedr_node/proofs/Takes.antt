@@ -1,10 +1,9 @@
 -- What comes of a message, as the code has it.
-use Rattle.std.proofs.Common.{◌≡◌, ℕ, ◌+◌, ◌-◌, ◌<◌, ◌≤◌, List, [], ◌∷◌, ◌++◌, Bool, true, false, cond, ◌||◌, ap, sym, ◌∙◌, subst, arith, length, set, get_or, append_assoc}
-use Rattle.std.proofs.lemmas.List.{append-nil}
+use Rattle.std.proofs.Common.{◌≡◌, ℕ, ◌+◌, ◌-◌, ◌<◌, ◌≤◌, List, [], ◌∷◌, ◌++◌, Bool, true, false, cond, ◌||◌, ap, sym, ◌∙◌, subst, arith, length, set, get_or}
 use Rattle.std.proofs.lemmas.Bool.{or_parts}
 use Rattle.cedr_base.specs.declared.change.Message.{Message}
 use Rattle.cedr_base.specs.Messages.{IsLegalBehind, IsLegal}
-use Rattle.cedr_stream.proofs.Legal.{legal-push}
+use Rattle.cedr_stream.proofs.Legal.{legal-push, legal_rest}
 use Rattle.cedr_laws.specs.Pass.{passed_of, pass}
 use Rattle.cedr_table.specs.Operators.{Tables, Meaning}
 use Rattle.cedr_laws.specs.Lists.{Lists, list_at, with_more}
@@ -18,11 +17,6 @@ use Rattle.cedr_laws.proofs.Ends.{open_not_over}
 use Rattle.cedr_node.proofs.PortLists.{all_at, passes_length, passes_at, broken_set, waiting_set}
 use Rattle.cedr_node.proofs.Echo.{echo_single}
 use Rattle.cedr_node.proofs.Goes.{goes, breaks_off, passes_now, holds_now}
-
--- the rest of a list that is legal after others is legal after those and its first messages
-pub legal-split : (before xs ys : List Message) → IsLegalBehind before (xs ++ ys) → IsLegalBehind (before ++ xs) ys
-legal-split before [] ys h = subst (λ (bs : List Message). IsLegalBehind bs ys) (sym (append-nil before)) h
-legal-split before (x ∷ xs) ys h = subst (λ (bs : List Message). IsLegalBehind bs ys) (append_assoc before (x ∷ []) xs) (legal-split (before ++ x ∷ []) xs ys h.1)
 
 closing_low : (b : Bool) → cond {A = ℕ} b 1 0 ≤ 1
 closing_low true = omega arith
@@ -58,13 +52,13 @@ module _ (meaning : Meaning) (stands : Tables → List ℕ → Type 0) (ports po
     m_whole : is_broken m ≡ false
     m_whole = sym broke_is ∙ (or_parts broken broke (sym broken_is ∙ whole)).1
 
-    pub driven : Drives meaning stands marks sent (passes_of (levels_of ports) lists) given
+    driven : Drives meaning stands marks sent (passes_of (levels_of ports) lists) given
     driven = h.drives was_whole (open_not_over port lists may.port_is may.comes.0)
 
-    pub port_within : port < length (passes_of (levels_of ports) lists)
+    port_within : port < length (passes_of (levels_of ports) lists)
     port_within = let e = may.port_is in omega (arith, passes_length ports lists h.ports_stand)
 
-    pub may_pass : IsLegalBehind (list_at (passes_of (levels_of ports) lists) port) passed
+    may_pass : IsLegalBehind (list_at (passes_of (levels_of ports) lists) port) passed
     may_pass =
         let v = (get_or ports port t.was).aligner.level in
         let l = list_at lists port in
@@ -73,7 +67,11 @@ module _ (meaning : Meaning) (stands : Tables → List ℕ → Type 0) (ports po
         let all : IsLegal (pass (get_or ports port t.was).aligner.level (list_at lists port) ++ passed_of (get_or ports port t.was).aligner.level (list_at lists port) m) = subst IsLegal (pass-push v l m) legal in
         subst (λ (ms : List Message). IsLegalBehind (list_at (passes_of (levels_of ports) lists) port) ms) (sym taken_now.passed_on)
         (subst (λ (ms : List Message). IsLegalBehind ms (passed_of (get_or ports port t.was).aligner.level (list_at lists port) m)) (sym (passes_at port ports lists t.was h.ports_stand may.port_is))
-        (legal-split [] (pass v l) (passed_of v l m) all))
+        (legal_rest [] (pass v l) (passed_of v l m) all))
+
+    -- what passed may come to the operator
+    pub passes_on : Drives meaning stands marks sent (passes_of (levels_of ports) lists) given × (port < length (passes_of (levels_of ports) lists)) × IsLegalBehind (list_at (passes_of (levels_of ports) lists) port) passed
+    passes_on = (driven, port_within, may_pass)
 
     module _ (stands' : Tables → List ℕ → Type 0) (held : Tables) (marks' : List ℕ) (sent' : ℕ) (before after : List Message)
         (a : Answers meaning stands' held marks' sent sent' (passes_of (levels_of ports) lists) port passed given before after) where

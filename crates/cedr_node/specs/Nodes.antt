@@ -5,8 +5,8 @@ use Rattle.cedr_base.specs.declared.level.Level.{Level}
 use Rattle.cedr_table.specs.Operators.{Tables, Meaning}
 use Rattle.cedr_plan.specs.declared.plan.PlanNode.{PlanNode}
 use Rattle.cedr_laws.specs.Lists.{Lists}
-use Rattle.op_planned.specs.Chosen.{chosen_meaning, chosen_held, ChosenStands}
-use Rattle.op_planned.specs.Meanings.{meaning_of, port_levels}
+use Rattle.op_node.specs.Readings.{node_reading}
+use Rattle.op_node.specs.Meanings.{meaning_of, port_levels}
 use Rattle.cedr_node.specs.declared.node.Node.{Node}
 use Rattle.cedr_node.specs.Standing.{levels_of, StandsBetween}
 
@@ -20,19 +20,19 @@ is_spent node = node.spent
 
 -- what its operator means
 abbrev pub meaning_in : Node → Meaning
-meaning_in node = chosen_meaning node.works.driver.op
+meaning_in node = node_reading.meaning node.works.value.driver.op
 
 -- the rows that its operator holds, port by port
 abbrev pub held_in : Node → Tables
-held_in node = chosen_held node.works.driver.op
+held_in node = node_reading.held node.works.value.driver.op
 
 -- the levels of its ports
 abbrev pub levels_in : Node → List Level
-levels_in node = levels_of node.works.ports.items
+levels_in node = levels_of node.works.value.ports.items
 
 -- how many ports it has
 abbrev pub port_count : Node → ℕ
-port_count node = length node.works.ports.items
+port_count node = length node.works.value.ports.items
 
 -- A node stands between the lists that came on its ports and the list that it gave. It is usable, its operator means
 -- what the plan's node does, each port has the level of the plan's node, and the operator and the ports stand between
@@ -41,4 +41,4 @@ pub record NodeStands (node : Node) (lists : Lists) (given : List Message) : Typ
   pub usable : is_spent node ≡ false
   pub means : meaning_in node ≡ meaning_of (made_of node)
   pub levels : levels_in node ≡ port_levels (made_of node)
-  pub between : StandsBetween (meaning_in node) (ChosenStands node.works.driver.op) node.works.ports.items node.works.driver.marks.items node.works.driver.sent node.works.waiting node.works.broken lists given
+  pub between : StandsBetween (meaning_in node) (node_reading.stands node.works.value.driver.op) node.works.value.ports.items node.works.value.driver.marks.items node.works.value.driver.sent node.works.value.waiting node.works.value.broken lists given

@@ -9,14 +9,14 @@ ghost use Rattle.cedr_plan.specs.Drawn.{node_of};
 ghost use Rattle.cedr_node.specs.declared.fault.NodeFault.TheVariants.{OutOfMemory as NoMemory, Spent};
 ghost use Rattle.cedr_node.specs.Nodes.{made_of, is_spent, port_count, meaning_in, held_in, levels_in, NodeStands};
 ghost use Rattle.cedr_node.specs.Standing.{HoldsAtFronts};
-ghost use Rattle.op_planned.specs.Ready.{IsReady};
+ghost use Rattle.op_node.specs.Ready.{IsReady};
 
 use crate::aligned::Aligned;
 use crate::fault::NodeFault;
 use cedr_base::{Level, Message, OutOfMemory};
 use cedr_laws::Forgotten;
 use cedr_plan::PlanNode;
-use op_planned::Planned;
+use op_node::{NodeOperator, node_operator};
 use std::alloc::Global;
 
 /// A node of a plan that takes messages: the operator of its kind, with an aligner of its level on each port.
@@ -24,7 +24,7 @@ use std::alloc::Global;
 pub struct Node {
     /// The node of the plan.
     made_of: PlanNode,
-    works: Aligned<Planned>,
+    works: Box<Aligned<NodeOperator>>,
     /// Whether memory ran out in a call.
     spent: bool,
 }
@@ -51,9 +51,10 @@ impl Node {
     {
         let ports = node.inputs.len();
         let made_of = node.copy(alloc)?;
-        let op = Planned::new(alloc, &node.kind, ports)?;
+        let op = node_operator(alloc, &node.kind, ports)?;
         let levels = same_levels(alloc, node.level, ports)?;
-        let works = Aligned::new(alloc, op, levels.as_slice())?;
+        let aligned = Aligned::new(alloc, op, levels.as_slice())?;
+        let works = Box::new(alloc, aligned)?;
         Ok(Node {
             made_of,
             works,

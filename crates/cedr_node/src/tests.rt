@@ -1,28 +1,19 @@
 ghost use Rattle.std.specs.Prelude.{◌≡◌, [], IfOk, OnOk, length, replicate};
 ghost use Rattle.cedr_laws.specs.Pass.{IsLevel};
 ghost use Rattle.cedr_node.specs.Fed.{AllCame, WasFed};
-ghost use Rattle.op_planned.specs.Ready.{IsReady};
+ghost use Rattle.op_node.specs.Ready.{IsReady};
 
 use super::*;
 use cedr_base::{FOREVER, Level, Message, OutOfMemory, Text, Time};
 use cedr_laws::Cause;
 use cedr_plan::{NodeKind, PlanNode};
-use msg_feed::{Came, Told, message_of, tell, tell_change};
+use cedr_testing::{Came, MIDDLE, STRONG, Told, message_of, tell_change, tell_messages};
 use std::alloc::Global;
+use std::process::Abort;
 use std::test::Fail;
 
 /// A message on a port, and what a node is to give for it.
 type Step<'a> = (usize, Told, &'a [Told]);
-
-const STRONG: Level = Level {
-    block: None,
-    memory: None,
-};
-
-const MIDDLE: Level = Level {
-    block: Some(0),
-    memory: None,
-};
 
 /// A node, and what came on its ports.
 #[derive(Drop)]
@@ -92,41 +83,36 @@ fn feed(
     }
 }
 
-fn say_all(messages: &[Message], wanted: &[Told]) -> bool {
-    messages.len() == wanted.len()
-        && messages
-            .iter()
-            .zip(wanted)
-            .all(|(message, told)| tell(message) == *told)
-}
-
-/// Whether the messages may come one after the other, and each is answered by exactly what is wanted.
-fn follows(alloc: Global, fed: &mut Fed, steps: &[Step]) -> Result<bool, OutOfMemory>
+/// The messages may come one after the other, and each is answered by exactly what is wanted.
+fn check(rt: &impl Abort, alloc: Global, fed: &mut Fed, steps: &[Step]) -> Result<(), OutOfMemory>
     requires { WasFed fed.old.node fed.old.came.items }
     ensures { OnOk result (WasFed fed.new.node fed.new.came.items) }
 {
     for (port, told, wanted) in steps {
-        let message = message_of(alloc, *told)?;
-        match feed(alloc, fed, *port, message)? {
-            Some(given) if say_all(given.as_slice(), wanted) => {}
-            _ => return Ok(false),
-        }
+        let given = feed(alloc, fed, *port, message_of(alloc, *told)?)?;
+        let found = match &given {
+            Some(messages) => Some(tell_messages(alloc, messages.as_slice())?),
+            None => None,
+        };
+        let found = found.as_ref().map(|told| told.as_slice());
+        assert_eq!(rt; found, Some(*wanted), "at {told:?} on port {port}");
     }
-    Ok(true)
+    Ok(())
 }
 
-/// Whether a port forgot exactly these changes, each with its cause and the greatest time before it.
-fn forgot(fed: &Fed, port: usize, wanted: &[(Told, Cause, Time)]) -> bool
+/// What a port forgot: each change with its cause and the greatest time before it.
+fn forgotten_on(alloc: Global, fed: &Fed, port: usize) -> Result<Vec<(Told, Cause, Time)>, Fail>
     requires { WasFed fed.now.node fed.now.came.items }
 {
     if port >= fed.came.len() {
-        return false;
+        return Err("no port")?;
     }
     let forgotten = fed.node.forgotten(port);
-    forgotten.len() == wanted.len()
-        && forgotten.iter().zip(wanted).all(|(one, (told, cause, high))| {
-            tell_change(&one.change) == *told && one.cause == *cause && one.high == *high
-        })
+    let mut told = Vec::new(alloc);
+    for one in forgotten {
+        told.push((tell_change(&one.change), one.cause, one.high))?;
+    }
+    Ok(told)
 }
 
 #[test]
@@ -144,7 +130,7 @@ fn a_block_holds_rows_back(rt: HostRuntime) -> Result<(), Fail> {
         (0, Told::Cut(2, 4, 9, 5), &[]),
         (0, Told::Mark(7), &[Told::Add(2, 4, 5), Told::Mark(7)]),
     ];
-    assert!(rt; follows(alloc, &mut fed, &steps)?);
+    check(&rt, alloc, &mut fed, &steps)?;
     assert!(rt; !fed.node.ended());
     Ok(())
 }
@@ -164,12 +150,12 @@ fn late_changes_and_orphans_are_told(rt: HostRuntime) -> Result<(), Fail> {
         (0, Told::Cut(3, 10, 40, 25), &[]),
         (0, Told::End, &[Told::Mark(FOREVER), Told::End]),
     ];
-    assert!(rt; follows(alloc, &mut fed, &steps)?);
+    check(&rt, alloc, &mut fed, &steps)?;
     let wanted = [
         (Told::Add(3, 10, 40), Cause::Late, 20),
         (Told::Cut(3, 10, 40, 25), Cause::Orphan, 20),
     ];
-    assert!(rt; forgot(&fed, 0, &wanted));
+    assert_eq!(rt; forgotten_on(alloc, &fed, 0)?.as_slice(), wanted.as_slice());
     assert!(rt; fed.node.ended());
     Ok(())
 }
@@ -183,7 +169,7 @@ fn a_strong_port_waits_for_the_end_of_rows(rt: HostRuntime) -> Result<(), Fail> 
         (0, Told::Add(2, 2, 9), &[]),
         (0, Told::Mark(6), &[Told::Add(1, 1, 5), Told::Mark(2)]),
     ];
-    assert!(rt; follows(alloc, &mut fed, &steps)?);
+    check(&rt, alloc, &mut fed, &steps)?;
     Ok(())
 }
 
@@ -206,7 +192,7 @@ fn a_strong_port_gives_ties_in_order(rt: HostRuntime) -> Result<(), Fail> {
         (0, Told::Mark(5), &[Told::Mark(2)]),
         (0, Told::Mark(6), &ordered),
     ];
-    assert!(rt; follows(alloc, &mut fed, &steps)?);
+    check(&rt, alloc, &mut fed, &steps)?;
     Ok(())
 }
 
@@ -221,7 +207,7 @@ fn a_middle_port_passes_ties_at_once(rt: HostRuntime) -> Result<(), Fail> {
         (0, Told::Cut(1, 8, 9, 8), &[Told::Cut(1, 8, 9, 8)]),
         (0, Told::Mark(4), &[Told::Mark(4)]),
     ];
-    assert!(rt; follows(alloc, &mut fed, &steps)?);
+    check(&rt, alloc, &mut fed, &steps)?;
     Ok(())
 }
 
@@ -243,12 +229,12 @@ fn a_weak_port_keeps_what_is_just_in_time(rt: HostRuntime) -> Result<(), Fail> {
         (0, Told::Add(5, 9, 10), &[Told::Add(2, 7, 9)]),
         (0, Told::End, &last),
     ];
-    assert!(rt; follows(alloc, &mut fed, &steps)?);
+    check(&rt, alloc, &mut fed, &steps)?;
     let wanted = [
         (Told::Add(4, 2, 20), Cause::Late, 7),
         (Told::Cut(4, 2, 20, 8), Cause::Orphan, 7),
     ];
-    assert!(rt; forgot(&fed, 0, &wanted));
+    assert_eq!(rt; forgotten_on(alloc, &fed, 0)?.as_slice(), wanted.as_slice());
     Ok(())
 }
 
@@ -267,9 +253,9 @@ fn a_memory_of_0_keeps_ties(rt: HostRuntime) -> Result<(), Fail> {
         (0, Told::Add(3, 4, 9), &[]),
         (0, Told::Mark(5), &[Told::Mark(5)]),
     ];
-    assert!(rt; follows(alloc, &mut fed, &steps)?);
+    check(&rt, alloc, &mut fed, &steps)?;
     let wanted = [(Told::Add(3, 4, 9), Cause::Late, 5)];
-    assert!(rt; forgot(&fed, 0, &wanted));
+    assert_eq!(rt; forgotten_on(alloc, &fed, 0)?.as_slice(), wanted.as_slice());
     Ok(())
 }
 
@@ -284,10 +270,10 @@ fn a_node_ends_with_its_last_port(rt: HostRuntime) -> Result<(), Fail> {
         (1, Told::Mark(7), &[Told::Mark(5)]),
         (0, Told::End, &[Told::Mark(7)]),
     ];
-    assert!(rt; follows(alloc, &mut fed, &steps)?);
+    check(&rt, alloc, &mut fed, &steps)?;
     assert!(rt; !fed.node.ended());
     let last: [Step; 1] = [(1, Told::End, &[Told::Mark(FOREVER), Told::End])];
-    assert!(rt; follows(alloc, &mut fed, &last)?);
+    check(&rt, alloc, &mut fed, &last)?;
     assert!(rt; fed.node.ended());
     Ok(())
 }
@@ -303,7 +289,7 @@ fn a_node_breaks_with_its_last_port(rt: HostRuntime) -> Result<(), Fail> {
         (1, Told::Mark(6), &[]),
         (1, Told::End, &[Told::Broken]),
     ];
-    assert!(rt; follows(alloc, &mut fed, &steps)?);
+    check(&rt, alloc, &mut fed, &steps)?;
     assert!(rt; fed.node.ended());
     Ok(())
 }
@@ -318,7 +304,7 @@ fn a_port_may_break_behind_another_ports_end(rt: HostRuntime) -> Result<(), Fail
         (0, Told::End, &[Told::Mark(6)]),
         (1, Told::Broken, &[Told::Broken]),
     ];
-    assert!(rt; follows(alloc, &mut fed, &steps)?);
+    check(&rt, alloc, &mut fed, &steps)?;
     Ok(())
 }
 
@@ -331,7 +317,7 @@ fn the_bound_of_the_operator_is_sent(rt: HostRuntime) -> Result<(), Fail> {
         (0, Told::Mark(5), &[Told::Mark(12)]),
         (0, Told::Cut(1, 5, 9, 6), &[Told::Cut(1, 12, 16, 13)]),
     ];
-    assert!(rt; follows(alloc, &mut fed, &steps)?);
+    check(&rt, alloc, &mut fed, &steps)?;
     Ok(())
 }
 
@@ -340,12 +326,12 @@ fn no_message_may_come_before_its_time(rt: HostRuntime) -> Result<(), Fail> {
     let alloc = rt.alloc();
     let mut fed = start(alloc, NodeKind::Output, 1, MIDDLE)?;
     let mark: [Step; 1] = [(0, Told::Mark(5), &[Told::Mark(5)])];
-    assert!(rt; follows(alloc, &mut fed, &mark)?);
-    let early: [Step; 1] = [(0, Told::Add(1, 4, 9), &[])];
-    assert!(rt; !follows(alloc, &mut fed, &early)?);
+    check(&rt, alloc, &mut fed, &mark)?;
+    let early = feed(alloc, &mut fed, 0, message_of(alloc, Told::Add(1, 4, 9))?)?;
+    assert!(rt; early.is_none());
     let end: [Step; 1] = [(0, Told::End, &[Told::Mark(FOREVER), Told::End])];
-    assert!(rt; follows(alloc, &mut fed, &end)?);
-    let late: [Step; 1] = [(0, Told::Mark(7), &[])];
-    assert!(rt; !follows(alloc, &mut fed, &late)?);
+    check(&rt, alloc, &mut fed, &end)?;
+    let late = feed(alloc, &mut fed, 0, message_of(alloc, Told::Mark(7))?)?;
+    assert!(rt; late.is_none());
     Ok(())
 }

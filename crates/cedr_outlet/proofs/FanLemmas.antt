@@ -4,12 +4,13 @@ use Rattle.std.proofs.lemmas.List.{length-set, get_or-set_same, get_or-set_other
 use Rattle.cedr_base.specs.declared.change.Message.{Message}
 use Rattle.cedr_outlet.specs.Outgoing.{Outgoing}
 use Rattle.cedr_outlet.specs.Outlets.{NonePending, SomePending, AllTotal, total_of, Kept, Rested, Put, Tried}
-use Rattle.cedr_outlet.proofs.RoundLemmas.{at_set_or, or_left, or_right, same_at, map_length}
+use Rattle.cedr_outlet.proofs.RoundLemmas.{at_set_or, same_at, map_length}
+use Rattle.std.proofs.lemmas.Bool.{or_parts}
 
 -- one edge more: where both flags say that nothing is pending, nothing is for the edges up to this one
 pub waits_step : (os : List Outgoing) (waits b : Bool) (i : ℕ) (y : Outgoing) → (waits ≡ false → NonePending os i) → (b ≡ false → y.pending ≡ []) → (waits || b) ≡ false → NonePending (set os i y) (i + 1)
 waits_step os waits b i y so now none k d less in_set =
-    at_set_or (λ (o : Outgoing). o.pending ≡ []) os i k y d (omega (arith, in_set, length-set os i y)) (λ (e : k ≡ i). now (or_right waits b none)) (λ (n : k ≢ i). so (or_left waits b none) k d (omega arith) (omega (arith, in_set, length-set os i y)))
+    at_set_or (λ (o : Outgoing). o.pending ≡ []) os i k y d (omega (arith, in_set, length-set os i y)) (λ (e : k ≡ i). now (or_parts waits b none).1) (λ (n : k ≢ i). so (or_parts waits b none).0 k d (omega arith) (omega (arith, in_set, length-set os i y)))
 
 -- one edge more: where a flag says that something is pending, something is for an edge up to this one
 pub some_step : (os : List Outgoing) (waits b : Bool) (i : ℕ) (y : Outgoing) → i < length os → (waits ≡ true → SomePending os i) → (b ≡ true → y.pending ≢ []) → (waits || b) ≡ true → SomePending (set os i y) (i + 1)

@@ -1,7 +1,7 @@
 -- A round over the elements of a list.
 use Rattle.std.proofs.Common.{◌≡◌, ◌≢◌, ℕ, ◌+◌, ◌<◌, ◌≤◌, Bool, true, false, true≢false, ◌||◌, List, [], ◌∷◌, length, map, set, get_or, refl, sym, ◌∙◌, ap, subst, arith, ⊎_elim, zero, suc}
 use Rattle.std.proofs.lemmas.List.{length-set, get_or-set_same, get_or-set_other, get_or_default, map-set, set-get_or, length-map}
-use Rattle.std.proofs.lemmas.Bool.{cases_eq}
+use Rattle.std.proofs.lemmas.Bool.{cases_eq, or_parts}
 use Rattle.cedr_outlet.specs.Rounds.{Swept, Round}
 
 -- either k is i, and then the element is y, or it is another
@@ -9,17 +9,6 @@ pub at_set_or : {X : Type 0} (P : X → Type 0) (xs : List X) (i k : ℕ) (y d :
 at_set_or {X} P xs i k y d less here there =
     ⊎_elim (λ (e : k ≡ i). subst P (sym (subst (λ (j : ℕ). get_or (set xs i y) j d ≡ y) (sym e) (get_or-set_same xs i y d (subst (λ (j : ℕ). j < length xs) e less)))) (here e))
     (λ (n : k ≢ i). subst P (sym (get_or-set_other xs i k y d n)) (there n)) (cases_eq k i)
-
--- where neither of two is so, the first isn't
-pub or_left : (a b : Bool) → (a || b) ≡ false → a ≡ false
-or_left true b e = e
-or_left false b e = refl
-
--- where neither of two is so, the second isn't
-pub or_right : (a b : Bool) → (a || b) ≡ false → b ≡ false
-or_right true true e = e
-or_right true false e = refl
-or_right false b e = e
 
 -- what an element is written back with stays under f
 pub map_back : {X Y : Type 0} (f : X → Y) (xs : List X) (i : ℕ) (o y : X) → i < length xs → o ≡ get_or xs i o → f y ≡ f o → map f (set xs i y) ≡ map f xs
@@ -104,8 +93,8 @@ module _ {X : Type 0} (Kept Rested Moves : X → X → Type 0) where
             (λ (n : k ≢ i). so.kept k d (omega arith) in_old);
         rested = λ none k d less' in_old.
             at_set_or (λ (n : X). Rested (get_or old k d) n) new i k y d (omega (arith, in_old, so.length_is))
-            (λ (e : k ≡ i). subst (λ (j : ℕ). Rested (get_or old j d) y) (sym e) (subst (λ (x : X). Rested x y) (here d) (rested (or_right moved b none))))
-            (λ (n : k ≢ i). so.rested (or_left moved b none) k d (omega arith) in_old);
+            (λ (e : k ≡ i). subst (λ (j : ℕ). Rested (get_or old j d) y) (sym e) (subst (λ (x : X). Rested x y) (here d) (rested (or_parts moved b none).1)))
+            (λ (n : k ≢ i). so.rested (or_parts moved b none).0 k d (omega arith) in_old);
         some = some_moved old new moved b i o y so less there moves;
         rest = λ k d le. get_or-set_other new i k y d (λ e. omega arith) ∙ so.rest k d (omega arith);
       }

@@ -3,7 +3,7 @@ use Rattle.std.proofs.Common.{◌≡◌, Bool, true, false, List, [], ◌∷◌,
 use Rattle.std.specs.Option.{option_map_or}
 use Rattle.serde_json.specs.Data.{Data}
 use Rattle.cedr_plan.specs.Drawn.{Node}
-use Rattle.cedr_plan.specs.Operators.{row_of}
+use Rattle.cedr_plan.specs.Operators.{operator_row}
 use Rattle.cedr_plan.specs.declared.operator.Operator.{Operator}
 use Rattle.cedr_plan.specs.Nodes.{first_fault, fault_under, fault_without_operator, node_fault, operator_at}
 use Rattle.cedr_plan.specs.declared.fault.PlanKind.{PlanKind}
@@ -21,5 +21,5 @@ first_behind ((true, first) ∷ front) rest h = cc
 first_behind ((false, first) ∷ front) rest h = first_behind front rest h
 
 -- the fault of a node whose operator is known
-pub fault_known : (earlier : List Node) (d : Data) (operator : Operator) → Some operator ≡ operator_at d → node_fault earlier d ≡ fault_under (row_of operator) earlier d
-fault_known earlier d operator e = ap (λ found. option_map_or (λ o. fault_under (row_of o) earlier d) found (Some (fault_without_operator d))) (sym e)
+pub fault_known : (earlier : List Node) (d : Data) (operator : Operator) → Some operator ≡ operator_at d → node_fault earlier d ≡ fault_under (operator_row operator) earlier d
+fault_known earlier d operator e = ap (λ found. option_map_or (λ o. fault_under (operator_row o) earlier d) found (Some (fault_without_operator d))) (sym e)

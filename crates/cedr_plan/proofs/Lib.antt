@@ -5,3 +5,4 @@ pub mod TestLemmas
 pub mod NoFaults
 pub mod SoundNodes
 pub mod SoundPlans
+pub mod UnlikeLemmas

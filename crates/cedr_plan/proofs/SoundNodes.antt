@@ -11,8 +11,8 @@ use Rattle.cedr_expr.specs.Columns.{kept}
 use Rattle.cedr_plan.specs.Drawn.{Node}
 use Rattle.cedr_plan.specs.Json.{has, is_list, is_number, is_text, is_whole_within}
 use Rattle.cedr_plan.specs.Levels.{has_bad_bound}
-use Rattle.cedr_plan.specs.Nodes.{is_name_value, has_ports, input_values, inputs_at, ports_at, first_port, all_ports, number_at, tests_at, columns_at, truth_at, count_types, group_types, level_at, result_types, result_width, types_under, lacks_inputs, lacks_member, has_odd_level, has_missing_part, has_too_many, has_bad_number, has_bad_level, is_named_twice, has_unknown_input, is_too_wide, has_bad_column, has_type_difference, kind_from, node_from, first_fault, fault_under, early_faults, late_faults, is_too_long, is_bad_number, is_bad_column, has_two_types, has_unlike_ports, same_types, is_text_column}
-use Rattle.cedr_plan.specs.Operators.{Row, row_of, key_of, form_of}
+use Rattle.cedr_plan.specs.Nodes.{is_name_value, has_ports, input_values, inputs_at, ports_at, first_port, all_ports, number_at, tests_at, columns_at, truth_at, count_types, group_types, level_at, result_types, result_width, types_under, lacks_inputs, lacks_member, has_odd_level, has_missing_part, has_too_many, has_bad_number, has_bad_level, is_named_twice, has_unknown_input, is_too_wide, has_bad_column, has_type_difference, kind_from, node_from, first_fault, fault_under, untyped_faults, typed_faults, is_too_long, is_bad_number, is_bad_column, has_two_types, has_unlike_ports, same_types, is_text_column}
+use Rattle.cedr_plan.specs.Operators.{Row, operator_row, operator_of, key_of, form_of}
 use Rattle.cedr_expr.specs.Types.{first_bad_column, first_differing, first_past_end}
 use Rattle.cedr_plan.specs.declared.operator.Form.TheVariants as form
 use Rattle.cedr_plan.specs.declared.operator.Member.TheVariants as member
@@ -51,7 +51,7 @@ none_hold (test ∷ tests) h =
 -- where no fault is found, none holds
 pub no_fault : (row : Row) (earlier : List Node) (d : Data) → fault_under row earlier d ≡ None → HasNoFault row earlier d
 no_fault row earlier d h =
-    let all = none_hold (early_faults row earlier d ++ late_faults row earlier d) h in
+    let all = none_hold (untyped_faults row earlier d ++ typed_faults row earlier d) h in
     record {
       missing = all.0;
       many = all.1.0;
@@ -89,41 +89,9 @@ number_parts row d h = or_parts (list_any (λ m. has (key_of m) (is_bad_number (
 
 -- ---- ports
 
-no_ports : (o : Operator) → has_ports (row_of o) ≡ false → (row_of o).least ≡ 0
-no_ports operator.Source h = refl
-no_ports operator.Select h = absurd (true≢false h)
-no_ports operator.Project h = absurd (true≢false h)
-no_ports operator.Union h = absurd (true≢false h)
-no_ports operator.Join h = absurd (true≢false h)
-no_ports operator.Window h = absurd (true≢false h)
-no_ports operator.Shift h = absurd (true≢false h)
-no_ports operator.Hop h = absurd (true≢false h)
-no_ports operator.Starts h = absurd (true≢false h)
-no_ports operator.Ends h = absurd (true≢false h)
-no_ports operator.Group h = absurd (true≢false h)
-no_ports operator.Sequence h = absurd (true≢false h)
-no_ports operator.Unless h = absurd (true≢false h)
-no_ports operator.Output h = absurd (true≢false h)
-
 least_by : (ports lacks : Bool) (n least : ℕ) → (ports && (lacks || nat_lt n least)) ≡ false → (ports ≡ false → least ≡ 0) → least ≤ n
 least_by true lacks n least h none = ltb-false n least (or_parts lacks (nat_lt n least) h).1
 least_by false lacks n least h none = let zero_least : least ≡ 0 = none refl in omega arith
-
-kind_operator : (o : Operator) (d : Data) → operator_of_kind (kind_from o d) ≡ o
-kind_operator operator.Source d = refl
-kind_operator operator.Select d = refl
-kind_operator operator.Project d = refl
-kind_operator operator.Union d = refl
-kind_operator operator.Join d = refl
-kind_operator operator.Window d = refl
-kind_operator operator.Shift d = refl
-kind_operator operator.Hop d = refl
-kind_operator operator.Starts d = refl
-kind_operator operator.Ends d = refl
-kind_operator operator.Group d = refl
-kind_operator operator.Sequence d = refl
-kind_operator operator.Unless d = refl
-kind_operator operator.Output d = refl
 
 -- ---- numbers
 
@@ -134,28 +102,6 @@ member_number key d lacking bad there whole =
     let b = or_parts (has key (λ x. not (is_whole_within 1 (2 ^ 40) x)) d) bad whole in
     (number_there key d (not_false _ a.0) b.0, a.1, b.1)
 
-numbers_there : (o : Operator) (d : Data) → list_any (lacks_member d) (row_of o).members ≡ false → list_any (λ m. has (key_of m) (is_bad_number (form_of m)) d) (row_of o).members ≡ false
-    → AllByRecursion IsNumber (numbers_of (kind_from o d))
-numbers_there operator.Source d there whole = tt
-numbers_there operator.Select d there whole = tt
-numbers_there operator.Project d there whole = tt
-numbers_there operator.Union d there whole = tt
-numbers_there operator.Join d there whole = tt
-numbers_there operator.Window d there whole = ((member_number (codes "width") d false false there whole).0, tt)
-numbers_there operator.Shift d there whole = ((member_number (codes "by") d false false there whole).0, tt)
-numbers_there operator.Hop d there whole =
-    let first = member_number (codes "every") d (list_any (lacks_member d) (member.Width ∷ [])) (list_any (λ m. has (key_of m) (is_bad_number (form_of m)) d) (member.Width ∷ [])) there whole in
-    (first.0, ((member_number (codes "width") d false false first.1 first.2).0, tt))
-numbers_there operator.Starts d there whole = tt
-numbers_there operator.Ends d there whole = tt
-numbers_there operator.Group d there whole = tt
-numbers_there operator.Sequence d there whole =
-    ((member_number (codes "scope") d (list_any (lacks_member d) (member.Where ∷ [])) (list_any (λ m. has (key_of m) (is_bad_number (form_of m)) d) (member.Where ∷ [])) there whole).0, tt)
-numbers_there operator.Unless d there whole =
-    let first = member_number (codes "scope") d (list_any (lacks_member d) (member.Hold ∷ member.Where ∷ [])) (list_any (λ m. has (key_of m) (is_bad_number (form_of m)) d) (member.Hold ∷ member.Where ∷ [])) there whole in
-    (first.0, ((member_number (codes "hold") d (list_any (lacks_member d) (member.Where ∷ [])) (list_any (λ m. has (key_of m) (is_bad_number (form_of m)) d) (member.Where ∷ [])) first.1 first.2).0, tt))
-numbers_there operator.Output d there whole = tt
-
 -- ---- columns
 
 tests_there : (d : Data) (ports : List (List FieldType)) (long bad : Bool) → (has (codes "where") (is_too_long form.Tests) d || long) ≡ false
@@ -165,66 +111,68 @@ tests_there d ports long bad few column types = (
   tests_fit d (all_ports ports) (or_parts (is_some (first_bad_column (tests_at d) (all_ports ports) [])) false column).0 (or_parts (is_some (first_differing (tests_at d) (all_ports ports) [])) false types).0,
 )
 
-fits_there : (o : Operator) (d : Data) (ports : List (List FieldType)) → list_any (λ m. has (key_of m) (is_too_long (form_of m)) d) (row_of o).members ≡ false
-    → list_any (is_bad_column (all_ports ports) d) (row_of o).members ≡ false → (has_unlike_ports (row_of o).outcome ports || list_any (has_two_types (all_ports ports) d) (row_of o).members) ≡ false
-    → FitsPorts (kind_from o d) ports
-fits_there operator.Source d ports few column types = tt
-fits_there operator.Select d ports few column types = tests_there d ports false false few column types
-fits_there operator.Project d ports few column types =
+-- ---- what holds of an operator by its row in the table
+
+-- with no ports it asks for no inputs
+none_asked : (o : Operator) → has_ports (operator_row o) ≡ false → (operator_row o).least ≡ 0
+none_asked operator.Source h = refl
+none_asked o h = absurd (true≢false h)
+
+-- a node has the kind of its operator
+kind_is : (o : Operator) (d : Data) → operator_of_kind (kind_from o d) ≡ o
+kind_is operator.Source d = refl
+kind_is o d = refl
+
+-- the numbers that its members ask for are such
+numbers_are : (o : Operator) (d : Data) → list_any (lacks_member d) (operator_row o).members ≡ false → list_any (λ m. has (key_of m) (is_bad_number (form_of m)) d) (operator_row o).members ≡ false → AllByRecursion IsNumber (numbers_of (kind_from o d))
+numbers_are operator.Window d there whole = ((member_number (codes "width") d false false there whole).0, tt)
+numbers_are operator.Shift d there whole = ((member_number (codes "by") d false false there whole).0, tt)
+numbers_are operator.Hop d there whole =
+    let first = member_number (codes "every") d (list_any (lacks_member d) (member.Width ∷ [])) (list_any (λ m. has (key_of m) (is_bad_number (form_of m)) d) (member.Width ∷ [])) there whole in
+    (first.0, ((member_number (codes "width") d false false first.1 first.2).0, tt))
+numbers_are operator.Sequence d there whole =
+    ((member_number (codes "scope") d (list_any (lacks_member d) (member.Where ∷ [])) (list_any (λ m. has (key_of m) (is_bad_number (form_of m)) d) (member.Where ∷ [])) there whole).0, tt)
+numbers_are operator.Unless d there whole =
+    let first = member_number (codes "scope") d (list_any (lacks_member d) (member.Hold ∷ member.Where ∷ [])) (list_any (λ m. has (key_of m) (is_bad_number (form_of m)) d) (member.Hold ∷ member.Where ∷ [])) there whole in
+    (first.0, ((member_number (codes "hold") d (list_any (lacks_member d) (member.Where ∷ [])) (list_any (λ m. has (key_of m) (is_bad_number (form_of m)) d) (member.Where ∷ [])) first.1 first.2).0, tt))
+numbers_are o d there whole = tt
+
+-- what its members say of columns fits the ports
+fits_are : (o : Operator) (d : Data) (ports : List (List FieldType)) → list_any (λ m. has (key_of m) (is_too_long (form_of m)) d) (operator_row o).members ≡ false → list_any (is_bad_column (all_ports ports) d) (operator_row o).members ≡ false → (has_unlike_ports (operator_row o).outcome ports || list_any (has_two_types (all_ports ports) d) (operator_row o).members) ≡ false → FitsPorts (kind_from o d) ports
+fits_are operator.Select d ports few column types = tests_there d ports false false few column types
+fits_are operator.Project d ports few column types =
     columns_fit (columns_at (codes "keep") d) (all_ports ports) (or_parts (is_some (first_past_end (columns_at (codes "keep") d) (all_ports ports))) false column).0
-fits_there operator.Union d ports few column types =
+fits_are operator.Union d ports few column types =
     All-from_recursion (λ types. types ≡ first_port ports) ports (ports_alike (first_port ports) ports (or_parts (list_any (λ types. not (same_types (first_port ports) types)) ports) false types).0)
-fits_there operator.Join d ports few column types = tests_there d ports false false few column types
-fits_there operator.Window d ports few column types = tt
-fits_there operator.Shift d ports few column types = tt
-fits_there operator.Hop d ports few column types = tt
-fits_there operator.Starts d ports few column types = tt
-fits_there operator.Ends d ports few column types = tt
-fits_there operator.Group d ports few column types =
+fits_are operator.Join d ports few column types = tests_there d ports false false few column types
+fits_are operator.Group d ports few column types =
     let keys = or_parts (is_some (first_past_end (columns_at (codes "keys") d) (all_ports ports))) (is_some (first_past_end (columns_at (codes "sum") d) (all_ports ports)) || false) column in
     let sums = or_parts (is_some (first_past_end (columns_at (codes "sum") d) (all_ports ports))) false keys.1 in
     let texts = or_parts (list_any (is_text_column (all_ports ports)) (columns_at (codes "sum") d)) false types in (
       columns_fit (columns_at (codes "keys") d) (all_ports ports) keys.0,
       All-from_recursion (λ column. slice_get (all_ports ports) column ≡ Some field_type.Number) (columns_at (codes "sum") d) (sums_fit (all_ports ports) (columns_at (codes "sum") d) sums.0 texts.0),
     )
-fits_there operator.Sequence d ports few column types =
+fits_are operator.Sequence d ports few column types =
     tests_there d ports false false (or_parts (has (codes "scope") (is_too_long form.Number) d) (has (codes "where") (is_too_long form.Tests) d || false) few).1 column types
-fits_there operator.Unless d ports few column types =
+fits_are operator.Unless d ports few column types =
     let scope = or_parts (has (codes "scope") (is_too_long form.Number) d) (has (codes "hold") (is_too_long form.Number) d || (has (codes "where") (is_too_long form.Tests) d || false)) few in
     tests_there d ports false false (or_parts (has (codes "hold") (is_too_long form.Number) d) (has (codes "where") (is_too_long form.Tests) d || false) scope.1).1 column types
-fits_there operator.Output d ports few column types = tt
+fits_are o d ports few column types = tt
 
-types_there : (o : Operator) (d : Data) (ports : List (List FieldType)) → HasTypes (kind_from o d) ports (result_types (row_of o).outcome d (first_port ports) (all_ports ports))
-types_there operator.Source d ports = tt
-types_there operator.Select d ports = refl
-types_there operator.Project d ports = refl
-types_there operator.Union d ports = refl
-types_there operator.Join d ports = refl
-types_there operator.Window d ports = refl
-types_there operator.Shift d ports = refl
-types_there operator.Hop d ports = refl
-types_there operator.Starts d ports = refl
-types_there operator.Ends d ports = refl
-types_there operator.Group d ports = refl
-types_there operator.Sequence d ports = refl
-types_there operator.Unless d ports = refl
-types_there operator.Output d ports = refl
+-- its result has the types that its row says
+types_are : (o : Operator) (d : Data) (ports : List (List FieldType)) → HasTypes (kind_from o d) ports (result_types (operator_row o).outcome d (first_port ports) (all_ports ports))
+types_are operator.Source d ports = tt
+types_are o d ports = refl
 
-source_level_there : (o : Operator) (d : Data) → HasSourceLevel (kind_from o d) (level_at (row_of o) d)
-source_level_there operator.Source d = refl
-source_level_there operator.Select d = tt
-source_level_there operator.Project d = tt
-source_level_there operator.Union d = tt
-source_level_there operator.Join d = tt
-source_level_there operator.Window d = tt
-source_level_there operator.Shift d = tt
-source_level_there operator.Hop d = tt
-source_level_there operator.Starts d = tt
-source_level_there operator.Ends d = tt
-source_level_there operator.Group d = tt
-source_level_there operator.Sequence d = tt
-source_level_there operator.Unless d = tt
-source_level_there operator.Output d = tt
+-- a source has the level of sources
+level_is : (o : Operator) (d : Data) → HasSourceLevel (kind_from o d) (level_at (operator_row o) d)
+level_is operator.Source d = refl
+level_is o d = tt
+
+-- its word is its own
+pub word_is : (o : Operator) → operator_of (operator_row o).word ≡ Some o
+word_is operator.Source = refl
+word_is o = refl
 
 group_length : (keys sums : List ℕ) (count : Bool) (all : List FieldType) → length (group_types keys count sums all) ≤ length keys + (length (count_types count) + length sums)
 group_length keys sums count all =
@@ -248,38 +196,38 @@ wide_enough row earlier d h =
       width_covers row.outcome d (first_port (ports_at earlier row d)) (all_ports (ports_at earlier row d)),
     )
 
-least_there : (o : Operator) (earlier : List Node) (d : Data) → lacks_inputs (row_of o) d ≡ false → length (inputs_at earlier (row_of o) d) ≡ length (input_values (row_of o) d)
-    → (row_of (operator_of_kind (kind_from o d))).least ≤ length (inputs_at earlier (row_of o) d)
+least_there : (o : Operator) (earlier : List Node) (d : Data) → lacks_inputs (operator_row o) d ≡ false → length (inputs_at earlier (operator_row o) d) ≡ length (input_values (operator_row o) d)
+    → (operator_row (operator_of_kind (kind_from o d))).least ≤ length (inputs_at earlier (operator_row o) d)
 least_there o earlier d h e =
-    let least : (row_of o).least ≤ length (input_values (row_of o) d) = least_by (has_ports (row_of o)) (not (has (codes "from") (is_list is_text) d)) (length (input_values (row_of o) d)) (row_of o).least h (no_ports o) in
-    subst (λ (p : Operator). (row_of p).least ≤ length (inputs_at earlier (row_of o) d)) (sym (kind_operator o d))
-    (subst (λ (n : ℕ). (row_of o).least ≤ n) (sym e) least)
+    let least : (operator_row o).least ≤ length (input_values (operator_row o) d) = least_by (has_ports (operator_row o)) (not (has (codes "from") (is_list is_text) d)) (length (input_values (operator_row o) d)) (operator_row o).least h (none_asked o) in
+    subst (λ (p : Operator). (operator_row p).least ≤ length (inputs_at earlier (operator_row o) d)) (sym (kind_is o d))
+    (subst (λ (n : ℕ). (operator_row o).least ≤ n) (sym e) least)
 
-most_there : (o : Operator) (earlier : List Node) (d : Data) → nat_lt (row_of o).most (length (input_values (row_of o) d)) ≡ false → length (inputs_at earlier (row_of o) d) ≡ length (input_values (row_of o) d)
-    → length (inputs_at earlier (row_of o) d) ≤ (row_of (operator_of_kind (kind_from o d))).most
+most_there : (o : Operator) (earlier : List Node) (d : Data) → nat_lt (operator_row o).most (length (input_values (operator_row o) d)) ≡ false → length (inputs_at earlier (operator_row o) d) ≡ length (input_values (operator_row o) d)
+    → length (inputs_at earlier (operator_row o) d) ≤ (operator_row (operator_of_kind (kind_from o d))).most
 most_there o earlier d h e =
-    let most : length (input_values (row_of o) d) ≤ (row_of o).most = ltb-false (row_of o).most (length (input_values (row_of o) d)) h in
-    subst (λ (p : Operator). length (inputs_at earlier (row_of o) d) ≤ (row_of p).most) (sym (kind_operator o d))
-    (subst (λ (n : ℕ). n ≤ (row_of o).most) (sym e) most)
+    let most : length (input_values (operator_row o) d) ≤ (operator_row o).most = ltb-false (operator_row o).most (length (input_values (operator_row o) d)) h in
+    subst (λ (p : Operator). length (inputs_at earlier (operator_row o) d) ≤ (operator_row p).most) (sym (kind_is o d))
+    (subst (λ (n : ℕ). n ≤ (operator_row o).most) (sym e) most)
 
 -- a node without a fault keeps the rules
-pub node_is : (o : Operator) (earlier : List Node) (d : Data) → HasNoFault (row_of o) earlier d → IsNode earlier (node_from o earlier d)
+pub node_is : (o : Operator) (earlier : List Node) (d : Data) → HasNoFault (operator_row o) earlier d → IsNode earlier (node_from o earlier d)
 unfolding is_named_twice has_unknown_input has_bad_column has_type_difference has_bad_level
 node_is o earlier d n =
-    let parts = parts_there (row_of o) d n.missing in
-    let many = many_parts (row_of o) d n.many in
-    let numbers = number_parts (row_of o) d n.number in
-    let inputs = inputs_known earlier (input_values (row_of o) d) n.unknown in
+    let parts = parts_there (operator_row o) d n.missing in
+    let many = many_parts (operator_row o) d n.many in
+    let numbers = number_parts (operator_row o) d n.number in
+    let inputs = inputs_known earlier (input_values (operator_row o) d) n.unknown in
     record {
       name = name_there d parts.0;
       new_name = n.twice;
       least_ports = least_there o earlier d parts.1 inputs.0;
       most_ports = most_there o earlier d many.0 inputs.0;
-      inputs = All-from_recursion (IsInput earlier) (inputs_at earlier (row_of o) d) inputs.1;
-      level = level_at_ports (has_ports (row_of o)) d numbers.1 n.level;
-      source_level = source_level_there o d;
-      numbers = All-from_recursion IsNumber (numbers_of (kind_from o d)) (numbers_there o d parts.2 numbers.0);
-      fits = fits_there o d (ports_at earlier (row_of o) d) many.1 n.column n.types;
-      types = types_there o d (ports_at earlier (row_of o) d);
-      width = wide_enough (row_of o) earlier d n.wide;
+      inputs = All-from_recursion (IsInput earlier) (inputs_at earlier (operator_row o) d) inputs.1;
+      level = level_at_ports (has_ports (operator_row o)) d numbers.1 n.level;
+      source_level = level_is o d;
+      numbers = All-from_recursion IsNumber (numbers_of (kind_from o d)) (numbers_are o d parts.2 numbers.0);
+      fits = fits_are o d (ports_at earlier (operator_row o) d) many.1 n.column n.types;
+      types = types_are o d (ports_at earlier (operator_row o) d);
+      width = wide_enough (operator_row o) earlier d n.wide;
     }

@@ -10,7 +10,7 @@ use Rattle.serde_json.specs.Find.{get}
 use Rattle.cedr_plan.specs.Drawn.{Node, Drawn, is_output}
 use Rattle.cedr_plan.specs.Json.{as_whole, is_whole_within}
 use Rattle.cedr_plan.specs.Nodes.{fault_under, fault_without_operator, node_fault, node_from, node_of_value, operator_at}
-use Rattle.cedr_plan.specs.Operators.{row_of}
+use Rattle.cedr_plan.specs.Operators.{operator_row}
 use Rattle.cedr_plan.specs.Plans.{Refusal, refused, unless_fault, unless_node, lacks_part, has_too_many_nodes, has_bad_edge, document_fault, edge_of, node_values, nodes_from, outputs_from, excess_output, plan_with, plan_of_nodes, plan_of_value, plan_of_json, json_of, longest, plan_of}
 use Rattle.cedr_plan.specs.Rules.{IsNode, AreNodes, first_unused, IsSound}
 use Rattle.cedr_plan.specs.declared.fault.PlanKind.{PlanKind}
@@ -22,10 +22,10 @@ use Rattle.cedr_plan.proofs.SoundNodes.{no_fault, node_is, none_hold}
 
 -- ---- nodes
 
-node_known : (earlier : List Node) (d : Data) (o : Option Operator) → option_map_or (λ operator. fault_under (row_of operator) earlier d) o (Some (fault_without_operator d)) ≡ None
+node_known : (earlier : List Node) (d : Data) (o : Option Operator) → option_map_or (λ operator. fault_under (operator_row operator) earlier d) o (Some (fault_without_operator d)) ≡ None
     → IsNode earlier (node_from (unwrap_or o operator.Output) earlier d)
 node_known earlier d None h = let no : ⊥ = cc in absurd no
-node_known earlier d (Some o) h = node_is o earlier d (no_fault (row_of o) earlier d h)
+node_known earlier d (Some o) h = node_is o earlier d (no_fault (operator_row o) earlier d h)
 
 node_sound : (earlier : List Node) (d : Data) → node_fault earlier d ≡ None → IsNode earlier (node_of_value earlier d)
 node_sound earlier d h = node_known earlier d (operator_at d) h

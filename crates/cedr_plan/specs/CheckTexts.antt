@@ -3,7 +3,7 @@ use Rattle.std.specs.Prelude.{ℕ, List, [], ◌∷◌, ◌++◌, codes}
 use Rattle.std.specs.List.{flat_map}
 use Rattle.cedr_base.specs.declared.field.FieldType.{FieldType}
 use Rattle.cedr_base.specs.declared.field.FieldType.TheVariants as field_type
-use Rattle.cedr_text.specs.Parts.{comma, line_feed}
+use Rattle.cedr_base.specs.Bytes.{comma, line_feed}
 use Rattle.cedr_plan.specs.Drawn.{Node}
 use Rattle.cedr_plan.specs.Rules.{row_of_node}
 

@@ -14,10 +14,12 @@ use Rattle.cedr_expr.specs.Types.{same_type, first_bad_column, first_differing, 
 use Rattle.cedr_expr.specs.declared.test.Test.{Test}
 use Rattle.serde_json.specs.Data.{Data}
 use Rattle.serde_json.specs.Find.{get, as_bool, as_str}
-use Rattle.cedr_plan.specs.Drawn.{Kind, source, select, project, union, join, window, shift, hop, starts, ends, group, sequence, unless, output, Node, is_output}
+use Rattle.cedr_plan.specs.declared.plan.NodeKind.{NodeKind}
+use Rattle.cedr_plan.specs.declared.plan.NodeKind.TheVariants as kind
+use Rattle.cedr_plan.specs.Drawn.{Node, is_output}
 use Rattle.cedr_plan.specs.Json.{as_list, as_whole, is_list, is_number, is_text, is_whole_within, has, values_of}
 use Rattle.cedr_plan.specs.Levels.{middle, is_level, has_bad_bound, is_unknown_level, level_of, has_block_over_memory}
-use Rattle.cedr_plan.specs.Operators.{Row, row_of, operator_of, key_of, form_of}
+use Rattle.cedr_plan.specs.Operators.{Row, operator_row, operator_of, key_of, form_of}
 use Rattle.cedr_plan.specs.Tests.{is_test, is_bad_test, test_of}
 use Rattle.cedr_plan.specs.declared.fault.PlanKind.{PlanKind}
 use Rattle.cedr_plan.specs.declared.fault.PlanKind.TheVariants as fault
@@ -294,30 +296,30 @@ has_type_difference earlier row d = has_unlike_ports row.outcome (ports_at earli
 -- ---- the node
 
 -- what a node of this operator does, by its members
-abbrev pub kind_from : Operator → Data → Kind
-kind_from operator.Source d = source (text_at (codes "file") d)
-kind_from operator.Select d = select (tests_at d)
-kind_from operator.Project d = project (columns_at (codes "keep") d)
-kind_from operator.Union d = union
-kind_from operator.Join d = join (tests_at d)
-kind_from operator.Window d = window (number_at (codes "width") d)
-kind_from operator.Shift d = shift (number_at (codes "by") d)
-kind_from operator.Hop d = hop (number_at (codes "every") d) (number_at (codes "width") d)
-kind_from operator.Starts d = starts
-kind_from operator.Ends d = ends
-kind_from operator.Group d = group (columns_at (codes "keys") d) (truth_at (codes "count") d) (columns_at (codes "sum") d)
-kind_from operator.Sequence d = sequence (number_at (codes "scope") d) (tests_at d)
-kind_from operator.Unless d = unless (number_at (codes "scope") d) (number_at (codes "hold") d) (tests_at d)
-kind_from operator.Output d = output
+abbrev pub kind_from : Operator → Data → NodeKind
+kind_from operator.Source d = kind.Source (text_at (codes "file") d)
+kind_from operator.Select d = kind.Select (tests_at d)
+kind_from operator.Project d = kind.Project (columns_at (codes "keep") d)
+kind_from operator.Union d = kind.Union
+kind_from operator.Join d = kind.Join (tests_at d)
+kind_from operator.Window d = kind.Window (number_at (codes "width") d)
+kind_from operator.Shift d = kind.Shift (number_at (codes "by") d)
+kind_from operator.Hop d = kind.Hop (number_at (codes "every") d) (number_at (codes "width") d)
+kind_from operator.Starts d = kind.Starts
+kind_from operator.Ends d = kind.Ends
+kind_from operator.Group d = kind.Group (columns_at (codes "keys") d) (truth_at (codes "count") d) (columns_at (codes "sum") d)
+kind_from operator.Sequence d = kind.Sequence (number_at (codes "scope") d) (tests_at d)
+kind_from operator.Unless d = kind.Unless (number_at (codes "scope") d) (number_at (codes "hold") d) (tests_at d)
+kind_from operator.Output d = kind.Output
 
 -- the node of an operator that a value says, after the earlier ones
 abbrev pub node_from : Operator → List Node → Data → Node
 node_from operator earlier d = record {
   name = text_at (codes "name") d;
   kind = kind_from operator d;
-  inputs = inputs_at earlier (row_of operator) d;
-  level = level_at (row_of operator) d;
-  types = types_under (row_of operator) earlier d;
+  inputs = inputs_at earlier (operator_row operator) d;
+  level = level_at (operator_row operator) d;
+  types = types_under (operator_row operator) earlier d;
 }
 
 -- the kind of the first test that holds
@@ -326,8 +328,8 @@ first_fault [] = None
 first_fault (test ∷ tests) = if test.0 then Some test.1 else first_fault tests
 
 -- what is looked at before the types of the fields, in the order of the numbers
-abbrev pub early_faults : Row → List Node → Data → List (Bool × PlanKind)
-early_faults row earlier d =
+abbrev pub untyped_faults : Row → List Node → Data → List (Bool × PlanKind)
+untyped_faults row earlier d =
     (has_missing_part row d, fault.MissingPart)
     ∷ (has_too_many row d, fault.TooMany)
     ∷ (has_bad_number row d, fault.BadNumber)
@@ -337,8 +339,8 @@ early_faults row earlier d =
     ∷ []
 
 -- what is looked at then
-abbrev pub late_faults : Row → List Node → Data → List (Bool × PlanKind)
-late_faults row earlier d =
+abbrev pub typed_faults : Row → List Node → Data → List (Bool × PlanKind)
+typed_faults row earlier d =
     (is_too_wide earlier row d, fault.TooWide)
     ∷ (has_bad_column earlier row d, fault.BadColumn)
     ∷ (has_type_difference earlier row d, fault.TypeDiffers)
@@ -346,7 +348,7 @@ late_faults row earlier d =
 
 -- the first fault of a node of this operator, in the order of the numbers
 abbrev pub fault_under : Row → List Node → Data → Option PlanKind
-fault_under row earlier d = first_fault (early_faults row earlier d ++ late_faults row earlier d)
+fault_under row earlier d = first_fault (untyped_faults row earlier d ++ typed_faults row earlier d)
 
 -- where the operator isn't known, only `name` and `op` are looked at
 abbrev pub fault_without_operator : Data → PlanKind
@@ -354,7 +356,7 @@ fault_without_operator d = if has (codes "name") is_name_value d && has (codes "
 
 -- a value's first fault after these nodes
 abbrev pub node_fault : List Node → Data → Option PlanKind
-node_fault earlier d = option_map_or (λ operator. fault_under (row_of operator) earlier d) (operator_at d) (Some (fault_without_operator d))
+node_fault earlier d = option_map_or (λ operator. fault_under (operator_row operator) earlier d) (operator_at d) (Some (fault_without_operator d))
 
 -- the node that a value without a fault is
 abbrev pub node_of_value : List Node → Data → Node

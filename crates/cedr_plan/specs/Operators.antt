@@ -24,21 +24,21 @@ abbrev pub row : List ℕ → ℕ → ℕ → List Member → Outcome → Row
 row word least most members result = record { word = word; least = least; most = most; members = members; outcome = result }
 
 -- the row of each operator
-abbrev pub row_of : Operator → Row
-row_of operator.Source = row (codes "source") 0 0 (member.File ∷ member.Fields ∷ []) outcome.Declared
-row_of operator.Select = row (codes "select") 1 1 (member.Where ∷ []) outcome.First
-row_of operator.Project = row (codes "project") 1 1 (member.Keep ∷ []) outcome.Kept
-row_of operator.Union = row (codes "union") 2 4 [] outcome.Alike
-row_of operator.Join = row (codes "join") 2 2 (member.Where ∷ []) outcome.Joined
-row_of operator.Window = row (codes "window") 1 1 (member.Width ∷ []) outcome.First
-row_of operator.Shift = row (codes "shift") 1 1 (member.By ∷ []) outcome.First
-row_of operator.Hop = row (codes "hop") 1 1 (member.Every ∷ member.Width ∷ []) outcome.First
-row_of operator.Starts = row (codes "starts") 1 1 [] outcome.First
-row_of operator.Ends = row (codes "ends") 1 1 [] outcome.First
-row_of operator.Group = row (codes "group") 1 1 (member.Keys ∷ member.Count ∷ member.Sum ∷ []) outcome.Grouped
-row_of operator.Sequence = row (codes "sequence") 2 4 (member.Scope ∷ member.Where ∷ []) outcome.Joined
-row_of operator.Unless = row (codes "unless") 2 2 (member.Scope ∷ member.Hold ∷ member.Where ∷ []) outcome.First
-row_of operator.Output = row (codes "output") 1 1 [] outcome.First
+abbrev pub operator_row : Operator → Row
+operator_row operator.Source = row (codes "source") 0 0 (member.File ∷ member.Fields ∷ []) outcome.Declared
+operator_row operator.Select = row (codes "select") 1 1 (member.Where ∷ []) outcome.First
+operator_row operator.Project = row (codes "project") 1 1 (member.Keep ∷ []) outcome.Kept
+operator_row operator.Union = row (codes "union") 2 4 [] outcome.Alike
+operator_row operator.Join = row (codes "join") 2 2 (member.Where ∷ []) outcome.Joined
+operator_row operator.Window = row (codes "window") 1 1 (member.Width ∷ []) outcome.First
+operator_row operator.Shift = row (codes "shift") 1 1 (member.By ∷ []) outcome.First
+operator_row operator.Hop = row (codes "hop") 1 1 (member.Every ∷ member.Width ∷ []) outcome.First
+operator_row operator.Starts = row (codes "starts") 1 1 [] outcome.First
+operator_row operator.Ends = row (codes "ends") 1 1 [] outcome.First
+operator_row operator.Group = row (codes "group") 1 1 (member.Keys ∷ member.Count ∷ member.Sum ∷ []) outcome.Grouped
+operator_row operator.Sequence = row (codes "sequence") 2 4 (member.Scope ∷ member.Where ∷ []) outcome.Joined
+operator_row operator.Unless = row (codes "unless") 2 2 (member.Scope ∷ member.Hold ∷ member.Where ∷ []) outcome.First
+operator_row operator.Output = row (codes "output") 1 1 [] outcome.First
 
 -- all operators
 abbrev pub operators : List Operator
@@ -47,7 +47,7 @@ operators = operator.Source ∷ operator.Select ∷ operator.Project ∷ operato
 
 -- the operator of a word
 abbrev pub operator_of : List ℕ → Option Operator
-operator_of word = find (λ operator. bytes_eq (row_of operator).word word) operators
+operator_of word = find (λ operator. bytes_eq (operator_row operator).word word) operators
 
 -- the name of a member
 abbrev pub key_of : Member → List ℕ

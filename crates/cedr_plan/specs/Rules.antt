@@ -7,34 +7,36 @@ use Rattle.cedr_base.specs.declared.level.Level.{Level}
 use Rattle.cedr_expr.specs.Columns.{kept}
 use Rattle.cedr_expr.specs.Types.{type_fault_of, keep_fault_of}
 use Rattle.cedr_expr.specs.declared.test.Test.{Test}
-use Rattle.cedr_plan.specs.Drawn.{Kind, source, select, project, union, join, window, shift, hop, starts, ends, group, sequence, unless, output, Node, Drawn, is_output, drawn}
+use Rattle.cedr_plan.specs.declared.plan.NodeKind.{NodeKind}
+use Rattle.cedr_plan.specs.declared.plan.NodeKind.TheVariants as kind
+use Rattle.cedr_plan.specs.Drawn.{Node, Drawn, is_output, drawn}
 use Rattle.cedr_plan.specs.Levels.{middle, has_block_over_memory}
 use Rattle.cedr_plan.specs.Nodes.{is_name, is_named, types_of, first_port, all_ports, group_types}
-use Rattle.cedr_plan.specs.Operators.{Row, row_of}
+use Rattle.cedr_plan.specs.Operators.{Row, operator_row}
 use Rattle.cedr_plan.specs.declared.operator.Operator.{Operator}
 use Rattle.cedr_plan.specs.declared.operator.Operator.TheVariants as operator
 use Rattle.cedr_plan.specs.declared.plan.Plan.{Plan}
 
 -- the operator of what a node does
-abbrev pub operator_of_kind : Kind → Operator
-operator_of_kind (source file) = operator.Source
-operator_of_kind (select tests) = operator.Select
-operator_of_kind (project keep) = operator.Project
-operator_of_kind union = operator.Union
-operator_of_kind (join tests) = operator.Join
-operator_of_kind (window width) = operator.Window
-operator_of_kind (shift by) = operator.Shift
-operator_of_kind (hop every width) = operator.Hop
-operator_of_kind starts = operator.Starts
-operator_of_kind ends = operator.Ends
-operator_of_kind (group keys count sums) = operator.Group
-operator_of_kind (sequence scope tests) = operator.Sequence
-operator_of_kind (unless scope hold tests) = operator.Unless
-operator_of_kind output = operator.Output
+abbrev pub operator_of_kind : NodeKind → Operator
+operator_of_kind (kind.Source file) = operator.Source
+operator_of_kind (kind.Select tests) = operator.Select
+operator_of_kind (kind.Project keep) = operator.Project
+operator_of_kind kind.Union = operator.Union
+operator_of_kind (kind.Join tests) = operator.Join
+operator_of_kind (kind.Window width) = operator.Window
+operator_of_kind (kind.Shift by) = operator.Shift
+operator_of_kind (kind.Hop every width) = operator.Hop
+operator_of_kind kind.Starts = operator.Starts
+operator_of_kind kind.Ends = operator.Ends
+operator_of_kind (kind.Group keys count sums) = operator.Group
+operator_of_kind (kind.Sequence scope tests) = operator.Sequence
+operator_of_kind (kind.Unless scope hold tests) = operator.Unless
+operator_of_kind kind.Output = operator.Output
 
 -- the row of a node's operator
 abbrev pub row_of_node : Node → Row
-row_of_node node = row_of (operator_of_kind node.kind)
+row_of_node node = operator_row (operator_of_kind node.kind)
 
 -- the field types of each port of a node, in port order
 abbrev pub port_types : List Node → Node → List (List FieldType)
@@ -55,21 +57,13 @@ pub record IsLevel (level : Level) : Type 0 where
   pub block_within_memory : has_block_over_memory level ≡ false
 
 -- the numbers that a node is given
-abbrev pub numbers_of : Kind → List ℕ
-numbers_of (source file) = []
-numbers_of (select tests) = []
-numbers_of (project keep) = []
-numbers_of union = []
-numbers_of (join tests) = []
-numbers_of (window width) = width ∷ []
-numbers_of (shift by) = by ∷ []
-numbers_of (hop every width) = every ∷ width ∷ []
-numbers_of starts = []
-numbers_of ends = []
-numbers_of (group keys count sums) = []
-numbers_of (sequence scope tests) = scope ∷ []
-numbers_of (unless scope hold tests) = scope ∷ hold ∷ []
-numbers_of output = []
+abbrev pub numbers_of : NodeKind → List ℕ
+numbers_of (kind.Window width) = width ∷ []
+numbers_of (kind.Shift by) = by ∷ []
+numbers_of (kind.Hop every width) = every ∷ width ∷ []
+numbers_of (kind.Sequence scope tests) = scope ∷ []
+numbers_of (kind.Unless scope hold tests) = scope ∷ hold ∷ []
+numbers_of other = []
 
 -- a number that a node is given is from 1 to 2^40
 abbrev pub IsNumber : ℕ → Type 0
@@ -88,42 +82,28 @@ abbrev pub AreSums : List (List FieldType) → List ℕ → Type 0
 AreSums ports sums = All (λ column. slice_get (all_ports ports) column ≡ Some field_type.Number) sums
 
 -- what a node says of its columns fits the types of its ports
-abbrev pub FitsPorts : Kind → List (List FieldType) → Type 0
-FitsPorts (source file) ports = Unit {0}
-FitsPorts (select tests) ports = AreTests ports tests
-FitsPorts (project keep) ports = AreColumns ports keep
-FitsPorts union ports = All (λ types. types ≡ first_port ports) ports
-FitsPorts (join tests) ports = AreTests ports tests
-FitsPorts (window width) ports = Unit {0}
-FitsPorts (shift by) ports = Unit {0}
-FitsPorts (hop every width) ports = Unit {0}
-FitsPorts starts ports = Unit {0}
-FitsPorts ends ports = Unit {0}
-FitsPorts (group keys count sums) ports = AreColumns ports keys × AreSums ports sums
-FitsPorts (sequence scope tests) ports = AreTests ports tests
-FitsPorts (unless scope hold tests) ports = AreTests ports tests
-FitsPorts output ports = Unit {0}
+abbrev pub FitsPorts : NodeKind → List (List FieldType) → Type 0
+FitsPorts (kind.Select tests) ports = AreTests ports tests
+FitsPorts (kind.Project keep) ports = AreColumns ports keep
+FitsPorts kind.Union ports = All (λ types. types ≡ first_port ports) ports
+FitsPorts (kind.Join tests) ports = AreTests ports tests
+FitsPorts (kind.Group keys count sums) ports = AreColumns ports keys × AreSums ports sums
+FitsPorts (kind.Sequence scope tests) ports = AreTests ports tests
+FitsPorts (kind.Unless scope hold tests) ports = AreTests ports tests
+FitsPorts other ports = Unit {0}
 
 -- the field types of a result; a source's are its own
-abbrev pub HasTypes : Kind → List (List FieldType) → List FieldType → Type 0
-HasTypes (source file) ports types = Unit {0}
-HasTypes (select tests) ports types = types ≡ first_port ports
-HasTypes (project keep) ports types = types ≡ kept keep (all_ports ports)
-HasTypes union ports types = types ≡ first_port ports
-HasTypes (join tests) ports types = types ≡ all_ports ports
-HasTypes (window width) ports types = types ≡ first_port ports
-HasTypes (shift by) ports types = types ≡ first_port ports
-HasTypes (hop every width) ports types = types ≡ first_port ports
-HasTypes starts ports types = types ≡ first_port ports
-HasTypes ends ports types = types ≡ first_port ports
-HasTypes (group keys count sums) ports types = types ≡ group_types keys count sums (all_ports ports)
-HasTypes (sequence scope tests) ports types = types ≡ all_ports ports
-HasTypes (unless scope hold tests) ports types = types ≡ first_port ports
-HasTypes output ports types = types ≡ first_port ports
+abbrev pub HasTypes : NodeKind → List (List FieldType) → List FieldType → Type 0
+HasTypes (kind.Source file) ports types = Unit {0}
+HasTypes (kind.Project keep) ports types = types ≡ kept keep (all_ports ports)
+HasTypes (kind.Join tests) ports types = types ≡ all_ports ports
+HasTypes (kind.Group keys count sums) ports types = types ≡ group_types keys count sums (all_ports ports)
+HasTypes (kind.Sequence scope tests) ports types = types ≡ all_ports ports
+HasTypes other ports types = types ≡ first_port ports
 
 -- a source has the middle level, since it has no port
-abbrev pub HasSourceLevel : Kind → Level → Type 0
-HasSourceLevel (source file) level = level ≡ middle
+abbrev pub HasSourceLevel : NodeKind → Level → Type 0
+HasSourceLevel (kind.Source file) level = level ≡ middle
 HasSourceLevel other level = Unit {0}
 
 -- a node may stand after the earlier ones

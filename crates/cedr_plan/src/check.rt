@@ -1,6 +1,6 @@
 ghost use Rattle.std.specs.Prelude.{◌≡◌, ◌++◌, IfOk, OnOk, OnErr, map};
 ghost use Rattle.cedr_plan.specs.CheckTexts.{type_text, types_text, node_text, check_text};
-ghost use Rattle.cedr_plan.specs.Drawn.{node_of, kind_of, drawn};
+ghost use Rattle.cedr_plan.specs.Drawn.{node_of, drawn};
 ghost use Rattle.cedr_plan.specs.Rules.{operator_of_kind};
 
 use crate::operator::Operator;
@@ -59,7 +59,7 @@ fn type_text(field_type: FieldType) -> &'static str
 }
 
 fn operator_of_kind(kind: &NodeKind) -> Operator
-    ensures { result ≡ operator_of_kind (kind_of kind.now) }
+    ensures { result ≡ operator_of_kind kind.now }
 {
     match kind {
         NodeKind::Source { file: _ } => Operator::Source,

@@ -2,10 +2,10 @@ ghost use Rattle.std.specs.Prelude.{◌≡◌, ◌&&◌, map, codes};
 ghost use Rattle.std.specs.List.{list_all, list_any};
 ghost use Rattle.serde_json.specs.View.{view};
 ghost use Rattle.cedr_plan.specs.Drawn.{node_of};
-ghost use Rattle.cedr_plan.specs.Nodes.{is_name, is_name_byte, is_named, has_ports, is_name_value, lacks_inputs, lacks_member, has_odd_level, has_missing_part, has_too_many, has_bad_number, has_bad_level, is_named_twice, is_unknown, has_unknown_input, is_too_long, is_bad_number, first_fault, early_faults, operator_at, fault_without_operator};
+ghost use Rattle.cedr_plan.specs.Nodes.{is_name, is_name_byte, is_named, has_ports, is_name_value, lacks_inputs, lacks_member, has_odd_level, has_missing_part, has_too_many, has_bad_number, has_bad_level, is_named_twice, is_unknown, has_unknown_input, is_too_long, is_bad_number, first_fault, untyped_faults, operator_at, fault_without_operator};
 ghost use Rattle.cedr_plan.specs.Json.{has, is_text, is_list};
 ghost use Rattle.cedr_plan.specs.Levels.{has_bad_bound};
-ghost use Rattle.cedr_plan.specs.Operators.{row_of, key_of, form_of};
+ghost use Rattle.cedr_plan.specs.Operators.{operator_row, key_of, form_of};
 
 use crate::fault::PlanKind;
 use crate::form::{has_form, is_bad_number, is_too_long};
@@ -50,7 +50,7 @@ pub(crate) fn early_fault(
     operator: Operator,
     node: &Value,
 ) -> Option<PlanKind>
-    ensures { result ≡ first_fault (early_faults (row_of operator) (map node_of earlier.now) (view node.now)) }
+    ensures { result ≡ first_fault (untyped_faults (operator_row operator) (map node_of earlier.now) (view node.now)) }
 {
     if has_missing_part(operator, node) {
         return Some(PlanKind::MissingPart);
@@ -75,7 +75,7 @@ pub(crate) fn early_fault(
 
 #[tactic(auto, unfolding(crate::specs::Nodes::has_missing_part))]
 fn has_missing_part(operator: Operator, node: &Value) -> bool
-    ensures { result ≡ has_missing_part (row_of operator) (view node.now) }
+    ensures { result ≡ has_missing_part (operator_row operator) (view node.now) }
 {
     !has_name(node)
         || lacks_inputs(operator, node)
@@ -121,7 +121,7 @@ fn is_name_byte(byte: u8) -> bool
 }
 
 fn lacks_inputs(operator: Operator, node: &Value) -> bool
-    ensures { result ≡ lacks_inputs (row_of operator) (view node.now) }
+    ensures { result ≡ lacks_inputs (operator_row operator) (view node.now) }
 {
     has_ports(operator)
         && (!has_texts(node, "from") || input_values(operator, node).len() < operator.row().least)
@@ -152,7 +152,7 @@ fn each_is_text(values: &[Value]) -> bool
 }
 
 fn lacks_some_member(operator: Operator, node: &Value) -> bool
-    ensures { result ≡ list_any (lacks_member (view node.now)) (row_of operator).members }
+    ensures { result ≡ list_any (lacks_member (view node.now)) (operator_row operator).members }
 {
     operator
         .row()
@@ -171,7 +171,7 @@ fn lacks_member(node: &Value, member: Member) -> bool
 }
 
 fn has_odd_level(operator: Operator, node: &Value) -> bool
-    ensures { result ≡ has_odd_level (row_of operator) (view node.now) }
+    ensures { result ≡ has_odd_level (operator_row operator) (view node.now) }
 {
     match node.get("level") {
         Some(level) => has_ports(operator) && !is_level(level),
@@ -181,13 +181,13 @@ fn has_odd_level(operator: Operator, node: &Value) -> bool
 
 #[tactic(auto, unfolding(crate::specs::Nodes::has_too_many))]
 fn has_too_many(operator: Operator, node: &Value) -> bool
-    ensures { result ≡ has_too_many (row_of operator) (view node.now) }
+    ensures { result ≡ has_too_many (operator_row operator) (view node.now) }
 {
     operator.row().most < input_values(operator, node).len() || has_long_member(operator, node)
 }
 
 fn has_long_member(operator: Operator, node: &Value) -> bool
-    ensures { result ≡ list_any (λ m. has (key_of m) (is_too_long (form_of m)) (view node.now)) (row_of operator).members }
+    ensures { result ≡ list_any (λ m. has (key_of m) (is_too_long (form_of m)) (view node.now)) (operator_row operator).members }
 {
     operator
         .row()
@@ -207,13 +207,13 @@ fn is_long_member(node: &Value, member: Member) -> bool
 
 #[tactic(auto, unfolding(crate::specs::Nodes::has_bad_number))]
 fn has_bad_number(operator: Operator, node: &Value) -> bool
-    ensures { result ≡ has_bad_number (row_of operator) (view node.now) }
+    ensures { result ≡ has_bad_number (operator_row operator) (view node.now) }
 {
     has_bad_member(operator, node) || has_bad_level_number(operator, node)
 }
 
 fn has_bad_member(operator: Operator, node: &Value) -> bool
-    ensures { result ≡ list_any (λ m. has (key_of m) (is_bad_number (form_of m)) (view node.now)) (row_of operator).members }
+    ensures { result ≡ list_any (λ m. has (key_of m) (is_bad_number (form_of m)) (view node.now)) (operator_row operator).members }
 {
     operator
         .row()
@@ -232,7 +232,7 @@ fn is_bad_member(node: &Value, member: Member) -> bool
 }
 
 fn has_bad_level_number(operator: Operator, node: &Value) -> bool
-    ensures { result ≡ has_ports (row_of operator) && has (codes "level") has_bad_bound (view node.now) }
+    ensures { result ≡ has_ports (operator_row operator) && has (codes "level") has_bad_bound (view node.now) }
 {
     match node.get("level") {
         Some(level) => has_ports(operator) && has_bad_bound(level),
@@ -242,7 +242,7 @@ fn has_bad_level_number(operator: Operator, node: &Value) -> bool
 
 #[tactic(auto, unfolding(crate::specs::Nodes::has_bad_level))]
 fn has_bad_level(operator: Operator, node: &Value) -> bool
-    ensures { result ≡ has_bad_level (row_of operator) (view node.now) }
+    ensures { result ≡ has_bad_level (operator_row operator) (view node.now) }
 {
     match node.get("level") {
         Some(level) => has_ports(operator) && is_bad_level(level),
@@ -265,7 +265,7 @@ fn some_is_named(earlier: &[PlanNode], name: &str) -> bool
 
 #[tactic(auto, unfolding(crate::specs::Nodes::has_unknown_input))]
 fn has_unknown_input(earlier: &[PlanNode], operator: Operator, node: &Value) -> bool
-    ensures { result ≡ has_unknown_input (map node_of earlier.now) (row_of operator) (view node.now) }
+    ensures { result ≡ has_unknown_input (map node_of earlier.now) (operator_row operator) (view node.now) }
 {
     some_is_unknown(earlier, input_values(operator, node))
 }

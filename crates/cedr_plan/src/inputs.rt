@@ -4,7 +4,7 @@ ghost use Rattle.std.specs.List.{filter_map, position, slice_get};
 ghost use Rattle.serde_json.specs.View.{view};
 ghost use Rattle.cedr_plan.specs.Drawn.{node_of, is_output};
 ghost use Rattle.cedr_plan.specs.Nodes.{is_named, place_of, is_unknown, input_values, level_at, types_of, inputs_at, first_port, all_ports, has_ports};
-ghost use Rattle.cedr_plan.specs.Operators.{row_of};
+ghost use Rattle.cedr_plan.specs.Operators.{operator_row};
 
 use crate::json::values_at;
 use crate::level::{MIDDLE, level_of};
@@ -15,14 +15,14 @@ use serde_json::Value;
 use std::alloc::Global;
 
 pub(crate) fn has_ports(operator: Operator) -> bool
-    ensures { result ≡ has_ports (row_of operator) }
+    ensures { result ≡ has_ports (operator_row operator) }
 {
     0 < operator.row().most
 }
 
 /// The values of `from`, and none where the operator has no ports.
 pub(crate) fn input_values(operator: Operator, node: &Value) -> &[Value]
-    ensures { map view result.now ≡ input_values (row_of operator) (view node.now) }
+    ensures { map view result.now ≡ input_values (operator_row operator) (view node.now) }
 {
     if has_ports(operator) {
         values_at(node, "from")
@@ -33,7 +33,7 @@ pub(crate) fn input_values(operator: Operator, node: &Value) -> &[Value]
 
 /// The level of the node's ports, which is the middle one where none is given.
 pub(crate) fn level_at(operator: Operator, node: &Value) -> Level
-    ensures { result ≡ level_at (row_of operator) (view node.now) }
+    ensures { result ≡ level_at (operator_row operator) (view node.now) }
 {
     if !has_ports(operator) {
         return MIDDLE;
@@ -99,7 +99,7 @@ pub(crate) fn inputs_at(
     operator: Operator,
     node: &Value,
 ) -> Result<Vec<usize>, OutOfMemory>
-    ensures { IfOk result (λ inputs. inputs.items ≡ inputs_at (map node_of earlier.now) (row_of operator) (view node.now)) }
+    ensures { IfOk result (λ inputs. inputs.items ≡ inputs_at (map node_of earlier.now) (operator_row operator) (view node.now)) }
 {
     read_inputs(alloc, earlier, input_values(operator, node))
 }

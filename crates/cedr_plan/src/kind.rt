@@ -1,12 +1,10 @@
 ghost use Rattle.std.specs.Prelude.{◌≡◌, ◌∷◌, [], IfOk, OnOk, IfErr, None, false, codes, is_some};
 ghost use Rattle.std.specs.List.{list_any};
-ghost use Rattle.cedr_expr.specs.Types.{first_past_end};
 ghost use Rattle.cedr_plan.specs.declared.operator.Operator.TheVariants as operator;
 ghost use Rattle.serde_json.specs.View.{view};
-ghost use Rattle.cedr_plan.specs.Drawn.{kind_of};
 ghost use Rattle.cedr_plan.specs.Nodes.{text_at, tests_at, columns_at, kind_from, is_text_column};
 ghost use Rattle.cedr_plan.specs.NodeFaults.{IsNodeFault, column_fault};
-ghost use Rattle.cedr_plan.specs.Operators.{row_of};
+ghost use Rattle.cedr_plan.specs.Operators.{operator_row};
 ghost use Rattle.cedr_plan.specs.declared.operator.Member.TheVariants.{Where, Keep as KeepMember, Keys, Count, Sum};
 
 use crate::fault::{NodeFault, PlanKind, kind_of_types};
@@ -25,9 +23,9 @@ pub(crate) fn read_kind(
     node: &Value,
     types: &[FieldType],
 ) -> Result<NodeKind, NodeFault>
-    ensures kind { IfOk result (λ kind. kind_of kind ≡ kind_from operator (view node.now)) }
-    ensures fit { OnOk result (column_fault types.now (row_of operator).members (view node.now) ≡ None) }
-    ensures fault { IfErr result (IsNodeFault (column_fault types.now (row_of operator).members (view node.now))) }
+    ensures kind { IfOk result (λ kind. kind ≡ kind_from operator (view node.now)) }
+    ensures fit { OnOk result (column_fault types.now (operator_row operator).members (view node.now) ≡ None) }
+    ensures fault { IfErr result (IsNodeFault (column_fault types.now (operator_row operator).members (view node.now))) }
 {
     match operator {
         Operator::Source => Ok(NodeKind::Source {
@@ -97,7 +95,7 @@ fn read_keep(alloc: Global, node: &Value, types: &[FieldType]) -> Result<Keep, N
 
 /// The keys and the sums of a group, where each column is there and each sum's is a number.
 fn read_group(alloc: Global, node: &Value, types: &[FieldType]) -> Result<NodeKind, NodeFault>
-    ensures kind { IfOk result (λ kind. kind_of kind ≡ kind_from operator.Group (view node.now)) }
+    ensures kind { IfOk result (λ kind. kind ≡ kind_from operator.Group (view node.now)) }
     ensures fit { OnOk result (column_fault types.now (Keys ∷ Count ∷ Sum ∷ []) (view node.now) ≡ None) }
     ensures fault { IfErr result (IsNodeFault (column_fault types.now (Keys ∷ Count ∷ Sum ∷ []) (view node.now))) }
 {
@@ -107,10 +105,11 @@ fn read_group(alloc: Global, node: &Value, types: &[FieldType]) -> Result<NodeKi
         Err(fault) => return Err(NodeFault::Fault(kind_of_types(fault))),
     };
     let sums = columns_at(alloc, node, "sum")?;
-    if find_past_end(sums.as_slice(), types).is_some() {
-        return Err(NodeFault::Fault(PlanKind::BadColumn));
-    }
-    if has_text_column(sums.as_slice(), types) {
+    let sums = match Keep::new(sums, types) {
+        Ok(sums) => sums,
+        Err(fault) => return Err(NodeFault::Fault(kind_of_types(fault))),
+    };
+    if has_text_column(sums.columns(), types) {
         return Err(NodeFault::Fault(PlanKind::TypeDiffers));
     }
     Ok(NodeKind::Group {
@@ -118,12 +117,6 @@ fn read_group(alloc: Global, node: &Value, types: &[FieldType]) -> Result<NodeKi
         count: truth_at(node, "count"),
         sums,
     })
-}
-
-fn find_past_end(columns: &[usize], types: &[FieldType]) -> Option<usize>
-    ensures { result ≡ first_past_end columns.now types.now }
-{
-    columns.iter().position(|column| types.len() <= *column)
 }
 
 fn has_text_column(columns: &[usize], types: &[FieldType]) -> bool

@@ -3,7 +3,7 @@ ghost use Rattle.cedr_plan.specs.declared.fault.PlanKind.TheVariants as kind;
 ghost use Rattle.cedr_plan.specs.declared.operator.Operator.{Operator};
 ghost use Rattle.cedr_plan.specs.declared.reader.TheConstants.{PLAN_LIMIT};
 ghost use Rattle.cedr_plan.specs.Drawn.{Drawn};
-ghost use Rattle.cedr_plan.specs.Operators.{row_of, operator_of};
+ghost use Rattle.cedr_plan.specs.Operators.{operator_row, operator_of};
 ghost use Rattle.cedr_plan.specs.Plans.{plan_of, refused};
 
 /// The law of the limit: a plan may have 2^20 bytes, and one that has more is too long, whatever it says.
@@ -15,5 +15,5 @@ pub fn plan_limit()
 /// The law of the operators' words: each operator is read from its own, so none is left out and no two share
 /// one.
 pub fn operator_words()
-    ensures { (operator : Operator) → operator_of (row_of operator).word ≡ Some operator }
+    ensures { (operator : Operator) → operator_of (operator_row operator).word ≡ Some operator }
 {}

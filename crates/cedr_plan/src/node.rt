@@ -2,9 +2,9 @@ ghost use Rattle.std.specs.Prelude.{◌≡◌, IfOk, OnOk, IfErr, None, map, cod
 ghost use Rattle.std.specs.List.{list_any};
 ghost use Rattle.serde_json.specs.View.{view};
 ghost use Rattle.cedr_plan.specs.Drawn.{node_of};
-ghost use Rattle.cedr_plan.specs.Nodes.{text_at, types_of, inputs_at, ports_at, first_port, all_ports, same_types, has_unlike_ports, result_types, result_width, first_fault, late_faults, node_fault, node_from, node_of_value};
+ghost use Rattle.cedr_plan.specs.Nodes.{text_at, types_of, inputs_at, ports_at, first_port, all_ports, same_types, has_unlike_ports, result_types, result_width, first_fault, typed_faults, node_fault, node_from, node_of_value};
 ghost use Rattle.cedr_plan.specs.NodeFaults.{IsNodeFault};
-ghost use Rattle.cedr_plan.specs.Operators.{row_of};
+ghost use Rattle.cedr_plan.specs.Operators.{operator_row};
 
 use crate::early::{early_fault, fault_without_operator, operator_at};
 use crate::fault::{NodeFault, PlanKind};
@@ -48,8 +48,8 @@ fn build_node(
     node: &Value,
 ) -> Result<PlanNode, NodeFault>
     ensures node { IfOk result (λ made. node_of made ≡ node_from operator (map node_of earlier.now) (view node.now)) }
-    ensures sound { OnOk result (first_fault (late_faults (row_of operator) (map node_of earlier.now) (view node.now)) ≡ None) }
-    ensures fault { IfErr result (IsNodeFault (first_fault (late_faults (row_of operator) (map node_of earlier.now) (view node.now)))) }
+    ensures sound { OnOk result (first_fault (typed_faults (operator_row operator) (map node_of earlier.now) (view node.now)) ≡ None) }
+    ensures fault { IfErr result (IsNodeFault (first_fault (typed_faults (operator_row operator) (map node_of earlier.now) (view node.now)))) }
 {
     let outcome = operator.row().outcome;
     let inputs = inputs_at(alloc, earlier, operator, node)?;

@@ -1,5 +1,5 @@
 ghost use Rattle.std.specs.Prelude.{◌≡◌, option_copied};
-ghost use Rattle.cedr_plan.specs.Operators.{row_of, operators, operator_of, key_of, form_of};
+ghost use Rattle.cedr_plan.specs.Operators.{operator_row, operators, operator_of, key_of, form_of};
 
 /// What a node does.
 #[derive(Clone, Copy, Debug, PartialEq, Eq)]
@@ -119,11 +119,11 @@ const fn row_with(
 impl Operator {
     /// The operator's row.
     pub(crate) fn row(self) -> Row
-        ensures word { result.word.now ≡ (row_of self).word }
-        ensures least { result.least ≡ (row_of self).least }
-        ensures most { result.most ≡ (row_of self).most }
-        ensures members { result.members.now ≡ (row_of self).members }
-        ensures outcome { result.outcome ≡ (row_of self).outcome }
+        ensures word { result.word.now ≡ (operator_row self).word }
+        ensures least { result.least ≡ (operator_row self).least }
+        ensures most { result.most ≡ (operator_row self).most }
+        ensures members { result.members.now ≡ (operator_row self).members }
+        ensures outcome { result.outcome ≡ (operator_row self).outcome }
     {
         match self {
             Operator::Source => row_with(

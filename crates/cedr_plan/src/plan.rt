@@ -1,5 +1,6 @@
 ghost use Rattle.std.specs.Prelude.{◌≡◌, IfOk};
-ghost use Rattle.cedr_plan.specs.Drawn.{group, kind_of, node_of};
+ghost use Rattle.cedr_plan.specs.declared.plan.NodeKind.TheVariants as kind;
+ghost use Rattle.cedr_plan.specs.Drawn.{node_of};
 
 use cedr_base::{FieldType, Level, OutOfMemory, Text};
 use cedr_expr::{Keep, Tests};
@@ -9,39 +10,19 @@ use std::alloc::Global;
 #[derive(Drop)]
 pub enum NodeKind {
     /// Rows that come from outside, from the file of this name.
-    Source {
-        file: Text,
-    },
+    Source { file: Text },
     Select(Tests),
     Project(Keep),
     Union,
     Join(Tests),
-    Window {
-        width: u64,
-    },
-    Shift {
-        by: u64,
-    },
-    Hop {
-        every: u64,
-        width: u64,
-    },
+    Window { width: u64 },
+    Shift { by: u64 },
+    Hop { every: u64, width: u64 },
     Starts,
     Ends,
-    Group {
-        keys: Keep,
-        count: bool,
-        sums: Vec<usize>,
-    },
-    Sequence {
-        scope: u64,
-        tests: Tests,
-    },
-    Unless {
-        scope: u64,
-        hold: u64,
-        tests: Tests,
-    },
+    Group { keys: Keep, count: bool, sums: Keep },
+    Sequence { scope: u64, tests: Tests },
+    Unless { scope: u64, hold: u64, tests: Tests },
     Output,
 }
 
@@ -69,7 +50,7 @@ pub struct Plan {
 impl NodeKind {
     /// O(n) in the tests, the columns and the file's name.
     pub fn copy(&self, alloc: Global) -> Result<NodeKind, OutOfMemory>
-        ensures { IfOk result (λ kind. kind_of kind ≡ kind_of self.now) }
+        ensures { IfOk result (λ kind. kind ≡ self.now) }
     {
         match self {
             NodeKind::Source { file } => Ok(NodeKind::Source {
@@ -87,12 +68,11 @@ impl NodeKind {
             }),
             NodeKind::Starts => Ok(NodeKind::Starts),
             NodeKind::Ends => Ok(NodeKind::Ends),
-            NodeKind::Group { keys, count, sums } => copy_group(
-                alloc,
-                keys,
-                *count,
-                sums.as_slice(),
-            ),
+            NodeKind::Group { keys, count, sums } => Ok(NodeKind::Group {
+                keys: keys.copy(alloc)?,
+                count: *count,
+                sums: sums.copy(alloc)?,
+            }),
             NodeKind::Sequence { scope, tests } => Ok(NodeKind::Sequence {
                 scope: *scope,
                 tests: tests.copy(alloc)?,
@@ -105,19 +85,6 @@ impl NodeKind {
             NodeKind::Output => Ok(NodeKind::Output),
         }
     }
-}
-
-fn copy_group(
-    alloc: Global,
-    keys: &Keep,
-    count: bool,
-    sums: &[usize],
-) -> Result<NodeKind, OutOfMemory>
-    ensures { IfOk result (λ kind. kind_of kind ≡ group keys.now count sums.now) }
-{
-    let keys = keys.copy(alloc)?;
-    let sums = Vec::from_slice(alloc, sums)?;
-    Ok(NodeKind::Group { keys, count, sums })
 }
 
 impl PlanNode {

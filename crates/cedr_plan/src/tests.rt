@@ -360,7 +360,7 @@ fn each_operator_is_accepted(rt: HostRuntime) -> Result<(), Fail> {
         write_check(&plan, &mut out)?;
         let wanted = format!(in alloc; "l,source,text,int\nr,source,int\n{lines}")?;
         assert!(rt; out.as_slice() == wanted.as_bytes(), "at {middle}");
-        assert_eq!(rt; plan.edge, 64);
+        assert_eq!(rt; plan.edge, 64, "at {middle}");
     }
     Ok(())
 }
@@ -404,13 +404,13 @@ fn a_source_has_at_most_sixteen_fields_and_a_name_sixty_four_bytes(
 #[test]
 fn a_node_has_at_most_sixteen_tests(rt: HostRuntime) -> Result<(), Fail> {
     let alloc = rt.alloc();
-    for (tests, wanted) in [(16, (0, 0)), (17, (5, 3))] {
-        let tests = repeated(alloc, r#"[1,"=",{"column":2}]"#, tests)?;
+    for (count, wanted) in [(16, (0, 0)), (17, (5, 3))] {
+        let tests = repeated(alloc, r#"[1,"=",{"column":2}]"#, count)?;
         let middle = format!(in alloc;
             "{{\"name\":\"n\",\"op\":\"join\",\"from\":[\"l\",\"r\"],\"where\":[{tests}]}}"
         )?;
         let text = plan_of(alloc, middle.as_str())?;
-        assert_eq!(rt; judge(alloc, text.as_bytes()), wanted);
+        assert_eq!(rt; judge(alloc, text.as_bytes()), wanted, "{count} tests");
     }
     Ok(())
 }
@@ -418,10 +418,10 @@ fn a_node_has_at_most_sixteen_tests(rt: HostRuntime) -> Result<(), Fail> {
 #[test]
 fn a_plan_has_at_most_sixty_four_nodes(rt: HostRuntime) -> Result<(), Fail> {
     let alloc = rt.alloc();
-    for (nodes, wanted) in [(64, (8, 2)), (65, (5, 0))] {
-        let nodes = repeated(alloc, LEFT, nodes)?;
+    for (count, wanted) in [(64, (8, 2)), (65, (5, 0))] {
+        let nodes = repeated(alloc, LEFT, count)?;
         let text = format!(in alloc; "{{\"version\":1,\"nodes\":[{nodes}]}}")?;
-        assert_eq!(rt; judge(alloc, text.as_bytes()), wanted);
+        assert_eq!(rt; judge(alloc, text.as_bytes()), wanted, "{count} nodes");
     }
     Ok(())
 }
@@ -431,7 +431,7 @@ fn a_plan_has_a_greatest_length_and_depth(rt: HostRuntime) -> Result<(), Fail> {
     let alloc = rt.alloc();
     for (length, wanted) in [(1_048_576, (2, 0)), (1_048_577, (1, 0))] {
         let text = vec![in alloc; b' '; length]?;
-        assert_eq!(rt; judge(alloc, text.as_slice()), wanted);
+        assert_eq!(rt; judge(alloc, text.as_slice()), wanted, "length {length}");
     }
     for (depth, wanted) in [(126, (13, 0)), (127, (2, 0))] {
         let mut text = String::from_str(alloc, "{\"version\":1,\"nodes\":[],\"more\":")?;
@@ -442,7 +442,7 @@ fn a_plan_has_a_greatest_length_and_depth(rt: HostRuntime) -> Result<(), Fail> {
             text.push(']')?;
         }
         text.push('}')?;
-        assert_eq!(rt; judge(alloc, text.as_bytes()), wanted);
+        assert_eq!(rt; judge(alloc, text.as_bytes()), wanted, "depth {depth}");
     }
     Ok(())
 }
@@ -494,14 +494,15 @@ fn levels_and_inputs_are_read(rt: HostRuntime) -> Result<(), Fail> {
             assert!(rt; false, "at {level}");
             return Ok(());
         };
-        assert_eq!(rt; plan.edge, 7);
-        assert_eq!(rt; plan.nodes.len(), 2);
+        assert_eq!(rt; (plan.edge, plan.nodes.len()), (7, 2), "at {level}");
         for node in &plan.nodes {
             if node.name.bytes() == b"out".as_slice() {
-                assert_eq!(rt; node.level, wanted);
-                assert!(rt; node.inputs.as_slice() == [0].as_slice());
-                assert!(rt;
-                    node.types.as_slice() == [FieldType::Bytes, FieldType::Number].as_slice()
+                assert_eq!(rt; node.level, wanted, "at {level}");
+                assert_eq!(rt; node.inputs.as_slice(), [0].as_slice(), "at {level}");
+                assert_eq!(rt;
+                    node.types.as_slice(),
+                    [FieldType::Bytes, FieldType::Number].as_slice(),
+                    "at {level}"
                 );
             } else {
                 assert_eq!(rt;
@@ -509,7 +510,8 @@ fn levels_and_inputs_are_read(rt: HostRuntime) -> Result<(), Fail> {
                     Level {
                         block: Some(0),
                         memory: None
-                    }
+                    },
+                    "at {level}"
                 );
             }
         }

@@ -11,7 +11,7 @@ use Rattle.cedr_plan.specs.Drawn.{Node, node_of, is_output as is_drawn_output}
 use Rattle.cedr_plan.specs.Rules.{IsInput, IsNode, AreNodes}
 use Rattle.cedr_table.specs.Operators.{Tables, SameTables, table_at, HaveRows}
 use Rattle.cedr_query.specs.Queries.{each_node, source_count}
-use Rattle.op_planned.specs.Ready.{is_source}
+use Rattle.op_node.specs.Ready.{is_source}
 
 more_behind : {X : Type 0} (make : List PlanNode → List X → PlanNode → X) (before : List PlanNode) (done : List X) (nodes : List PlanNode) (node : PlanNode)
     → each_node make before done (nodes ++ node ∷ []) ≡ each_node make before done nodes ++ make (before ++ nodes) (each_node make before done nodes) node ∷ []

@@ -7,32 +7,20 @@ use Rattle.cedr_plan.specs.declared.plan.NodeKind.{NodeKind}
 use Rattle.cedr_plan.specs.declared.plan.NodeKind.TheVariants as kind
 use Rattle.cedr_plan.specs.declared.plan.Plan.{Plan}
 use Rattle.cedr_plan.specs.declared.plan.PlanNode.{PlanNode}
-use Rattle.cedr_plan.specs.Drawn.{Node, kind_of, node_of, is_output as is_drawn_output}
+use Rattle.cedr_plan.specs.Drawn.{Node, node_of, is_output as is_drawn_output}
 use Rattle.cedr_plan.specs.Rules.{IsPlan}
 use Rattle.cedr_query.specs.Queries.{is_output, source_count, output_place}
 use Rattle.cedr_query.proofs.NodeLemmas.{counted}
 use Rattle.cedr_query.proofs.QueryLemmas.{place_is}
-use Rattle.op_planned.specs.Ready.{is_source}
+use Rattle.op_node.specs.Ready.{is_source}
 
 abbrev is_the_output : PlanNode → Bool
 is_the_output node = is_output node.kind
 
 -- a node is drawn as an output exactly where its kind is that of an output
-pub output_alike : (k : NodeKind) (node : Node) → is_drawn_output (record node { kind = kind_of k }) ≡ is_output k
-output_alike (kind.Source file) node = refl
-output_alike (kind.Select tests) node = refl
-output_alike (kind.Project keep) node = refl
-output_alike kind.Union node = refl
-output_alike (kind.Join tests) node = refl
-output_alike (kind.Window width) node = refl
-output_alike (kind.Shift by) node = refl
-output_alike (kind.Hop every width) node = refl
-output_alike kind.Starts node = refl
-output_alike kind.Ends node = refl
-output_alike (kind.Group keys count sums) node = refl
-output_alike (kind.Sequence scope tests) node = refl
-output_alike (kind.Unless scope hold tests) node = refl
+pub output_alike : (k : NodeKind) (node : Node) → is_drawn_output (record node { kind = k }) ≡ is_output k
 output_alike kind.Output node = refl
+output_alike other node = refl
 
 abbrev one_if : (PlanNode → Bool) → PlanNode → ℕ
 one_if f node = cond (f node) 1 0

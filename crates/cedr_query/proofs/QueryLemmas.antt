@@ -11,6 +11,8 @@ use Rattle.cedr_plan.specs.Drawn.{node_of}
 use Rattle.cedr_plan.specs.Rules.{IsNode, AreNodes}
 use Rattle.cedr_table.specs.Operators.{Tables, SameTables, AreTimes, table_at, mark_at}
 use Rattle.cedr_table.specs.PortLaws.{same_at, time_at}
+use Rattle.op_node.specs.Ready.{is_source, IsReady}
+use Rattle.op_node.specs.ReadyLaws.{node_ready}
 use Rattle.cedr_query.proofs.NodeLemmas.{node_is, inputs_are}
 
 -- marks that are all 0 are times
@@ -45,13 +47,21 @@ pub place_is : (p n : ℕ) → p < n → unwrap_or (cond (nat_lt p n) (Some p) N
 place_is p n within = ap (λ (b : Bool). unwrap_or (cond b (Some p) None) 0) (lt-ltb p n within)
 
 -- a node of a plan is one that may follow the nodes before it
-pub plan_node : (own nodes : List PlanNode) (i : ℕ) (n : PlanNode) → nodes ≡ own → AreNodes [] (map node_of own) → i < length nodes → n ≡ get_or nodes i n → IsNode (map node_of (take i nodes)) (node_of n)
+plan_node : (own nodes : List PlanNode) (i : ℕ) (n : PlanNode) → nodes ≡ own → AreNodes [] (map node_of own) → i < length nodes → n ≡ get_or nodes i n → IsNode (map node_of (take i nodes)) (node_of n)
 plan_node own nodes i n same are within is =
     subst (λ (x : PlanNode). IsNode (map node_of (take i nodes)) (node_of x)) (sym is) (node_is nodes i n (subst (λ (ns : List PlanNode). AreNodes [] (map node_of ns)) (sym same) are) within)
 
 -- a node that may follow the nodes before it reads none but these
-pub reads_earlier : (nodes : List PlanNode) (i : ℕ) (n : PlanNode) → i < length nodes → IsNode (map node_of (take i nodes)) (node_of n) → (k d : ℕ) → k < length n.inputs.items → get_or n.inputs.items k d < i
+reads_earlier : (nodes : List PlanNode) (i : ℕ) (n : PlanNode) → i < length nodes → IsNode (map node_of (take i nodes)) (node_of n) → (k d : ℕ) → k < length n.inputs.items → get_or n.inputs.items k d < i
 reads_earlier nodes i n within is k d there = let h = inputs_are (take i nodes) n is k d there in omega (arith, h, length-take i nodes)
+
+-- so a node of a plan reads none but nodes before it
+pub plan_reads : (own nodes : List PlanNode) (i : ℕ) (n : PlanNode) → nodes ≡ own → AreNodes [] (map node_of own) → i < length nodes → n ≡ get_or nodes i n → (k d : ℕ) → k < length n.inputs.items → get_or n.inputs.items k d < i
+plan_reads own nodes i n same are within is = reads_earlier nodes i n within (plan_node own nodes i n same are within is)
+
+-- and has what its operator asks for
+pub plan_ready : (own nodes : List PlanNode) (i : ℕ) (n : PlanNode) → nodes ≡ own → AreNodes [] (map node_of own) → i < length nodes → n ≡ get_or nodes i n → is_source n.kind ≡ false → IsReady n.kind (length n.inputs.items)
+plan_ready own nodes i n same are within is = node_ready (map node_of (take i nodes)) n (plan_node own nodes i n same are within is)
 
 -- the marks that a node reads are times where all marks are
 pub are_times_at : (ms : List ℕ) (inputs : List ℕ) → AreTimes ms → AreTimes (map (mark_at ms) inputs)

@@ -6,8 +6,8 @@ use Rattle.cedr_plan.specs.declared.plan.NodeKind.{NodeKind}
 use Rattle.cedr_plan.specs.declared.plan.NodeKind.TheVariants as kind
 use Rattle.cedr_plan.specs.declared.plan.PlanNode.{PlanNode}
 use Rattle.cedr_table.specs.Operators.{Tables, table_at, mark_at}
-use Rattle.op_planned.specs.Meanings.{meaning_of}
-use Rattle.op_planned.specs.Ready.{is_source}
+use Rattle.op_node.specs.Meanings.{meaning_of}
+use Rattle.op_node.specs.Ready.{is_source}
 
 -- a node of this kind is an output
 abbrev pub is_output : NodeKind → Bool

@@ -1,12 +1,11 @@
 ghost use Rattle.std.specs.Prelude.{ℕ, ◌≡◌, ◌<◌, ◌++◌, ◌∷◌, [], List, All, OnOk, IfOk, length, map, replicate, slice_index};
 ghost use Rattle.cedr_base.specs.Rows.{IsRow, AreRows};
-ghost use Rattle.cedr_base.specs.Changes.{MayFollow};
-ghost use Rattle.cedr_stream.specs.Repairs.{IsMoved, AreLegal, Leads};
 ghost use Rattle.cedr_table.specs.Operators.{Tables, AreTimes, SameTables, table_at, with_table, HaveRows};
 ghost use Rattle.cedr_query.specs.Asked.{Works, IsAnswer};
 
+use crate::applying::apply_all;
 use cedr_base::{Change, OutOfMemory, Row, Time};
-use cedr_table::{Operator, Table, TableFault};
+use cedr_table::{Operator, Table};
 use std::alloc::Global;
 
 /// What an operator makes of tables and marks on its ports.
@@ -16,30 +15,6 @@ pub(crate) struct Answer {
     pub(crate) rows: Table,
     /// The guarantee that it may hand on.
     pub(crate) mark: Time,
-}
-
-/// Applies a change that may follow in a table.
-fn apply_one(alloc: Global, made: &mut Table, change: &Change) -> Result<(), OutOfMemory>
-    requires { MayFollow made.old [] change.now }
-    ensures { OnOk result (IsMoved change.now made.old made.new) }
-{
-    let copied = change.copy(alloc)?;
-    match made.apply(copied) {
-        Ok(()) => Ok(()),
-        Err(TableFault::OutOfMemory) => Err(OutOfMemory),
-        Err(TableFault::NoSuchRow) => unreachable!(),
-    }
-}
-
-/// Applies changes that are legal from a table on.
-fn apply_all(alloc: Global, made: &mut Table, changes: &[Change]) -> Result<(), OutOfMemory>
-    requires { AreLegal made.old [] changes.now }
-    ensures { OnOk result (Leads made.old changes.now made.new) }
-{
-    for change in changes {
-        apply_one(alloc, made, change)?;
-    }
-    Ok(())
 }
 
 /// A copy of a row comes on a port, and what has been made takes the answers.

@@ -7,7 +7,7 @@ use cedr_base::{Change, FOREVER, Field, FieldType, OutOfMemory, Payload, Row, Te
 use cedr_expr::{Keep, Op, Operand, Test, Tests};
 use cedr_plan::Plan;
 use cedr_table::{Operator, Table, no_marks};
-use op_feed::{Random, feed, no_tables, one_of, raise, some_cut};
+use cedr_testing::{Random, feed, no_tables, no_tests, one_of, raise, repair, some_cut};
 use op_group::Group;
 use op_join::Join;
 use pat_seq::Sequence;
@@ -75,11 +75,9 @@ fn some_change(
     Ok(Change::Add(some_row(alloc, random, mark)?))
 }
 
-/// What came in histories: how often the answers so far made the same rows as the query from scratch, and how many
-/// changes cut a row, and withdrew one, and how many marks rose.
+/// What came in histories: how many changes cut a row, and withdrew one, and how many marks rose.
 #[derive(Clone, Copy)]
 struct Seen {
-    same: usize,
     cut: usize,
     withdrawn: usize,
     raised: usize,
@@ -96,25 +94,11 @@ impl Seen {
         }
     }
 
-    fn note_same(&mut self, same: bool) {
-        if same {
-            self.same = self.same.wrapping_add(1);
-        }
-    }
-
     fn note_raised(&mut self, raised: bool) {
         if raised {
             self.raised = self.raised.wrapping_add(1);
         }
     }
-}
-
-/// The answers come one after the other: each cuts a row that is there.
-fn apply_all(made: &mut Table, answers: Vec<Change>) -> Result<(), Fail> {
-    for answer in answers {
-        made.apply(answer)?;
-    }
-    Ok(())
 }
 
 /// Whether these are the rows of the query from scratch.
@@ -149,11 +133,14 @@ fn take_some<O: Operator>(
     if !feed(alloc, op, tables, marks, port, &change, &mut out)? {
         return Err("a change that may not come")?;
     }
-    apply_all(made, out)
+    if !repair(made, out) {
+        return Err("an answer that may not come")?;
+    }
+    Ok(())
 }
 
-/// An operator takes a made change or a higher mark, and is trimmed. Then its answers so far make the same rows as the
-/// query from scratch.
+/// An operator takes a made change or a higher mark, and is trimmed. Whether its answers so far then make the same rows
+/// as the query from scratch.
 fn step<O: Operator>(
     alloc: Global,
     plan: &Plan,
@@ -163,7 +150,7 @@ fn step<O: Operator>(
     made: &mut Table,
     random: &mut Random,
     seen: &mut Seen,
-) -> Result<(), Fail>
+) -> Result<bool, Fail>
     requires plan { IsPlan plan.now }
     requires stands { O.stands op.old tables.old.items marks.old.items }
     requires times { AreTimes marks.old.items }
@@ -194,13 +181,14 @@ fn step<O: Operator>(
         return Err("a mark that may not come")?;
     }
     seen.note_raised(later > mark);
-    seen.note_same(is_query(alloc, plan, tables.as_slice(), made)?);
-    Ok(())
+    is_query(alloc, plan, tables.as_slice(), made)
 }
 
-/// A new operator takes twelve changes and marks.
+/// A new operator takes twelve changes and marks, and answers each of them like the query. The history has a number.
 fn history<O: Operator>(
+    rt: &impl Abort,
     alloc: Global,
+    number: usize,
     plan: &Plan,
     op: &mut O,
     ports: usize,
@@ -213,8 +201,8 @@ fn history<O: Operator>(
     let mut tables = no_tables(alloc, ports)?;
     let mut marks = no_marks(alloc, ports)?;
     let mut made = Table::new(alloc);
-    for _ in 0..12 {
-        step(
+    for place in 0..12 {
+        let same = step(
             alloc,
             plan,
             op,
@@ -224,149 +212,148 @@ fn history<O: Operator>(
             random,
             seen,
         )?;
+        assert!(rt; same, "history {number}, step {place}");
     }
     Ok(())
 }
 
-fn nothing_seen() -> Seen {
-    Seen {
-        same: 0,
+/// New operators answer two hundred histories like the query of a plan, and many changes of each kind came.
+fn check<O: Operator + Drop, N: Fn(Global) -> Result<O, Fail>>(
+    rt: &impl Abort,
+    alloc: Global,
+    text: &str,
+    ports: usize,
+    seed: u64,
+    new: N,
+) -> Result<(), Fail>
+    requires callable { N.IsAlwaysCallable new }
+    requires stands { (alloc : _) (made : _) → N.post new alloc made → IfOk made (λ op. O.stands op (replicate ports []) (replicate ports 0)) }
+{
+    let plan = plan(alloc, text)?;
+    let mut random = Random::new(seed);
+    let mut seen = Seen {
         cut: 0,
         withdrawn: 0,
         raised: 0,
+    };
+    for number in 0..200 {
+        let mut op = new(alloc)?;
+        history(
+            rt,
+            alloc,
+            number,
+            &plan,
+            &mut op,
+            ports,
+            &mut random,
+            &mut seen,
+        )?;
     }
-}
-
-/// Each of 200 histories of twelve steps was compared, and many of each kind came.
-fn check_all(rt: &impl Abort, seen: &Seen) {
-    assert_eq!(rt; seen.same, 2400);
-    assert!(rt; seen.cut > 100);
-    assert!(rt; seen.withdrawn > 100);
-    assert!(rt; seen.raised > 100);
+    assert!(rt; seen.cut > 100, "{} cuts", seen.cut);
+    assert!(rt; seen.withdrawn > 100, "{} withdrawals", seen.withdrawn);
+    assert!(rt; seen.raised > 100, "{} marks", seen.raised);
+    Ok(())
 }
 
 /// A grouping by the first column, with the count and the sum of the second one.
 fn group(alloc: Global) -> Result<Group, Fail>
     ensures { IfOk result (λ group. ⟦<Group as Operator>⟧.stands group ([] ∷ []) (0 ∷ [])) }
 {
-    let keys = Keep::new(vec![in alloc; 0usize]?, &[FieldType::Bytes])?;
-    Ok(Group::new(alloc, keys, true, vec![in alloc; 1usize]?))
-}
-
-/// The test that columns 0 and 2 are equal, of payloads of two fields.
-fn same_texts(alloc: Global) -> Result<Vec<Test>, Fail> {
-    let mut tests = Vec::new(alloc);
-    tests.push(Test {
-        left: 0,
-        op: Op::Eq,
-        right: Operand::Column(2),
-    })?;
-    Ok(tests)
+    let keys = Keep::new(vec![in alloc; 0usize]?, &TYPES)?;
+    let sums = Keep::new(vec![in alloc; 1usize]?, &TYPES)?;
+    Ok(Group::new(alloc, keys, true, sums))
 }
 
 const TYPES: [FieldType; 2] = [FieldType::Bytes, FieldType::Number];
 
+/// The test that columns 0 and 2 are equal, of payloads of two fields.
+fn same_texts(alloc: Global) -> Result<Tests, Fail> {
+    let test = Test {
+        left: 0,
+        op: Op::Eq,
+        right: Operand::Column(2),
+    };
+    Ok(Tests::new(vec![in alloc; test]?, &TYPES, &TYPES)?)
+}
+
 fn join(alloc: Global) -> Result<Join, Fail>
     ensures { IfOk result (λ join. ⟦<Join as Operator>⟧.stands join ([] ∷ [] ∷ []) (0 ∷ 0 ∷ [])) }
 {
-    let tests = Tests::new(same_texts(alloc)?, &TYPES, &TYPES)?;
-    Ok(Join::new(alloc, tests))
+    Ok(Join::new(alloc, same_texts(alloc)?))
 }
 
 fn unless(alloc: Global) -> Result<Unless, Fail>
     ensures { IfOk result (λ unless. ⟦<Unless as Operator>⟧.stands unless ([] ∷ [] ∷ []) (0 ∷ 0 ∷ [])) }
 {
-    let tests = Tests::new(same_texts(alloc)?, &TYPES, &TYPES)?;
-    Ok(Unless::new(alloc, 4, 3, tests))
+    Ok(Unless::new(alloc, 4, 3, same_texts(alloc)?))
 }
 
 /// Pairs of any rows within six.
 fn sequence(alloc: Global) -> Result<Sequence, Fail>
     ensures { IfOk result (λ sequence. ⟦<Sequence as Operator>⟧.stands sequence ([] ∷ [] ∷ []) (0 ∷ 0 ∷ [])) }
 {
-    let tests = Tests::new(Vec::new(alloc), &[], &[])?;
-    Ok(Sequence::new(alloc, 2, 6, tests)?)
+    Ok(Sequence::new(alloc, 2, 6, no_tests(alloc)?)?)
 }
 
 #[test]
 fn groups_answer_like_the_query_from_scratch(rt: HostRuntime) -> Result<(), Fail> {
-    let alloc = rt.alloc();
-    let plan = plan(
-        alloc,
+    check(
+        &rt,
+        rt.alloc(),
         r#"{"version":1,"nodes":[
  {"name":"s","op":"source","file":"s.csv","fields":["text","int"]},
  {"name":"g","op":"group","from":["s"],"keys":[0],"count":true,"sum":[1]},
  {"name":"out","op":"output","from":["g"]}]}"#,
-    )?;
-    let mut random = Random::new(1);
-    let mut seen = nothing_seen();
-    for _ in 0..200 {
-        let mut op = group(alloc)?;
-        history(alloc, &plan, &mut op, 1, &mut random, &mut seen)?;
-    }
-    check_all(&rt, &seen);
-    Ok(())
+        1,
+        1,
+        group,
+    )
 }
 
 #[test]
 fn joins_answer_like_the_query_from_scratch(rt: HostRuntime) -> Result<(), Fail> {
-    let alloc = rt.alloc();
-    let plan = plan(
-        alloc,
+    check(
+        &rt,
+        rt.alloc(),
         r#"{"version":1,"nodes":[
  {"name":"a","op":"source","file":"a.csv","fields":["text","int"]},
  {"name":"b","op":"source","file":"b.csv","fields":["text","int"]},
  {"name":"j","op":"join","from":["a","b"],"where":[[0,"=",{"column":2}]]},
  {"name":"out","op":"output","from":["j"]}]}"#,
-    )?;
-    let mut random = Random::new(2);
-    let mut seen = nothing_seen();
-    for _ in 0..200 {
-        let mut op = join(alloc)?;
-        history(alloc, &plan, &mut op, 2, &mut random, &mut seen)?;
-    }
-    check_all(&rt, &seen);
-    Ok(())
+        2,
+        2,
+        join,
+    )
 }
 
 #[test]
 fn unlesses_answer_like_the_query_from_scratch(rt: HostRuntime) -> Result<(), Fail> {
-    let alloc = rt.alloc();
-    let plan = plan(
-        alloc,
+    check(
+        &rt,
+        rt.alloc(),
         r#"{"version":1,"nodes":[
  {"name":"a","op":"source","file":"a.csv","fields":["text","int"]},
  {"name":"b","op":"source","file":"b.csv","fields":["text","int"]},
  {"name":"u","op":"unless","from":["a","b"],"scope":4,"hold":3,"where":[[0,"=",{"column":2}]]},
  {"name":"out","op":"output","from":["u"]}]}"#,
-    )?;
-    let mut random = Random::new(3);
-    let mut seen = nothing_seen();
-    for _ in 0..200 {
-        let mut op = unless(alloc)?;
-        history(alloc, &plan, &mut op, 2, &mut random, &mut seen)?;
-    }
-    check_all(&rt, &seen);
-    Ok(())
+        2,
+        3,
+        unless,
+    )
 }
 
 #[test]
 fn sequences_answer_like_the_query_from_scratch(rt: HostRuntime) -> Result<(), Fail> {
-    let alloc = rt.alloc();
-    let plan = plan(
-        alloc,
+    check(
+        &rt,
+        rt.alloc(),
         r#"{"version":1,"nodes":[
  {"name":"a","op":"source","file":"a.csv","fields":["text","int"]},
  {"name":"b","op":"source","file":"b.csv","fields":["text","int"]},
  {"name":"q","op":"sequence","from":["a","b"],"scope":6,"where":[]},
  {"name":"out","op":"output","from":["q"]}]}"#,
-    )?;
-    let mut random = Random::new(4);
-    let mut seen = nothing_seen();
-    for _ in 0..200 {
-        let mut op = sequence(alloc)?;
-        history(alloc, &plan, &mut op, 2, &mut random, &mut seen)?;
-    }
-    check_all(&rt, &seen);
-    Ok(())
+        2,
+        4,
+        sequence,
+    )
 }

@@ -3,7 +3,7 @@ ghost use Rattle.cedr_plan.specs.Rules.{IsPlan};
 ghost use Rattle.cedr_plan.specs.declared.plan.Plan.{Plan};
 ghost use Rattle.cedr_plan.specs.declared.plan.PlanNode.{PlanNode};
 ghost use Rattle.cedr_query.specs.Queries.{is_output, source_count, output_place};
-ghost use Rattle.op_planned.specs.Ready.{is_source};
+ghost use Rattle.op_node.specs.Ready.{is_source};
 
 /// The law of a plan's places: the output of an accepted plan stands at one of them. A source has fewer sources before
 /// it than there are in all, so a list with a table for each source has its table at that number.

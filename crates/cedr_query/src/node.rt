@@ -2,14 +2,14 @@ ghost use Rattle.std.specs.Prelude.{ℕ, ◌≡◌, ◌<◌, All, IfOk, length};
 ghost use Rattle.cedr_table.specs.Operators.{Tables, AreTimes, SameTables, HaveRows};
 ghost use Rattle.cedr_query.specs.Asked.{IsAnswer};
 ghost use Rattle.cedr_query.specs.Queries.{input_tables};
-ghost use Rattle.op_planned.specs.Meanings.{meaning_of};
-ghost use Rattle.op_planned.specs.Ready.{IsReady};
+ghost use Rattle.op_node.specs.Meanings.{meaning_of};
+ghost use Rattle.op_node.specs.Ready.{IsReady};
 
 use crate::ask::{Answer, ask};
 use cedr_base::{OutOfMemory, Time};
 use cedr_plan::PlanNode;
 use cedr_table::Table;
-use op_planned::Planned;
+use op_node::node_operator;
 use std::alloc::Global;
 
 /// What a node makes of the tables that it reads and of a mark for each port. The tables are those of the nodes before
@@ -27,6 +27,6 @@ pub(crate) fn ask_node(
     requires times { AreTimes marks.now }
     ensures { IfOk result (λ answer. (others : Tables) → SameTables (input_tables tables.now node.now) others → IsAnswer (meaning_of node.now) others marks.now answer.rows answer.mark) }
 {
-    let op = Planned::new(alloc, &node.kind, node.inputs.len())?;
+    let op = node_operator(alloc, &node.kind, node.inputs.len())?;
     ask(alloc, op, tables, node.inputs.as_slice(), marks)
 }

@@ -3,14 +3,14 @@ ghost use Rattle.cedr_base.specs.Rows.{SameRows, AreRows};
 ghost use Rattle.cedr_table.specs.Operators.{Tables, AreTimes, SameTables, table_at, mark_at, HaveRows};
 ghost use Rattle.cedr_base.specs.declared.time.TheConstants.{FOREVER};
 ghost use Rattle.cedr_query.specs.Queries.{is_output, source_count, output_place, query, reaches, each_node, node_table, node_mark};
-ghost use Rattle.op_planned.specs.Ready.{is_source, IsReady};
+ghost use Rattle.op_node.specs.Ready.{is_source, IsReady};
 ghost use Rattle.cedr_plan.specs.Rules.{IsPlan};
 
 use crate::node::ask_node;
 use cedr_base::{OutOfMemory, Time};
 use cedr_plan::{NodeKind, Plan, PlanNode};
 use cedr_table::{Table, no_marks};
-use op_planned::is_source;
+use op_node::is_source;
 use std::alloc::Global;
 
 fn is_output(kind: &NodeKind) -> bool

@@ -9,7 +9,7 @@ use crate::{evaluate, reach};
 use cedr_base::{FOREVER, Field, OutOfMemory, Payload, Row, Text, Time};
 use cedr_plan::{NodeKind, Plan, PlanNode, read_plan};
 use cedr_table::Table;
-use op_planned::is_source;
+use op_node::is_source;
 use std::alloc::Global;
 use std::test::Fail;
 
@@ -154,7 +154,11 @@ fn a_group_holds_the_reach_back(rt: HostRuntime) -> Result<(), Fail> {
     let plan = plan(alloc, COUNTED)?;
     let tables = rows_of_x(alloc, &[(0, 10), (5, 7)])?;
     for (mark, wanted) in [(0, 0), (5, 0), (6, 5), (11, 11), (FOREVER, FOREVER)] {
-        assert_eq!(rt; reach_of(alloc, &plan, tables.as_slice(), mark)?, wanted);
+        assert_eq!(rt;
+            reach_of(alloc, &plan, tables.as_slice(), mark)?,
+            wanted,
+            "mark {mark}"
+        );
     }
     Ok(())
 }

@@ -2,7 +2,7 @@
 use Rattle.std.proofs.Common.{◌≡◌, ℕ, inl, inr, List, [], ◌∷◌, ◌++◌, Bool, true, false, cond, length, map, refl, ap, sym, ◌∙◌, subst, arith, append_assoc}
 use Rattle.std.specs.Prelude.{Option, Some, slice_index_or}
 use Rattle.std.specs.Io.KnownBytes.{Consumes}
-use Rattle.std.proofs.lemmas.Bool.{cases_Bool, or_parts}
+use Rattle.std.proofs.lemmas.Bool.{cases_Bool}
 use Rattle.std.proofs.lemmas.List.{append-nil}
 use Rattle.cedr_answer.specs.Finds.{AreFound}
 use Rattle.cedr_answer.proofs.EndLemmas.{bytes_left, count_other, count_source, files_other, files_source}
@@ -10,9 +10,7 @@ use Rattle.cedr_base.specs.declared.change.Message.{Message}
 use Rattle.cedr_base.specs.declared.change.Message.TheVariants as message
 use Rattle.cedr_guard.specs.Messages.{messages_behind}
 use Rattle.cedr_guard.specs.Sources.{ending, judged, messages_of}
-use Rattle.cedr_laws.specs.Lawful.{has_broken, is_over}
 use Rattle.cedr_laws.specs.Lists.{Lists, list_at}
-use Rattle.cedr_laws.specs.Pass.{has_end}
 use Rattle.cedr_outlet.specs.Outgoing.{last_message}
 use Rattle.cedr_plan.specs.declared.plan.PlanNode.{PlanNode}
 use Rattle.cedr_query.specs.Queries.{source_count}
@@ -28,20 +26,17 @@ use Rattle.cedr_worker.specs.declared.source.SourceEnd.{SourceEnd}
 use Rattle.cedr_worker.specs.declared.stop.SourceStop.{SourceStop}
 use Rattle.cedr_worker.specs.declared.stop.SourceStop.TheVariants as stop
 use Rattle.cedr_worker.specs.Stops.{IsGiven, StoppedAs, last_at}
-use Rattle.op_planned.specs.Ready.{is_source}
+use Rattle.op_node.specs.Ready.{is_source}
 use Rattle.cedr_run.specs.Answers.{AllHaveBegun, HasBegun, StreamsSoFar}
+use Rattle.cedr_worker.proofs.SourceLemmas.{open_unbroken}
 
 -- ---- one source
-
--- a list that goes on isn't broken
-goes_unbroken : (ms : List Message) → is_over ms ≡ false → has_broken ms ≡ false
-goes_unbroken ms goes = (or_parts (has_end ms) (has_broken ms) goes).1
 
 -- what a source gave that was broken off is a front of the messages of its good lines
 broken_off : (shape : Shape) (all bytes more : List ℕ) (given : List Message) (ended : Bool) → all ≡ bytes ++ more → (ended ≡ true → more ≡ []) → IsGiven shape bytes given ended → IsPrefix (unbroken (given ++ message.Broken ∷ [])) (messages_of shape all)
 broken_off shape all bytes more given ended parts at_end is =
     let front = is.front more at_end in
-    let lasting : unbroken (given ++ message.Broken ∷ []) ≡ given = unbroken_behind given (message.Broken ∷ []) (goes_unbroken given is.goes) ∙ append-nil given in
+    let lasting : unbroken (given ++ message.Broken ∷ []) ≡ given = unbroken_behind given (message.Broken ∷ []) (open_unbroken given is.goes) ∙ append-nil given in
     let rest = ending (judged shape all).fault in
     let good : given ++ front.rest ≡ messages_behind [] (judged shape all).good = front.begins ∙ ap (λ (bytes : List ℕ). messages_behind [] (judged shape bytes).good) (sym parts) in
     record {
@@ -56,7 +51,7 @@ begun_by stop.Closed shape all bytes more given ended parts at_end is stopped =
     let whole : bytes ≡ all = sym (append-nil bytes) ∙ (ap (λ (xs : List ℕ). bytes ++ xs) (sym (at_end stopped.at_end)) ∙ sym parts) in
     record {
       rest = [];
-      all = append-nil (unbroken (given ++ message.End ∷ [])) ∙ (unbroken_behind given (message.End ∷ []) (goes_unbroken given is.goes) ∙ (stopped.all ∙ ap (λ (xs : List ℕ). messages_of shape xs) whole));
+      all = append-nil (unbroken (given ++ message.End ∷ [])) ∙ (unbroken_behind given (message.End ∷ []) (open_unbroken given is.goes) ∙ (stopped.all ∙ ap (λ (xs : List ℕ). messages_of shape xs) whole));
     }
 begun_by (stop.Refused line fault) shape all bytes more given ended parts at_end is stopped = broken_off shape all bytes more given ended parts at_end is
 begun_by stop.ReadFault shape all bytes more given ended parts at_end is stopped = broken_off shape all bytes more given ended parts at_end is

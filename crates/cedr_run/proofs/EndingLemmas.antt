@@ -1,8 +1,8 @@
 -- How a command ends, from how its steps went.
-use Rattle.std.proofs.Common.{◌≡◌, ◌≢◌, ℕ, suc, Bool, ◌<◌, ◌⊎◌, inl, inr, List, [], ◌∷◌, ◌++◌, length, take, Option, None, Some, Result, Ok, Err, refl, sym, ap, ◌∙◌, subst, arith, rules, tests}
+use Rattle.std.proofs.Common.{◌≡◌, ◌≢◌, ℕ, suc, Bool, ◌<◌, ◌⊎◌, inl, inr, List, [], ◌∷◌, ◌++◌, take, Option, None, Some, Result, Ok, Err, refl, sym, ap, ◌∙◌, subst, rules, tests}
 use Rattle.std.specs.Prelude.{IfSome, OnOk, OnErr}
 use Rattle.std.specs.Io.KnownBytes.{Appends, Keeps}
-use Rattle.std.proofs.lemmas.List.{take_all, append-nil, append_assoc}
+use Rattle.std.proofs.lemmas.List.{append-nil, append_assoc}
 use Rattle.cedr_io.specs.Asked.{AppendsFront}
 use Rattle.cedr_io.specs.Counts.{Rose, last_count}
 use Rattle.cedr_plan.specs.Drawn.{drawn}
@@ -29,6 +29,7 @@ use Rattle.cedr_run.specs.Seen.{FilesSeen, SinkSeen, Tells}
 use Rattle.cedr_run.specs.Outcomes.{status_of, told_text, TellsLack, CommandEnds, AsksOnly, AsksPlan}
 use Rattle.cedr_run.specs.Steps.{Texts, WritesText, Says, OpensPlan, OpensSources, StopsSources, CountsStep, ReadsSources, AreOpened, EndsWith, EndsSources}
 use Rattle.cedr_run.specs.Ending.{Ends}
+use Rattle.cedr_live.proofs.ShownLemmas.{front_all}
 
 -- ---- fronts
 
@@ -37,10 +38,6 @@ pub nothing_is_front : (old new : Option (List ℕ)) (text : List ℕ) → Keeps
 nothing_is_front None new text keeps = record { count = 0; grows = tt }
 nothing_is_front (Some xs) None text keeps = absurd keeps
 nothing_is_front (Some xs) (Some ys) text keeps = record { count = 0; grows = keeps ∙ sym (append-nil xs) }
-
--- where a text was written, a front of it was
-pub whole_is_front : (old new : Option (List ℕ)) (text : List ℕ) → Appends old new text → AppendsFront old new text
-whole_is_front old new text appends = record { count = length text; grows = subst (Appends old new) (sym (take_all (length text) text (omega arith))) appends }
 
 -- what is the same is kept
 pub kept_itself : (old : Option (List ℕ)) → Keeps old old
@@ -258,7 +255,7 @@ sources_given job file script files files' out out' outcome.Read nodes left read
 
 -- the words for that, tried in whatever way
 pub words_tried : {A E : Type 0} (r : Result A E) (old new : Option (List ℕ)) (text : List ℕ) → OnOk r (Appends old new text) → OnErr r (AppendsFront old new text) → AppendsFront old new text
-words_tried (Ok done) old new text ok err = whole_is_front old new text ok
+words_tried (Ok done) old new text ok err = front_all old new text ok
 words_tried (Err fault) old new text ok err = err
 
 -- ---- a count rose

@@ -1,9 +1,8 @@
 -- What is said of sources of a run that aren't accepted.
 use Rattle.std.proofs.Common.{◌≡◌, ℕ, ◌+◌, ◌<◌, List, [], ◌∷◌, ◌++◌, Bool, true, false, length, map, get_or, take, refl, ap, sym, ◌∙◌, arith, append_assoc}
-use Rattle.std.specs.Prelude.{Option, None, Some, ◌||◌, if◌then◌else◌, cond}
+use Rattle.std.specs.Prelude.{Option, Some, ◌||◌, if◌then◌else◌, cond}
 use Rattle.std.specs.List.{list_any, slice_get}
 use Rattle.std.proofs.lemmas.List.{append-nil, length-append, take_more}
-use Rattle.cedr_guard.specs.declared.refusal.Refusal.{Refusal}
 use Rattle.cedr_plan.specs.declared.plan.PlanNode.{PlanNode}
 use Rattle.cedr_query.specs.Queries.{source_count}
 use Rattle.cedr_serial.specs.Queries.{source_nodes}
@@ -13,13 +12,14 @@ use Rattle.cedr_worker.specs.declared.source.SourceEnd.{SourceEnd}
 use Rattle.cedr_worker.specs.declared.stop.SourceStop.{SourceStop}
 use Rattle.cedr_worker.specs.declared.stop.SourceStop.TheVariants as stop
 use Rattle.cedr_answer.specs.Tellings.{fault_in, fault_of, is_faulty, node_faults}
-use Rattle.cedr_answer.proofs.FindLemmas.{count_more}
 use Rattle.cedr_crew.specs.Stopping.{stop_in}
-use Rattle.op_planned.specs.Ready.{is_source}
+use Rattle.op_node.specs.Ready.{is_source}
 use Rattle.cedr_run.specs.Answers.{fault_text, faults_text}
 use Rattle.cedr_run.specs.Steps.{named_text}
 use Rattle.cedr_run.specs.Threads.{fault_said, faults_said}
 use Rattle.cedr_run.proofs.SayingLemmas.{node_at}
+use Rattle.cedr_crew.proofs.CountLemmas.{count_more}
+use Rattle.cedr_answer.proofs.EndLemmas.{faults_source, faults_other}
 
 -- ---- one line after the other
 
@@ -43,15 +43,6 @@ sources_source n nodes is = ap {B = List PlanNode} (λ (b : Bool). if b then n �
 pub sources_other : (n : PlanNode) (nodes : List PlanNode) → is_source n.kind ≡ false → source_nodes (n ∷ nodes) ≡ source_nodes nodes
 sources_other n nodes isnt = ap {B = List PlanNode} (λ (b : Bool). if b then n ∷ source_nodes nodes else source_nodes nodes) isnt
 
--- the fault of a source is the first, and those of later nodes come after it
-node_faults_source : (n : PlanNode) (nodes : List PlanNode) (f : Option Refusal) (faults : List (Option Refusal)) → is_source n.kind ≡ true → node_faults (n ∷ nodes) (f ∷ faults) ≡ f ∷ node_faults nodes faults
-node_faults_source n nodes f faults is = ap {B = List (Option Refusal)} (λ (b : Bool). if b then f ∷ node_faults nodes faults else None ∷ node_faults nodes (f ∷ faults)) is
-
--- any other node has no fault
-node_faults_other : (n : PlanNode) (nodes : List PlanNode) (faults : List (Option Refusal)) → is_source n.kind ≡ false → node_faults (n ∷ nodes) faults ≡ None ∷ node_faults nodes faults
-node_faults_other n nodes [] isnt = refl
-node_faults_other n nodes (f ∷ faults) isnt = ap {B = List (Option Refusal)} (λ (b : Bool). if b then f ∷ node_faults nodes faults else None ∷ node_faults nodes (f ∷ faults)) isnt
-
 -- a source that stopped at a fault has one line, and any other has none
 said_one : (sources : List PlanNode) (n : PlanNode) (number : ℕ) (s : SourceStop) (more : List SourceFault) → slice_get sources number ≡ Some n → faults_said sources (listed_fault number s ++ more) ≡ fault_text n.name (fault_of s) ++ faults_said sources more
 said_one sources n number stop.Closed more here = refl
@@ -66,7 +57,7 @@ said_node : {S : Type 0} (before : List PlanNode) (n : PlanNode) (nodes sources 
 said_node before n nodes sources is false isnt ends count others =
     let none : cond {A = ℕ} (is_source n.kind) 1 0 ≡ 0 = ap {B = ℕ} (λ (b : Bool). cond {A = ℕ} b 1 0) isnt in
     others before ends (is ∙ ap (λ (ns : List PlanNode). before ++ ns) (sources_other n nodes isnt)) (omega (arith, none, count, count_more n nodes))
-    ∙ sym (ap (faults_text (n ∷ nodes)) (node_faults_other n nodes (map fault_in ends) isnt))
+    ∙ sym (ap (faults_text (n ∷ nodes)) (faults_other n nodes (map fault_in ends) isnt))
 said_node before n nodes sources is true source [] count others =
     let one : cond {A = ℕ} (is_source n.kind) 1 0 ≡ 1 = ap {B = ℕ} (λ (b : Bool). cond {A = ℕ} b 1 0) source in
     absurd (omega (arith, one, count, count_more n nodes))
@@ -78,7 +69,7 @@ said_node before n nodes sources is true source (e ∷ ends) count others =
     said_one sources n (length before) e.stop (faults_from (length before + 1) ends) here
     ∙ (ap (λ (number : ℕ). fault_text n.name (fault_of e.stop) ++ faults_said sources (faults_from number ends)) next
     ∙ (ap (λ (t : List ℕ). fault_text n.name (fault_of e.stop) ++ t) (others (before ++ n ∷ []) ends (all ∙ sym (append_assoc before (n ∷ []) (source_nodes nodes))) (omega (arith, one, count, count_more n nodes)))
-    ∙ sym (ap (faults_text (n ∷ nodes)) (node_faults_source n nodes (fault_in e) (map fault_in ends) source))))
+    ∙ sym (ap (faults_text (n ∷ nodes)) (faults_source n nodes (fault_in e) (map fault_in ends) source))))
 
 -- the lines of the faults by the sources' numbers are those by the nodes, after some sources
 said_from : {S : Type 0} (before nodes : List PlanNode) (sources : List PlanNode) (ends : List (SourceEnd S)) → sources ≡ before ++ source_nodes nodes → length ends ≡ source_count nodes → faults_said sources (faults_from (length before) ends) ≡ faults_text nodes (node_faults nodes (map fault_in ends))

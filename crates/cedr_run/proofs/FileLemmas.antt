@@ -4,7 +4,8 @@ use Rattle.std.specs.Prelude.{nat_lt, IfSome}
 use Rattle.std.specs.List.{slice_split, onto_first}
 use Rattle.std.proofs.lemmas.Bool.{ltb-true, ltb-false, lt-ltb, le-ltb}
 use Rattle.std.proofs.lemmas.List.{append-nil, take-append-le, length-append}
-use Rattle.cedr_text.specs.Parts.{line_feed, parts_of}
+use Rattle.cedr_base.specs.Bytes.{line_feed}
+use Rattle.cedr_text.specs.Parts.{parts_of}
 use Rattle.cedr_text.specs.Lines.{without_empty_end, raw_lines}
 use Rattle.cedr_text.specs.declared.event_line.EventLine.{EventLine}
 use Rattle.cedr_text.specs.declared.event_line.Shape.TheVariants.{AnyText}

@@ -11,7 +11,7 @@ use Rattle.cedr_guard.specs.declared.refusal.Refusal.{Refusal}
 use Rattle.cedr_laws.specs.Lists.{Lists}
 use Rattle.cedr_make.specs.BuiltIn.{event_types, built_in}
 use Rattle.cedr_make.specs.Generator.{made_text}
-use Rattle.cedr_plan.specs.Drawn.{Kind, source, Node, kind_of, node_of}
+use Rattle.cedr_plan.specs.Drawn.{Node, node_of}
 use Rattle.cedr_plan.specs.declared.plan.NodeKind.{NodeKind}
 use Rattle.cedr_plan.specs.declared.plan.NodeKind.TheVariants as kind
 use Rattle.cedr_plan.specs.declared.plan.PlanNode.{PlanNode}
@@ -22,26 +22,26 @@ use Rattle.cedr_serial.specs.declared.sources.SourcesFault.TheVariants.{Events}
 use Rattle.cedr_serial.specs.Sources.{file_of, files_of, source_files, AreTold, HasTypes, HasGiven, AllHaveGiven, AnswersSources, fault_here, faulty_from}
 use Rattle.cedr_text.specs.declared.event_line.Shape.{Shape}
 use Rattle.cedr_text.specs.declared.event_line.Shape.TheVariants.{AnyText, Fields}
-use Rattle.op_planned.specs.Ready.{is_source}
+use Rattle.op_node.specs.Ready.{is_source}
 use Rattle.cedr_run.specs.Answers.{made_file}
 
 -- ---- the files of the sources
 
-abbrev drawn_source : Kind → Bool
-drawn_source (source file) = true
+abbrev drawn_source : NodeKind → Bool
+drawn_source (kind.Source file) = true
 drawn_source other = false
 
 -- a source is drawn as one
-source_drawn : (k : NodeKind) → is_source k ≡ drawn_source (kind_of k)
+source_drawn : (k : NodeKind) → is_source k ≡ drawn_source k
 source_drawn (kind.Source file) = refl
 source_drawn other = refl
 
 -- the files of a node that is drawn so
-abbrev kind_files : Kind → List (List ℕ)
-kind_files (source file) = file ∷ []
+abbrev kind_files : NodeKind → List (List ℕ)
+kind_files (kind.Source file) = file ∷ []
 kind_files other = []
 
-kind_drawn : (k : NodeKind) → cond (is_source k) (file_of k ∷ []) [] ≡ kind_files (kind_of k)
+kind_drawn : (k : NodeKind) → cond (is_source k) (file_of k ∷ []) [] ≡ kind_files k
 kind_drawn (kind.Source file) = refl
 kind_drawn other = refl
 
@@ -98,7 +98,7 @@ file_accepted accepted n name AnyText types most are has = absurd has
 file_accepted accepted n name (Fields fields) types most are has = text_accepted accepted n fields (bytes_eq name (codes "a")) most (has ∙ are)
 
 -- a node has no fault: a source is accepted, and any other node has none
-node_accepted : AreAcceptable → (n : ℕ) (node : PlanNode) (ms : List Message) (fault : Option Refusal) (b : Bool) → n ≤ 100000 → (drawn_source (kind_of node.kind) ≡ true → node.types.items ≡ event_types) → is_source node.kind ≡ b
+node_accepted : AreAcceptable → (n : ℕ) (node : PlanNode) (ms : List Message) (fault : Option Refusal) (b : Bool) → n ≤ 100000 → (drawn_source node.kind ≡ true → node.types.items ≡ event_types) → is_source node.kind ≡ b
     → HasGiven (made_file n) node ms fault → fault ≡ None
 node_accepted accepted n node ms fault true most typed is given =
     let read = given.source is in

@@ -7,7 +7,6 @@ use Rattle.std.proofs.lemmas.List.Elements.{All-tail}
 use Rattle.cedr_answer.specs.Finds.{count_with}
 use Rattle.cedr_answer.specs.Tellings.{AreEnded, fault_in, node_faults, source_in, source_lists}
 use Rattle.cedr_answer.proofs.EndLemmas.{all_given, all_judged, all_read, ended_kept, ended_rose, same_sources, so_went, some_faulty}
-use Rattle.cedr_answer.proofs.FindLemmas.{count_more}
 use Rattle.cedr_base.specs.declared.change.Change.{Change}
 use Rattle.cedr_base.specs.declared.change.Message.{Message}
 use Rattle.cedr_base.specs.declared.row.Row.{Row}
@@ -30,7 +29,6 @@ use Rattle.cedr_query.proofs.PlaceLemmas.{place_within, sources_behind}
 use Rattle.cedr_runs.specs.Runs.{AllWhole, IsRun, IsWhole, sources_in}
 use Rattle.cedr_runs.specs.Without.{forgot_in}
 use Rattle.cedr_runs.proofs.Closed.{closed_table, closed_whole}
-use Rattle.cedr_runs.proofs.Ports.{one_table}
 use Rattle.cedr_serial.specs.Answers.{answer_text, has_memory}
 use Rattle.cedr_serial.specs.Queries.{AreAccepted, LeadsTo, changes_text, rows_without, source_nodes}
 use Rattle.cedr_serial.specs.Sources.{AreRead, AreTold, source_files}
@@ -47,7 +45,7 @@ use Rattle.cedr_worker.specs.declared.source.SourceEnd.{SourceEnd}
 use Rattle.cedr_worker.specs.declared.stop.SourceStop.{SourceStop}
 use Rattle.cedr_worker.specs.declared.stop.SourceStop.TheVariants as stop
 use Rattle.cedr_worker.specs.Stops.{StoppedAs, meant}
-use Rattle.op_planned.specs.Ready.{is_source}
+use Rattle.op_node.specs.Ready.{is_source}
 use Rattle.cedr_run.specs.declared.outcome.Outcome.{Outcome}
 use Rattle.cedr_run.specs.declared.outcome.Outcome.TheVariants as outcome
 use Rattle.cedr_run.specs.Answers.{AnswersRun, AnswersStream, Contents, RefusesSources}
@@ -56,6 +54,9 @@ use Rattle.cedr_run.specs.Steps.{Says, WritesText}
 use Rattle.cedr_run.specs.Threads.{CanTell, CanTellTail, IsReported, IsSilentBy, RunEnds, Tells, WritesRun, faults_said, tail_of}
 use Rattle.cedr_run.proofs.EndingLemmas.{AcceptedLeft, kept_itself}
 use Rattle.cedr_run.proofs.FaultLemmas.{any_stop, said_all, some_listed}
+use Rattle.cedr_serial.proofs.TextLemmas.{forgot_length}
+use Rattle.cedr_crew.proofs.CountLemmas.{count_more}
+use Rattle.cedr_laws.proofs.Passes.{one_table}
 
 -- where none is faulty the sources of a plan are accepted
 abbrev pub Accepts : Type 0
@@ -117,12 +118,6 @@ closed_unread {S = S} (e ∷ ends) closed =
     ap (λ (s : SourceStop). is_unread s || list_any is_unread (map stop_in ends)) here ∙ closed_unread ends (All-tail (λ (e : SourceEnd S). e.stop ≡ stop.Closed) e ends closed)
 
 -- ---- what ports forgot
-
--- there is a list of it for each node
-pub forgot_count : (nodes : List PlanNode) (ports : List Lists) → length (forgot_in nodes ports) ≡ length nodes
-forgot_count [] ports = refl
-forgot_count (n ∷ nodes) [] = ap suc (forgot_count nodes [])
-forgot_count (n ∷ nodes) (p ∷ ports) = ap suc (forgot_count nodes ports)
 
 -- ---- what is handed on
 
@@ -213,7 +208,7 @@ module _ {S : Type 0} (rest : S → Option (List ℕ)) (faults : S → ℕ) (acc
       legal = (closed_whole nodes (sources_in nodes given) ports given is.nodes is_done.run whole (output_place nodes) (place_within plan is)).legal;
       changes_are = is_done.changes;
       forgotten_are = is_done.forgotten;
-      count = forgot_count nodes ports;
+      count = forgot_length nodes ports;
     }
 
     -- the sources are accepted, and their lists have these tables
@@ -241,7 +236,7 @@ module _ {S : Type 0} (rest : S → Option (List ℕ)) (faults : S → ℕ) (acc
 
     -- what was forgotten can be listed
     pub can_tell_tail : CanTellTail nodes report.forgotten.items (forgot_in nodes ports)
-    can_tell_tail = record { forgotten_are = is_done.forgotten; count = forgot_count nodes ports }
+    can_tell_tail = record { forgotten_are = is_done.forgotten; count = forgot_length nodes ports }
 
     -- and its changes are those of the run
     pub streams_so : Leads → (told : List ℕ → List ℕ) → AreTold content told (source_files nodes) → AnswersStream told nodes report.edges.items report.ran.items (changes_text report.changes.items ++ tail_of nodes (forgot_in nodes ports))

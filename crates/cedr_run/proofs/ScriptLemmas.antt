@@ -21,8 +21,9 @@ use Rattle.cedr_run.specs.Outcomes.{CommandEnds}
 use Rattle.cedr_run.specs.Refusals.{refusal_text}
 use Rattle.cedr_run.specs.Seen.{FilesSeen, SinkSeen}
 use Rattle.cedr_run.specs.Steps.{Says, OpensPlan}
-use Rattle.cedr_run.proofs.EndingLemmas.{whole_is_front, opened_plan}
+use Rattle.cedr_run.proofs.EndingLemmas.{opened_plan}
 use Rattle.cedr_run.proofs.FileLemmas.{played_known}
+use Rattle.cedr_live.proofs.ShownLemmas.{front_all}
 
 -- what was played of the bytes that were read is what is played of the file
 pub known_played : (before after : Option (List ℕ)) (bytes front seen : List ℕ) (nodes : List PlanNode) (text : List ℕ) (fault : Option Refusal) → after ≡ before → before ≡ Some bytes → IfSome after (λ all. IsFileFront FILE_LIMIT all front) → seen ≡ front
@@ -78,7 +79,7 @@ live_said files files' out out' file script text nodes refusal (outcome.Events s
   λ told is. (text, record { nodes = nodes; plan = (plays told is).0; holding = record { fault = refusal; played = (plays told is).1; said_is = says } }, wrote),
 )
 live_said files files' out out' file script text nodes refusal outcome.OutOfMemory says same_files same_out plays wrote =
-    inr (λ told is. (text, record { nodes = nodes; plan = (plays told is).0; holding = whole_is_first nodes (told script) text (Some refusal) (plays told is).1 }, whole_is_front out.written out'.written text wrote))
+    inr (λ told is. (text, record { nodes = nodes; plan = (plays told is).0; holding = whole_is_first nodes (told script) text (Some refusal) (plays told is).1 }, front_all out.written out'.written text wrote))
 live_said files files' out out' file script text nodes refusal outcome.Done says same_files same_out plays wrote = absurd says
 live_said files files' out out' file script text nodes refusal outcome.Usage says same_files same_out plays wrote = absurd says
 live_said files files' out out' file script text nodes refusal (outcome.BadPlan kind node) says same_files same_out plays wrote = absurd says

@@ -35,7 +35,8 @@ use Rattle.cedr_run.proofs.BegunLemmas.{streams_so_far}
 use Rattle.cedr_run.proofs.EndingLemmas.{rose_above}
 use Rattle.cedr_run.proofs.PlanLemmas.{stream_changes}
 use Rattle.cedr_run.proofs.RunLemmas.{Accepts, Leads, can_tell_tail, faulty_kept, lacking_ends, none_rose, read_ends, refuses_so, said_ends, some_rose, streams_so}
-use Rattle.cedr_run.proofs.StreamLemmas.{front_behind, lines_longer, wrote_front}
+use Rattle.cedr_run.proofs.StreamLemmas.{lines_longer, wrote_front}
+use Rattle.cedr_live.proofs.ShownLemmas.{front_along}
 
 -- what was forgotten can be listed as it is handed on
 pub can_tell_tail_as : (nodes seen_nodes : List PlanNode) (forgotten seen : List PortForgotten) (listed : List (List (List Forgotten))) → seen_nodes ≡ nodes → seen ≡ forgotten → CanTellTail nodes forgotten listed → CanTellTail seen_nodes seen listed
@@ -126,13 +127,13 @@ module _ {S : Type 0} (rest : S → Option (List ℕ)) (faults : S → ℕ) (acc
           record {
             text = _;
             begins = λ told known. inr (stream_changes told nodes report.edges.items report.ran.items _ (streams_so rest faults accepts plan is files.content report streamed.run done leads told known));
-            wrote = front_behind start.written out.written out'.written (changes_text report.changes.items) (tail_of nodes listed) whole.1 h.1;
+            wrote = front_along start.written out.written out'.written (changes_text report.changes.items) (tail_of nodes listed) whole.1 h.1;
           },
         )
         by_outcome outcome.OutOfMemory h = inr (record {
           text = _;
           begins = λ told known. inr (stream_changes told nodes report.edges.items report.ran.items _ (streams_so rest faults accepts plan is files.content report streamed.run done leads told known));
-          wrote = front_behind start.written out.written out'.written (changes_text report.changes.items) (tail_of nodes listed) whole.1 h;
+          wrote = front_along start.written out.written out'.written (changes_text report.changes.items) (tail_of nodes listed) whole.1 h;
         })
         by_outcome outcome.Usage h = absurd h
         by_outcome (outcome.Events said) h = absurd h

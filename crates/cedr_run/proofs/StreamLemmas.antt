@@ -1,9 +1,8 @@
 -- What is written of a list of changes, as more of it is read.
-use Rattle.std.proofs.Common.{◌≡◌, ℕ, ◌+◌, ◌≤◌, List, [], ◌++◌, length, take, drop, min, refl, ap, sym, ◌∙◌, subst, arith, append_assoc, length-drop}
+use Rattle.std.proofs.Common.{◌≡◌, ℕ, ◌≤◌, List, [], ◌++◌, length, drop, min, refl, ap, sym, ◌∙◌, subst, arith, append_assoc, length-drop}
 use Rattle.std.specs.Prelude.{Option}
 use Rattle.std.specs.Io.KnownBytes.{Appends}
 use Rattle.std.proofs.KnownBytes.{Appends-nil, Appends-trans}
-use Rattle.std.proofs.Math.Seq.{take-append-add}
 use Rattle.std.proofs.lemmas.List.{drop_at, take-append-le, take_all, take_min}
 use Rattle.std.proofs.lemmas.List.Concat.{flat_map-append}
 use mathlib.Core.List.{IsPrefix}
@@ -17,15 +16,9 @@ use Rattle.cedr_run.specs.declared.progress.Progress.{Progress}
 use Rattle.cedr_run.specs.declared.progress.Progress.TheVariants as progress
 use Rattle.cedr_run.specs.Seen.{SinkSeen}
 use Rattle.cedr_run.specs.Threads.{WroteList}
+use Rattle.cedr_live.proofs.ShownLemmas.{front_along}
 
 -- ---- fronts of texts
-
--- a front of a text that follows another one
-pub front_behind : (old mid new : Option (List ℕ)) (text more : List ℕ) → Appends old mid text → AppendsFront mid new more → AppendsFront old new (text ++ more)
-front_behind old mid new text more whole front = record {
-  count = length text + front.count;
-  grows = subst (Appends old new) (sym (take-append-add text more front.count)) (Appends-trans old mid new text (take front.count more) whole front.grows);
-}
 
 -- a front of a text is one of each text that goes on from it
 pub front_longer : (old new : Option (List ℕ)) (text more : List ℕ) → AppendsFront old new text → AppendsFront old new (text ++ more)
@@ -66,7 +59,7 @@ module _ (start out out' : SinkSeen) (list more : List Change) (was : WroteList 
   wrote_more wrote counted = (counted ∙ was.0, subst (Appends start.written out'.written) (sym (flat_map-append change_text list more)) (Appends-trans start.written out.written out'.written (changes_text list) (changes_text more) was.1 wrote))
 
   front_more : AppendsFront out.written out'.written (changes_text more) → AppendsFront start.written out'.written (changes_text (list ++ more))
-  front_more wrote = subst (AppendsFront start.written out'.written) (sym (flat_map-append change_text list more)) (front_behind start.written out.written out'.written (changes_text list) (changes_text more) was.1 wrote)
+  front_more wrote = subst (AppendsFront start.written out'.written) (sym (flat_map-append change_text list more)) (front_along start.written out.written out'.written (changes_text list) (changes_text more) was.1 wrote)
 
   pub refused_more : AppendsFront out.written out'.written (changes_text more) → Rose out.faults out'.faults → WroteList progress.Refused start out' (list ++ more)
   refused_more wrote rose = (subst (λ n. Rose n out'.faults) was.0 rose, front_more wrote)

@@ -8,7 +8,7 @@ use Rattle.cedr_text.specs.declared.event_line.Shape.TheVariants.{AnyText}
 use Rattle.cedr_text.specs.declared.fault.LineFault.{LineFault}
 use Rattle.cedr_guard.specs.declared.fault.GuardFault.{GuardFault}
 use Rattle.cedr_guard.specs.declared.fault.GuardFault.TheVariants as guard_fault
-use Rattle.cedr_guard.specs.declared.judge.Interval.{Interval}
+use Rattle.cedr_base.specs.declared.interval.Interval.{Interval}
 use Rattle.cedr_guard.specs.History.{rows_among}
 use Rattle.cedr_guard.specs.Sources.{judged, Judged, judged_behind, whole_lines, unfinished_line, first_fault, limit_fault}
 use Rattle.cedr_guard.specs.Standing.{StandsFor, payload_of}

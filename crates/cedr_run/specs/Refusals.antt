@@ -7,7 +7,7 @@ use Rattle.cedr_guard.specs.declared.fault.GuardFault.TheVariants as guard_fault
 use Rattle.cedr_text.specs.Faults.{number_of}
 use Rattle.cedr_plan.specs.Faults as plan
 use Rattle.cedr_plan.specs.declared.fault.PlanKind.{PlanKind}
-use Rattle.cedr_text.specs.Parts.{line_feed}
+use Rattle.cedr_base.specs.Bytes.{line_feed}
 use Rattle.cedr_text.specs.Texts.{time_text}
 use Rattle.cedr_guard.specs.declared.refusal.Refusal.{Refusal}
 use Rattle.cedr_run.specs.declared.refusal.JudgeFault.{JudgeFault}

@@ -58,8 +58,8 @@ fn a_fault_of_the_document_has_the_node_0(rt: HostRuntime) -> Result<(), Fail> {
         (b"{\"version\":1,\"nodes\":[]}", b"plan fault 13 node 0\n"),
     ] {
         let (code, told, complaint) = answer(rt, "check", "p.json", bytes)?;
-        assert_eq!(rt; (code, told.len()), (2, 0));
-        assert_eq!(rt; complaint.as_slice(), err);
+        assert_eq!(rt; (code, told.len()), (2, 0), "{}", bytes.escape_ascii());
+        assert_eq!(rt; complaint.as_slice(), err, "{}", bytes.escape_ascii());
     }
     Ok(())
 }

@@ -6,8 +6,8 @@ ghost use Rattle.cedr_guard.specs.History.{lives, rows_among};
 ghost use Rattle.cedr_guard.specs.Standing.{Judges};
 ghost use Rattle.cedr_run.specs.Events.{AreEventsOf, living_rows};
 
-use cedr_base::OutOfMemory;
-use cedr_guard::{GuardFault, Interval, Judge};
+use cedr_base::{Interval, OutOfMemory};
+use cedr_guard::{GuardFault, Judge};
 use cedr_text::{EventText, PayloadText, TextRow};
 use std::alloc::Global;
 

@@ -1,6 +1,7 @@
 ghost use Rattle.std.specs.Prelude.{◌≡◌, ◌<◌, ◌≤◌, length, [], Bool, List, ℕ, IfOk};
 ghost use Rattle.cedr_io.specs.Counts.{last_count};
-ghost use Rattle.cedr_text.specs.Parts.{line_feed, parts_of};
+ghost use Rattle.cedr_base.specs.Bytes.{line_feed};
+ghost use Rattle.cedr_text.specs.Parts.{parts_of};
 ghost use Rattle.cedr_text.specs.Texts.{rows_text};
 ghost use Rattle.cedr_text.specs.declared.event_line.EventLine.{EventLine};
 ghost use Rattle.cedr_text.specs.declared.event_line.Shape.TheVariants.{AnyText};

@@ -6,6 +6,7 @@ use crate::tests::{ended, words};
 use cedr_base::OutOfMemory;
 use cedr_io::{Files, MemFiles, MemSink, OpenGate};
 use std::alloc::Global;
+use std::process::Abort;
 use std::sync::{Arc, Wait};
 use std::test::Fail;
 use std::thread::Threads;
@@ -96,21 +97,32 @@ fn files(alloc: Global, plan: &str, given: Given) -> Result<MemFiles, OutOfMemor
     Ok(files)
 }
 
-/// Whether a command over a plan and these files is answered so.
-fn gives<R: Threads + Wait + Clock + Copy + Drop + Send + AllocGlobal + 'static>(
+/// A command over a plan and these files is answered so.
+fn check<R: Abort + Threads + Wait + Clock + Copy + Drop + Send + AllocGlobal + 'static>(
     rt: R,
     command: &str,
     plan: &str,
     given: Given,
     told: (u8, &str, &str),
-) -> Result<bool, OutOfMemory> {
+) -> Result<(), OutOfMemory> {
     let alloc = rt.alloc();
     let mut files = files(alloc, plan, given)?;
     let texts = [command, "p.json", "x.txt"];
     let used = if command == "live" { 3 } else { 2 };
     let words = words(alloc, &texts[..used])?;
     let (code, out, err) = ended(rt, &words, &mut files)?;
-    Ok((code, out.as_slice(), err.as_slice()) == (told.0, told.1.as_bytes(), told.2.as_bytes()))
+    assert_eq!(rt; code, told.0, "{command} over {given:?}");
+    assert_eq!(rt;
+        out.as_slice(),
+        told.1.as_bytes(),
+        "{command} over {given:?}"
+    );
+    assert_eq!(rt;
+        err.as_slice(),
+        told.2.as_bytes(),
+        "{command} over {given:?}"
+    );
+    Ok(())
 }
 
 #[test]
@@ -181,7 +193,7 @@ fn a_plan_is_run_over_its_sources(rt: HostRuntime) -> Result<(), Fail> {
     ];
     for (plan, given, out) in cases {
         for command in ["run", "serial"] {
-            assert!(rt; gives(rt, command, plan, given, (0, out, ""))?, "{out}");
+            check(rt, command, plan, given, (0, out, ""))?;
         }
     }
     Ok(())
@@ -190,18 +202,16 @@ fn a_plan_is_run_over_its_sources(rt: HostRuntime) -> Result<(), Fail> {
 #[test]
 fn what_was_forgotten_follows_the_answer(rt: HostRuntime) -> Result<(), Fail> {
     let given: Given = &[("s.csv", "+,1,1,2,a\n+,2,20,30,b\n+,3,10,40,c\n-,3,25\n")];
-    let lines = "--\nout,0,late,20,+,10,40,c\nout,0,orphan,20,-,25,10,40,c\n";
     for command in ["serial", "run", "audit"] {
         let out = "1,2,a\n20,30,b\n--\nout,0,late,20,+,10,40,c\nout,0,orphan,20,-,25,10,40,c\n";
-        assert!(rt; gives(rt, command, WEAK_PASS, given, (0, out, ""))?);
+        check(rt, command, WEAK_PASS, given, (0, out, ""))?;
     }
-    assert!(rt; lines.len() > 3);
     let all: Given = &[("s.csv", "+,1,1,2,a\n")];
-    assert!(rt; gives(rt, "audit", PASS, all, (0, "1,2,a\n--\n", ""))?);
-    assert!(rt; gives(rt, "run", PASS, all, (0, "1,2,a\n", ""))?);
+    check(rt, "audit", PASS, all, (0, "1,2,a\n--\n", ""))?;
+    check(rt, "run", PASS, all, (0, "1,2,a\n", ""))?;
     let streamed =
         "+,1,2,a\n+,20,30,b\n--\nout,0,late,20,+,10,40,c\nout,0,orphan,20,-,25,10,40,c\n";
-    assert!(rt; gives(rt, "stream", WEAK_PASS, given, (0, streamed, ""))?);
+    check(rt, "stream", WEAK_PASS, given, (0, streamed, ""))?;
     Ok(())
 }
 
@@ -209,35 +219,28 @@ fn what_was_forgotten_follows_the_answer(rt: HostRuntime) -> Result<(), Fail> {
 fn changes_are_streamed(rt: HostRuntime) -> Result<(), Fail> {
     let given: Given = &[("s.csv", "+,1,1,20,a\n+,2,4,10,b\n=,10\n-,1,10\n")];
     let strong = "+,1,10,a\n+,4,10,b\n";
-    assert!(rt; gives(rt, "stream", STRONG_PASS, given, (0, strong, ""))?);
+    check(rt, "stream", STRONG_PASS, given, (0, strong, ""))?;
     let middle = "+,1,20,a\n+,4,10,b\n-,10,1,20,a\n";
-    assert!(rt; gives(rt, "stream", PASS, given, (0, middle, ""))?);
+    check(rt, "stream", PASS, given, (0, middle, ""))?;
     Ok(())
 }
 
 #[test]
 fn a_script_is_played(rt: HostRuntime) -> Result<(), Fail> {
     let script: Given = &[("x.txt", "s,+,1,1,5,a\ns,+,2,2,9,b\ns,=,6\n?\n")];
-    assert!(rt; gives(rt, "live", STRONG_PASS, script, (0, "1,5,a\n. 6\n", ""))?);
+    check(rt, "live", STRONG_PASS, script, (0, "1,5,a\n. 6\n", ""))?;
     let unknown: Given = &[("x.txt", "t,=,1\n")];
-    assert!(rt;
-        gives(
-            rt,
-            "live",
-            PASS,
-            unknown,
-            (3, "", "events x.txt line 1 fault 2\n")
-        )?
-    );
+    let told = (3, "", "events x.txt line 1 fault 2\n");
+    check(rt, "live", PASS, unknown, told)?;
     let stops: Given = &[("x.txt", "s,+,1,1,5,a\n?\ns,-,2,1\n?\n")];
     let told = (3, "1,5,a\n. 0\n", "events x.txt line 3 fault 7\n");
-    assert!(rt; gives(rt, "live", PASS, stops, told)?);
+    check(rt, "live", PASS, stops, told)?;
     let failures: Given = &[(
         "x.txt",
         "install,+,1,1000,inf,m1\ninstall,+,2,2000,inf,m2\nshutdown,+,1,5000,inf,m1\nshutdown,+,2,6000,inf,m2\n?\nrestart,+,1,5100,inf,m1\n?\n",
     )];
     let out = "5300,5301,m1,m1\n6300,6301,m2,m2\n. 0\n6300,6301,m2,m2\n. 0\n";
-    assert!(rt; gives(rt, "live", FAILURES, failures, (0, out, ""))?);
+    check(rt, "live", FAILURES, failures, (0, out, ""))?;
     Ok(())
 }
 
@@ -246,12 +249,12 @@ fn sources_that_are_not_accepted_are_told(rt: HostRuntime) -> Result<(), Fail> {
     let both: Given = &[("u.csv", "+,1,5,4,a\n"), ("v.csv", "-,3,1\n")];
     let told = (3, "", "events u line 1 fault 4\nevents v line 1 fault 7\n");
     for command in ["run", "serial", "audit", "stream"] {
-        assert!(rt; gives(rt, command, UNION, both, told)?);
-        assert!(rt; gives(rt, command, PASS, &[], (4, "", "read fault\n"))?);
-        assert!(rt; gives(rt, command, "{}", &[], (2, "", "plan fault 3 node 0\n"))?);
+        check(rt, command, UNION, both, told)?;
+        check(rt, command, PASS, &[], (4, "", "read fault\n"))?;
+        check(rt, command, "{}", &[], (2, "", "plan fault 3 node 0\n"))?;
     }
     let number: Given = &[("s.csv", "+,1,0,4,x,y\n")];
-    assert!(rt; gives(rt, "run", SUM, number, (3, "", "events s line 1 fault 5\n"))?);
+    check(rt, "run", SUM, number, (3, "", "events s line 1 fault 5\n"))?;
     Ok(())
 }
 
@@ -292,7 +295,11 @@ fn a_read_that_fails_later_is_told_and_a_stream_leaves_what_it_wrote(
                 longest.as_bytes().starts_with(out.as_slice()),
                 "{command} {read}"
             );
-            assert_eq!(rt; err.as_slice(), b"read fault\n".as_slice());
+            assert_eq!(rt;
+                err.as_slice(),
+                b"read fault\n".as_slice(),
+                "{command} {read}"
+            );
         }
     }
     Ok(())
@@ -315,7 +322,7 @@ fn a_stream_of_a_refused_write_leaves_a_front(rt: HostRuntime) -> Result<(), Fai
             b"+,1,10,a\n+,2,9,b\n-,5,1,10,a\n".starts_with(out.written()),
             "write {call}"
         );
-        assert_eq!(rt; err.written(), b"write fault\n".as_slice());
+        assert_eq!(rt; err.written(), b"write fault\n".as_slice(), "write {call}");
     }
     Ok(())
 }
@@ -339,9 +346,9 @@ fn a_stream_and_a_script_leave_what_they_wrote(rt: HostRuntime) -> Result<(), Fa
         let words = words(alloc, texts)?;
         let gate = Arc::new(alloc, OpenGate)?;
         let status = run(rt, alloc, &words, &mut files, &mut out, &mut err, &gate).status;
-        assert_eq!(rt; status, Status::Write);
-        assert_eq!(rt; out.written(), left.as_bytes());
-        assert_eq!(rt; err.written(), b"write fault\n".as_slice());
+        assert_eq!(rt; status, Status::Write, "{texts:?}");
+        assert_eq!(rt; out.written(), left.as_bytes(), "{texts:?}");
+        assert_eq!(rt; err.written(), b"write fault\n".as_slice(), "{texts:?}");
     }
     Ok(())
 }
@@ -357,8 +364,12 @@ fn a_workload_is_summed_up(rt: HostRuntime) -> Result<(), Fail> {
         let mut files = MemFiles::new(alloc);
         let words = words(alloc, &["make", events])?;
         let (code, out, err) = ended(rt, &words, &mut files)?;
-        assert_eq!(rt; (code, err.len(), files.asked().len()), (0, 0, 0));
-        assert_eq!(rt; out.as_slice(), told.as_bytes());
+        assert_eq!(rt;
+            (code, err.len(), files.asked().len()),
+            (0, 0, 0),
+            "{events} events"
+        );
+        assert_eq!(rt; out.as_slice(), told.as_bytes(), "{events} events");
     }
     Ok(())
 }
@@ -381,8 +392,7 @@ fn a_faulty_source_is_told_by_its_own_name(rt: HostRuntime) -> Result<(), Fail> 
     ];
     for (given, told) in cases {
         for command in ["run", "serial"] {
-            let answered = gives(rt, command, APART, given, (3, "", told))?;
-            assert!(rt; answered, "{command} {told}");
+            check(rt, command, APART, given, (3, "", told))?;
         }
     }
     Ok(())
@@ -410,13 +420,29 @@ fn a_run_tells_what_went_over_its_edges(rt: HostRuntime) -> Result<(), Fail> {
         let words = words(alloc, &[command, "p.json"])?;
         let gate = Arc::new(alloc, OpenGate)?;
         let ending = run(rt, alloc, &words, &mut files, &mut out, &mut err, &gate);
-        assert_eq!(rt; ending.status, Status::Done);
-        assert_eq!(rt; (ending.edges.len(), ending.ran.len()), (edges, workers));
+        assert_eq!(rt; ending.status, Status::Done, "{command}");
+        assert_eq!(rt;
+            (ending.edges.len(), ending.ran.len()),
+            (edges, workers),
+            "{command}"
+        );
         if let ([first, last], [s, g, output]) = (ending.edges.as_slice(), ending.ran.as_slice()) {
-            assert_eq!(rt; (s.number(), g.number(), output.number()), (0, 1, 2));
-            assert_eq!(rt; (s.taken(), s.put()), (0, first.count()));
-            assert_eq!(rt; (g.taken(), g.put()), (first.count(), last.count()));
-            assert_eq!(rt; (output.taken(), output.put()), (last.count(), 0));
+            assert_eq!(rt;
+                (s.number(), g.number(), output.number()),
+                (0, 1, 2),
+                "{command}"
+            );
+            assert_eq!(rt; (s.taken(), s.put()), (0, first.count()), "{command}");
+            assert_eq!(rt;
+                (g.taken(), g.put()),
+                (first.count(), last.count()),
+                "{command}"
+            );
+            assert_eq!(rt;
+                (output.taken(), output.put()),
+                (last.count(), 0),
+                "{command}"
+            );
         }
     }
     Ok(())

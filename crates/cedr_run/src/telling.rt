@@ -23,7 +23,7 @@ use cedr_io::Sink;
 use cedr_plan::PlanNode;
 use cedr_serial::has_memory;
 use cedr_threads::{Outcome as Came, SourceFault};
-use op_planned::is_source;
+use op_node::is_source;
 use std::alloc::Global;
 
 /// The source of this number.

@@ -7,6 +7,7 @@ use super::*;
 use cedr_base::OutOfMemory;
 use cedr_io::{Files, MemFiles, MemSink, OpenGate};
 use std::alloc::Global;
+use std::process::Abort;
 use std::sync::{Arc, Wait};
 use std::test::Fail;
 use std::thread::Threads;
@@ -70,26 +71,23 @@ pub(crate) fn ended<R: Threads + Wait + Clock + Copy + Drop + Send + AllocGlobal
 /// A file, the status, the rows and what is reported on standard error.
 type Case = (&'static [u8], u8, &'static str, &'static str);
 
-/// Whether each file is answered so.
-fn are_answered<R: Threads + Wait + Clock + Copy + Drop + Send + AllocGlobal + 'static>(
+/// Each file is answered so.
+fn check_all<R: Abort + Threads + Wait + Clock + Copy + Drop + Send + AllocGlobal + 'static>(
     rt: R,
     cases: &[Case],
-) -> Result<bool, OutOfMemory> {
+) -> Result<(), OutOfMemory> {
     for (bytes, status, rows, told) in cases {
         let (code, out, err) = history(rt, bytes)?;
-        if code != *status
-            || out.as_slice() != rows.as_bytes()
-            || err.as_slice() != told.as_bytes()
-        {
-            return Ok(false);
-        }
+        assert_eq!(rt; code, *status, "{}", bytes.escape_ascii());
+        assert_eq!(rt; out.as_slice(), rows.as_bytes(), "{}", bytes.escape_ascii());
+        assert_eq!(rt; err.as_slice(), told.as_bytes(), "{}", bytes.escape_ascii());
     }
-    Ok(true)
+    Ok(())
 }
 
 #[test]
 fn a_file_gives_its_canonical_history(rt: HostRuntime) -> Result<(), Fail> {
-    let answered = are_answered(
+    check_all(
         rt,
         &[
             (b"", 0, "", ""),
@@ -126,13 +124,12 @@ fn a_file_gives_its_canonical_history(rt: HostRuntime) -> Result<(), Fail> {
             ),
         ],
     )?;
-    assert!(rt; answered);
     Ok(())
 }
 
 #[test]
 fn a_faulty_file_is_told_its_first_fault(rt: HostRuntime) -> Result<(), Fail> {
-    let answered = are_answered(
+    check_all(
         rt,
         &[
             (b"*\n", 3, "", "events e.csv line 1 fault 2\n"),
@@ -185,7 +182,6 @@ fn a_faulty_file_is_told_its_first_fault(rt: HostRuntime) -> Result<(), Fail> {
             ),
         ],
     )?;
-    assert!(rt; answered);
     Ok(())
 }
 
@@ -202,7 +198,11 @@ fn a_file_is_read_the_same_in_pieces_of_any_size(rt: HostRuntime) -> Result<(), 
         let gate = Arc::new(alloc, OpenGate)?;
         let status = run(rt, alloc, &words, &mut files, &mut out, &mut err, &gate).status;
         assert_eq!(rt; status, Status::Done, "piece {piece}");
-        assert_eq!(rt; out.written(), b"1,5,\"a,b\"\n5,inf,c\n".as_slice());
+        assert_eq!(rt;
+            out.written(),
+            b"1,5,\"a,b\"\n5,inf,c\n".as_slice(),
+            "piece {piece}"
+        );
     }
     Ok(())
 }
@@ -247,9 +247,9 @@ fn words_that_match_no_command_are_told_the_usage(rt: HostRuntime) -> Result<(),
         let words = words(alloc, texts)?;
         let gate = Arc::new(alloc, OpenGate)?;
         let status = run(rt, alloc, &words, &mut files, &mut out, &mut err, &gate).status;
-        assert_eq!(rt; status.code(), 1);
-        assert_eq!(rt; err.written(), USAGE.as_bytes());
-        assert_eq!(rt; out.written().len() + files.asked().len(), 0);
+        assert_eq!(rt; status.code(), 1, "{texts:?}");
+        assert_eq!(rt; err.written(), USAGE.as_bytes(), "{texts:?}");
+        assert_eq!(rt; out.written().len() + files.asked().len(), 0, "{texts:?}");
     }
     Ok(())
 }
@@ -272,9 +272,9 @@ fn run_alone_answers_as_run_does(rt: HostRuntime) -> Result<(), Fail> {
         files.add("e.csv", EVENTS)?;
         let (mut out, mut err) = (MemSink::new(alloc), MemSink::new(alloc));
         let words = words(alloc, &["history", file])?;
-        assert!(rt; is_alone(&words));
+        assert!(rt; is_alone(&words), "{file}");
         let ended = run_alone(alloc, &words, &mut files, &mut out, &mut err);
-        assert_eq!(rt; ended, status);
+        assert_eq!(rt; ended, status, "{file}");
     }
     Ok(())
 }
@@ -300,10 +300,14 @@ fn what_the_outside_refuses_is_told(rt: HostRuntime) -> Result<(), Fail> {
         let (mut out, mut err) = (MemSink::new(alloc), MemSink::new(alloc));
         let gate = Arc::new(alloc, OpenGate)?;
         let ended = run(rt, alloc, &words, &mut files, &mut out, &mut err, &gate).status;
-        assert_eq!(rt; ended, status);
-        assert_eq!(rt; err.written(), told.as_bytes());
-        assert_eq!(rt; files.asked().len(), 1);
-        assert_eq!(rt; out.written().is_empty(), status == Status::Read);
+        assert_eq!(rt; ended, status, "find {find}, read {read}");
+        assert_eq!(rt; err.written(), told.as_bytes(), "find {find}, read {read}");
+        assert_eq!(rt; files.asked().len(), 1, "find {find}, read {read}");
+        assert_eq!(rt;
+            out.written().is_empty(),
+            status == Status::Read,
+            "find {find}, read {read}"
+        );
     }
     Ok(())
 }
@@ -322,16 +326,17 @@ fn rows_are_written_in_parts_up_to_a_refused_write(rt: HostRuntime) -> Result<()
             out.fail_write(refused)?;
             let gate = Arc::new(alloc, OpenGate)?;
             let ended = run(rt, alloc, &words, &mut files, &mut out, &mut err, &gate).status;
+            let at = (piece, refused);
             let taken = usize::try_from(refused)?
                 .saturating_sub(1)
                 .saturating_mul(piece);
             if refused == 0 || taken >= rows.len() {
-                assert_eq!(rt; ended, Status::Done);
-                assert_eq!(rt; out.written(), rows.as_slice());
+                assert_eq!(rt; ended, Status::Done, "{at:?}");
+                assert_eq!(rt; out.written(), rows.as_slice(), "{at:?}");
             } else {
-                assert_eq!(rt; ended, Status::Write, "piece {piece}, write {refused}");
-                assert_eq!(rt; out.written(), &rows[..taken]);
-                assert_eq!(rt; err.written(), b"write fault\n".as_slice());
+                assert_eq!(rt; ended, Status::Write, "{at:?}");
+                assert_eq!(rt; out.written(), &rows[..taken], "{at:?}");
+                assert_eq!(rt; err.written(), b"write fault\n".as_slice(), "{at:?}");
             }
         }
     }

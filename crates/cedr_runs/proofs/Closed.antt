@@ -19,8 +19,8 @@ use Rattle.cedr_laws.proofs.Passes.{table_alike}
 use Rattle.cedr_query.specs.Queries.{source_count, input_tables}
 use Rattle.cedr_query.proofs.NodeLemmas.{inputs_are}
 use Rattle.cedr_query.proofs.PlaceLemmas.{sources_behind}
-use Rattle.op_planned.specs.Meanings.{meaning_of, port_levels}
-use Rattle.op_planned.specs.Ready.{is_source}
+use Rattle.op_node.specs.Meanings.{meaning_of, port_levels}
+use Rattle.op_node.specs.Ready.{is_source}
 use Rattle.cedr_runs.specs.Runs.{lists_at, input_lists, IsRun, IsWhole, AllWhole}
 use Rattle.cedr_runs.specs.Without.{all_left_out, listed_at, node_table_without, query_without, forgot_on, forgot_in}
 use Rattle.cedr_runs.proofs.EachNode.{by_nodes}

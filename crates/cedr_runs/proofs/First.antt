@@ -10,10 +10,10 @@ use Rattle.cedr_table.specs.Operators.{Tables, Meaning}
 use Rattle.cedr_laws.specs.Surplus.{table_of}
 use Rattle.cedr_laws.specs.Lists.{Lists}
 use Rattle.cedr_laws.specs.Pass.{holds, held, passed_table, least_begin, front}
-use Rattle.cedr_laws.specs.Lawful.{tables_of, fronts_of, passes_of, all_end, any_broken, any_came, no_lists, Fits, IsLawful}
-use Rattle.cedr_laws.proofs.Giving.{lists_count, lawful_fits, lawful_waits}
-use Rattle.cedr_laws.proofs.Grows.{kept-nil, pass-nil}
-use Rattle.op_planned.specs.MeaningLaws.{MeaningLaws}
+use Rattle.cedr_laws.specs.Lawful.{tables_of, fronts_of, all_end, any_broken, any_came, no_lists, Fits, IsLawful}
+use Rattle.cedr_laws.proofs.Giving.{lists_count, lawful_fits, lawful_waits, passes_none}
+use Rattle.cedr_laws.proofs.Grows.{kept-nil}
+use Rattle.op_node.specs.MeaningLaws.{MeaningLaws}
 
 passed_none : (v : Level) → passed_table v [] ≡ []
 passed_none v = ap (λ (cs : List Change). filter (λ r. not (holds v [] r)) (table_of cs)) (kept-nil v.memory)
@@ -28,10 +28,6 @@ tables_none (v ∷ vs) = let a = passed_none v in let b = tables_none vs in cc
 fronts_none : (vs : List Level) → fronts_of vs (replicate (length vs) []) ≡ replicate (length vs) 0
 fronts_none [] = refl
 fronts_none (v ∷ vs) = let a : front v [] ≡ 0 = ap (least_begin 0) (held_none v) in let b = fronts_none vs in cc
-
-passes_none : (vs : List Level) → passes_of vs (replicate (length vs) []) ≡ replicate (length vs) []
-passes_none [] = refl
-passes_none (v ∷ vs) = let a = pass-nil v in let b = passes_none vs in cc
 
 none_end : (n : ℕ) → 0 < n → all_end (replicate n []) ≡ false
 none_end zero h = absurd (omega arith)

@@ -23,8 +23,8 @@ use Rattle.cedr_laws.proofs.Passes.{table_alike}
 use Rattle.cedr_query.specs.Queries.{source_count, input_tables, input_marks, node_table, node_mark, query, reaches}
 use Rattle.cedr_query.proofs.NodeLemmas.{inputs_are}
 use Rattle.cedr_query.proofs.PlaceLemmas.{sources_behind}
-use Rattle.op_planned.specs.Meanings.{meaning_of, port_levels}
-use Rattle.op_planned.specs.Ready.{is_source}
+use Rattle.op_node.specs.Meanings.{meaning_of, port_levels}
+use Rattle.op_node.specs.Ready.{is_source}
 use Rattle.cedr_runs.specs.Middle.{IsMiddle, IsGoing, AllGoing, AreMiddle, AreMarks}
 use Rattle.cedr_runs.specs.Runs.{input_lists, IsRun}
 use Rattle.cedr_runs.proofs.Closed.{tables_at}

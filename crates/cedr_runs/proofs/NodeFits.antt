@@ -9,12 +9,12 @@ use Rattle.cedr_plan.specs.Rules.{IsNode}
 use Rattle.cedr_laws.specs.Lists.{Lists, list_at}
 use Rattle.cedr_laws.specs.Pass.{has_end}
 use Rattle.cedr_laws.specs.Lawful.{has_broken, any_broken, all_end, Fits}
-use Rattle.op_planned.specs.Meanings.{meaning_of, port_levels}
-use Rattle.op_planned.specs.Ready.{is_source}
-use Rattle.op_planned.specs.ReadyLaws.{node_ready}
+use Rattle.op_node.specs.Meanings.{meaning_of, port_levels}
+use Rattle.op_node.specs.Ready.{is_source}
+use Rattle.op_node.specs.ReadyLaws.{node_ready}
 use Rattle.cedr_runs.specs.Runs.{lists_at, input_lists, IsRun}
-use Rattle.op_planned.specs.MeaningLaws.{MeaningLaws}
-use Rattle.op_planned.proofs.ReadyMeanings.{ready_meaning}
+use Rattle.op_node.specs.MeaningLaws.{MeaningLaws}
+use Rattle.op_node.proofs.ReadyMeanings.{ready_meaning}
 use Rattle.cedr_runs.proofs.First.{lawful_fits_always}
 
 -- where the first n lists aren't broken, none of those that a node reads of them is

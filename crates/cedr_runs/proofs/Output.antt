@@ -19,10 +19,10 @@ use Rattle.cedr_laws.specs.Lawful.{tables_of}
 use Rattle.cedr_laws.proofs.Passes.{table_alike}
 use Rattle.cedr_query.specs.Queries.{source_count, each_node, node_table, node_mark, query, reaches}
 use Rattle.cedr_query.proofs.NodeLemmas.{inputs_are}
-use Rattle.op_planned.specs.Meanings.{node_meaning, meaning_of, port_levels}
-use Rattle.op_planned.specs.Outputs.{handed_on}
-use Rattle.op_planned.specs.Ready.{is_source, IsReady}
-use Rattle.op_planned.specs.ReadyLaws.{node_ready}
+use Rattle.op_node.specs.Meanings.{node_meaning, meaning_of, port_levels}
+use Rattle.op_node.specs.Outputs.{handed_on}
+use Rattle.op_node.specs.Ready.{is_source, IsReady}
+use Rattle.op_node.specs.ReadyLaws.{node_ready}
 use Rattle.cedr_runs.specs.Middle.{IsGoing, AllGoing, AreMiddle, AreMarks}
 use Rattle.cedr_runs.specs.Runs.{input_lists, IsRun}
 use Rattle.cedr_runs.proofs.EachNode.{get_or-last}
@@ -62,7 +62,8 @@ module _ {X : Type 0} (make : List PlanNode → List X → PlanNode → X) (d : 
       ap (λ (ns : List PlanNode). get_or (each_node make [] [] ns) k d) whole
       ∙ (ap (λ (xs : List X). get_or xs k d) (each_append [] [] before (n ∷ after)) ∙ each_keeps before (each_node make [] [] before) (n ∷ after) k (omega (arith, within, each_length [] [] before)))
 
-one_input : (xs : List ℕ) → length xs ≡ 1 → (i : ℕ) × (xs ≡ i ∷ [])
+-- a list of one place is that place
+pub one_input : (xs : List ℕ) → length xs ≡ 1 → (i : ℕ) × (xs ≡ i ∷ [])
 one_input [] h = absurd (omega arith)
 one_input (x ∷ []) h = (x, refl)
 one_input (x ∷ (y ∷ xs)) h = absurd (omega arith)

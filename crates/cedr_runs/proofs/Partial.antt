@@ -6,7 +6,7 @@ use Rattle.cedr_base.specs.declared.change.Message.{Message}
 use Rattle.cedr_plan.specs.declared.plan.PlanNode.{PlanNode}
 use Rattle.cedr_laws.specs.Lists.{Lists, list_at}
 use Rattle.cedr_query.specs.Queries.{source_count}
-use Rattle.op_planned.specs.Ready.{is_source}
+use Rattle.op_node.specs.Ready.{is_source}
 use Rattle.cedr_runs.specs.Runs.{lists_at, ArePrefixes, IsRun, IsPartialRun, sources_in}
 
 -- each list is the first messages of itself

@@ -19,12 +19,7 @@ use Rattle.cedr_laws.proofs.Parts.{all_put, all_taken, kept_sound}
 use Rattle.cedr_laws.proofs.Parts as parts
 use Rattle.cedr_runs.specs.Middle.{IsMiddle}
 use Rattle.cedr_runs.specs.Without.{left_out}
-
--- the tables of one list are the same bag
-pub one_table : (ms : List Message) (xs ys : List Row) → IsTableOf ms xs → IsTableOf ms ys → SameRows xs ys
-one_table ms xs ys h k = record {
-  each = λ r. omega (arith, h.sums.each r, k.sums.each r, count_of-append r xs (all_takes (changes_of ms)), count_of-append r ys (all_takes (changes_of ms)));
-}
+use Rattle.cedr_laws.proofs.Passes.{one_table}
 
 -- the kept table is the whole one less what was forgotten
 pub kept_left : (level : Level) (ms : List Message) (rows : List Row) → IsLegal ms → IsTableOf ms rows → SameRows (kept_table level.memory ms) (left_out rows (forgot level.memory ms))

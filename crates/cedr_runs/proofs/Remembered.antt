@@ -13,8 +13,8 @@ use Rattle.cedr_laws.specs.Kept.{forgot}
 use Rattle.cedr_laws.specs.Lists.{Lists, list_at}
 use Rattle.cedr_query.specs.Queries.{source_count, input_tables, each_node, node_table, query}
 use Rattle.cedr_query.proofs.NodeLemmas.{inputs_are}
-use Rattle.op_planned.specs.Meanings.{meaning_of}
-use Rattle.op_planned.specs.Ready.{is_source}
+use Rattle.op_node.specs.Meanings.{meaning_of}
+use Rattle.op_node.specs.Ready.{is_source}
 use Rattle.cedr_runs.specs.Runs.{lists_at, input_lists}
 use Rattle.cedr_runs.specs.Without.{all_left_out, listed_at, node_table_without, query_without, forgot_on, forgot_in, Remembers}
 use Rattle.cedr_runs.proofs.Closed.{listed_is}

@@ -7,8 +7,8 @@ use Rattle.cedr_laws.specs.Lists.{Lists, list_at}
 use Rattle.cedr_laws.specs.Pass.{has_end}
 use Rattle.cedr_laws.specs.Lawful.{has_broken, IsLawful}
 use Rattle.cedr_query.specs.Queries.{source_count}
-use Rattle.op_planned.specs.Meanings.{meaning_of, port_levels}
-use Rattle.op_planned.specs.Ready.{is_source}
+use Rattle.op_node.specs.Meanings.{meaning_of, port_levels}
+use Rattle.op_node.specs.Ready.{is_source}
 
 -- the lists on the ports of the node at a place
 abbrev pub lists_at : List Lists → ℕ → Lists

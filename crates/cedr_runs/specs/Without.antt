@@ -9,8 +9,8 @@ use Rattle.cedr_laws.specs.Surplus.{less}
 use Rattle.cedr_laws.specs.Lists.{Lists}
 use Rattle.cedr_laws.specs.Kept.{forgot, changes_in}
 use Rattle.cedr_query.specs.Queries.{source_count, input_tables, each_node}
-use Rattle.op_planned.specs.Meanings.{meaning_of}
-use Rattle.op_planned.specs.Ready.{is_source}
+use Rattle.op_node.specs.Meanings.{meaning_of}
+use Rattle.op_node.specs.Ready.{is_source}
 
 -- a table less the deltas of the changes that were forgotten
 abbrev pub left_out : List Row → List Forgotten → List Row

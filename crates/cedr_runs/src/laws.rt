@@ -12,7 +12,7 @@ ghost use Rattle.cedr_base.specs.declared.level.Level.{Level};
 ghost use Rattle.cedr_base.specs.declared.row.Row.{Row};
 ghost use Rattle.cedr_base.specs.Rows.{SameRows};
 ghost use Rattle.cedr_laws.specs.Pass.{passed_table};
-ghost use Rattle.op_planned.specs.Ready.{is_source};
+ghost use Rattle.op_node.specs.Ready.{is_source};
 ghost use Rattle.cedr_runs.specs.Middle.{IsGoing, AllGoing, AreMiddle, AreMarks};
 ghost use Rattle.cedr_table.specs.Operators.{Tables, table_at, mark_at};
 ghost use Rattle.cedr_runs.specs.Runs.{IsRun, IsPartialRun, AllWhole, sources_in};

@@ -22,7 +22,7 @@ use Rattle.cedr_runs.specs.Runs.{IsWhole, AllWhole, sources_in}
 use Rattle.cedr_stream.proofs.Legal.{may_come_in}
 use Rattle.cedr_table.specs.Operators.{Tables}
 use Rattle.cedr_text.specs.declared.event_line.Shape.{Shape}
-use Rattle.op_planned.specs.Ready.{is_source}
+use Rattle.op_node.specs.Ready.{is_source}
 use Rattle.cedr_serial.specs.Queries.{source_nodes, AreAccepted}
 use Rattle.cedr_serial.specs.Sources.{HasGiven, AllHaveGiven, file_of, faulty_from}
 

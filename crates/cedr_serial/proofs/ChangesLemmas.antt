@@ -32,10 +32,11 @@ use Rattle.cedr_runs.specs.Runs.{lists_at, IsRun, AllWhole}
 use Rattle.cedr_runs.proofs.Closed.{closed_whole, closed_table}
 use Rattle.cedr_runs.proofs.PlanNodes.{node_stands}
 use Rattle.cedr_table.specs.Operators.{Tables}
-use Rattle.op_planned.specs.Meanings.{node_meaning, meaning_of, port_levels}
-use Rattle.op_planned.specs.Ready.{is_source, IsReady}
-use Rattle.op_planned.specs.ReadyLaws.{node_ready}
+use Rattle.op_node.specs.Meanings.{node_meaning, meaning_of, port_levels}
+use Rattle.op_node.specs.Ready.{is_source, IsReady}
+use Rattle.op_node.specs.ReadyLaws.{node_ready}
 use Rattle.cedr_serial.specs.Queries.{rows_without, LeadsTo}
+use Rattle.cedr_runs.proofs.Output.{one_input}
 
 -- ---- changes that take nothing back
 
@@ -67,11 +68,6 @@ additions_in_order ms rows table none ascend =
 
 -- ---- the output
 
-one_of : (xs : List ℕ) → length xs ≡ 1 → (i : ℕ) × (xs ≡ i ∷ [])
-one_of [] h = absurd (omega arith)
-one_of (x ∷ []) h = (x, refl)
-one_of (x ∷ (y ∷ xs)) h = absurd (omega arith)
-
 first_is : (a b : List Message) → a ∷ [] ≡ b ∷ [] → a ≡ b
 first_is a b e = ap (λ (ls : Lists). list_at ls 0) e
 
@@ -90,7 +86,7 @@ module _ (no_cut : (level : Level) (ms : List Message) → level.block ≡ None 
   isnt = ap is_source out
 
   input : (i : ℕ) × (at.node.inputs.items ≡ i ∷ [])
-  input = one_of at.node.inputs.items (subst (λ (k : NodeKind). IsReady k (length at.node.inputs.items)) out (node_ready (map node_of at.before) at.node (node_stands nodes at.before at.after at.node is.nodes at.whole) isnt))
+  input = one_input at.node.inputs.items (subst (λ (k : NodeKind). IsReady k (length at.node.inputs.items)) out (node_ready (map node_of at.before) at.node (node_stands nodes at.before at.after at.node is.nodes at.whole) isnt))
 
   echoes : (meaning_of at.node).echoes ≡ true
   echoes = ap (λ (k : NodeKind). (node_meaning k (length at.node.inputs.items)).echoes) out

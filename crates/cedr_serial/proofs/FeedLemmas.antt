@@ -2,7 +2,7 @@
 use Rattle.std.specs.Prelude.{◌||◌, map}
 use Rattle.std.proofs.lemmas.Bool.{cases_lt}
 use Rattle.std.proofs.Common.{◌≡◌, ◌≢◌, ◌⊎◌, ◌≤◌, ◌+◌, ℕ, zero, suc, ◌<◌, inl, inr, Bool, true, false, refl, List, [], ◌∷◌, ◌++◌, length, set, get_or, ap, sym, ◌∙◌, subst, arith, append_assoc, get_or-set_other}
-use Rattle.std.proofs.lemmas.List.{length-set, length-append, set-get_or, append-nil}
+use Rattle.std.proofs.lemmas.List.{length-set, length-append, set-get_or}
 use Rattle.cedr_base.specs.declared.change.Message.{Message}
 use Rattle.cedr_base.specs.Messages.{IsLegal, MayCome}
 use Rattle.cedr_laws.specs.Lists.{Lists, list_at, with_more}
@@ -10,12 +10,12 @@ use Rattle.cedr_plan.specs.declared.plan.PlanNode.{PlanNode}
 use Rattle.cedr_net.specs.Flows.{IsSourceAt}
 use Rattle.cedr_net.specs.declared.net.SerialNet.{SerialNet}
 use Rattle.cedr_net.specs.Networks.{AllGrow, IsSettled}
-use Rattle.cedr_net.proofs.ListLemmas.{at_more, at_more_other}
-use Rattle.cedr_net.proofs.FlowLemmas.{same_or_not}
+use Rattle.cedr_laws.proofs.ListLemmas.{at_more_other, at_more}
+use Rattle.cedr_net.proofs.FlowLemmas.{same_or_not, beyond}
 use Rattle.cedr_net.proofs.SettleLemmas.{fewer, grow_along}
 use Rattle.cedr_net.proofs.FedLemmas.{source_here}
 use Rattle.cedr_stream.proofs.Legal.{may_come_in}
-use Rattle.op_planned.specs.Ready.{is_source}
+use Rattle.op_node.specs.Ready.{is_source}
 use Rattle.cedr_serial.specs.Feeding.{AreFed, FeedsOn, behind_first, left_count}
 
 -- the next message of a source
@@ -64,13 +64,6 @@ module _ (nodes : List PlanNode) (given left left' whole : Lists) (place : ℕ) 
   pub fewer_left : left_count left' < left_count left
   fewer_left = omega (arith, ap left_count rest, fewer left place m (list_at left' place) front)
 
--- lists with more messages go on
-pub grow_more : (given : Lists) (place : ℕ) (ms : List Message) → place < length given → AllGrow given (with_more given place ms)
-grow_more given place ms within = record { grows = λ k. at k (same_or_not k place) } where
-  at : (k : ℕ) → (k ≡ place) ⊎ (k ≢ place) → (more : List Message) × (list_at (with_more given place ms) k ≡ list_at given k ++ more)
-  at k (inl e) = (ms, ap (list_at (with_more given place ms)) e ∙ (at_more given place ms within ∙ ap (λ (j : ℕ). list_at given j ++ ms) (sym e)))
-  at k (inr ne) = ([], at_more_other given place k ms ne ∙ sym (append-nil (list_at given k)))
-
 -- a network that went on without its sources
 pub fed_settled : (nodes : List PlanNode) (given given' left whole : Lists) → AreFed nodes given left whole → ((k : ℕ) → IsSourceAt nodes k → list_at given' k ≡ list_at given k) → AreFed nodes given' left whole
 fed_settled nodes given given' left whole h same = record {
@@ -113,12 +106,8 @@ none_either false false first old new place still none e =
 pub none_left : (ls : Lists) (count k : ℕ) → length ls ≤ count → ((j : ℕ) → j < count → list_at ls j ≡ []) → list_at ls k ≡ []
 none_left ls count k wide none = elim (cases_lt k count) [
   | inl h ↦ none k h
-  | inr h ↦ behind ls k (omega arith)
-] where
-  behind : (ms : Lists) (j : ℕ) → length ms ≤ j → list_at ms j ≡ []
-  behind [] j h = refl
-  behind (m ∷ ms) zero h = absurd (omega arith)
-  behind (m ∷ ms) (suc j) h = behind ms j (omega arith)
+  | inr h ↦ beyond ls k (omega arith)
+]
 
 -- ---- a round, source by source
 

@@ -7,7 +7,7 @@ use Rattle.cedr_plan.specs.declared.plan.PlanNode.{PlanNode}
 use Rattle.cedr_net.proofs.EdgeLemmas.{any_default}
 use Rattle.cedr_net.proofs.FedLemmas.{source_here}
 use Rattle.cedr_runs.specs.Runs.{sources_in, IsRun}
-use Rattle.op_planned.specs.Ready.{is_source}
+use Rattle.op_node.specs.Ready.{is_source}
 use Rattle.cedr_net.specs.declared.net.SerialNet.{SerialNet}
 use Rattle.cedr_net.specs.Flows.{reads_of}
 use Rattle.cedr_net.specs.Networks.{NetStands}

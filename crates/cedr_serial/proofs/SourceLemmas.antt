@@ -14,21 +14,18 @@ use Rattle.cedr_serial.proofs.FeedLemmas.{SourcesUpTo, sources_push}
 use Rattle.cedr_guard.specs.declared.refusal.Refusal.{Refusal}
 use Rattle.cedr_laws.specs.Lists.{Lists}
 use Rattle.cedr_plan.specs.declared.plan.PlanNode.{PlanNode}
-use Rattle.op_planned.specs.Ready.{is_source}
+use Rattle.op_node.specs.Ready.{is_source}
 use Rattle.cedr_serial.specs.declared.sources.FaultySource.{FaultySource}
 use Rattle.cedr_serial.specs.declared.sources.ReadSoFar.{ReadSoFar}
 use Rattle.cedr_serial.specs.Sources.{AsksFirst, AsksSource, HasTypes, AnswersFile, AreTold, HasGiven, AllHaveGiven, AreRead, IsNothing, Notes, file_of, files_of, source_files, fault_here, faulty_from}
-
-take_whole : {X : Type 0} (xs : List X) → take (length xs) xs ≡ xs
-take_whole [] = refl
-take_whole (x ∷ xs) = ap (λ ys. x ∷ ys) (take_whole xs)
+use Rattle.std.proofs.Math.Seq.{take-length}
 
 -- all names were asked for
 pub asked_all : (result : Result (Vec Message Global) SourceFault) (old new names : List (List ℕ)) → new ≡ old ++ names → AsksSource result old new names
 asked_all (Ok messages) old new names e = e
 asked_all (Err (source_fault.Refused refusal)) old new names e = e
 asked_all (Err source_fault.Failed) old new names e = e
-asked_all (Err source_fault.OutOfMemory) old new names e = record { count = length names; added = e ∙ ap (λ (ns : List (List ℕ)). old ++ ns) (sym (take_whole names)) }
+asked_all (Err source_fault.OutOfMemory) old new names e = record { count = length names; added = e ∙ ap (λ (ns : List (List ℕ)). old ++ ns) (sym (take-length names)) }
 
 -- a source's answer is that for the types of its shape
 pub file_answer : (result : Result (Vec Message Global) SourceFault) (shape : Shape) (types : List FieldType) (all : List ℕ) → HasTypes shape types → AnswersAll result shape all → AnswersFile result types all
@@ -158,9 +155,9 @@ files_more nodes place n within here =
     ∙ (files_append (take place nodes) (n ∷ []) ∙ ap (λ (ns : List (List ℕ)). source_files (take place nodes) ++ ns) (append-nil (files_of n)))
 
 asks_front : (read : Result (Vec Message Global) SourceFault) (before after names : List (List ℕ)) → AsksSource read before after names → AsksFirst before after names
-asks_front (Ok messages) before after names e = record { count = length names; added = e ∙ ap (λ (ns : List (List ℕ)). before ++ ns) (sym (take_whole names)) }
-asks_front (Err (source_fault.Refused refusal)) before after names e = record { count = length names; added = e ∙ ap (λ (ns : List (List ℕ)). before ++ ns) (sym (take_whole names)) }
-asks_front (Err source_fault.Failed) before after names e = record { count = length names; added = e ∙ ap (λ (ns : List (List ℕ)). before ++ ns) (sym (take_whole names)) }
+asks_front (Ok messages) before after names e = record { count = length names; added = e ∙ ap (λ (ns : List (List ℕ)). before ++ ns) (sym (take-length names)) }
+asks_front (Err (source_fault.Refused refusal)) before after names e = record { count = length names; added = e ∙ ap (λ (ns : List (List ℕ)). before ++ ns) (sym (take-length names)) }
+asks_front (Err source_fault.Failed) before after names e = record { count = length names; added = e ∙ ap (λ (ns : List (List ℕ)). before ++ ns) (sym (take-length names)) }
 asks_front (Err source_fault.OutOfMemory) before after names e = e
 
 take_again : {X : Type 0} (k : ℕ) (ys zs : List X) → take (length (take k ys)) (ys ++ zs) ≡ take k ys
@@ -194,6 +191,6 @@ pub asked_whole : (first after : List (List ℕ)) (nodes : List PlanNode) (place
 asked_whole first after nodes place end asked = record {
   count = length (source_files nodes);
   added = asked
-      ∙ (ap (λ (ns : List PlanNode). first ++ source_files ns) (ap (λ (k : ℕ). take k nodes) end ∙ take_whole nodes)
-      ∙ ap (λ (ns : List (List ℕ)). first ++ ns) (sym (take_whole (source_files nodes))));
+      ∙ (ap (λ (ns : List PlanNode). first ++ source_files ns) (ap (λ (k : ℕ). take k nodes) end ∙ take-length nodes)
+      ∙ ap (λ (ns : List (List ℕ)). first ++ ns) (sym (take-length (source_files nodes))));
 }

@@ -11,6 +11,7 @@ use Rattle.cedr_runs.proofs.Closed.{listed_is}
 use Rattle.cedr_base.specs.declared.row.Row.{Row}
 use Rattle.cedr_text.specs.Texts.{rows_text}
 use Rattle.cedr_serial.specs.Answers.{forgotten_line, port_text, ports_text, nodes_text, tail_text, answer_text}
+use Rattle.std.proofs.Math.Seq.{take-append_seam}
 
 -- the lines of a port that forgot one change more
 pub port_more : (name : List ℕ) (port : ℕ) (fs : List Forgotten) (f : Forgotten) → port_text name port (fs ++ f ∷ []) ≡ port_text name port fs ++ forgotten_line name port f
@@ -41,11 +42,6 @@ nodes_more (b ∷ before) n [] within = absurd (omega arith)
 nodes_more (b ∷ before) n (ports ∷ listed) within =
     ap (λ (t : List ℕ). ports_text b.name 0 ports ++ t) (nodes_more before n listed (omega arith)) ∙ sym (append_assoc (ports_text b.name 0 ports) (nodes_text before listed) (ports_text n.name 0 (get_or listed (length before) [])))
 
--- of two lists one after the other, the first elements, as many as the first list has, are the first list
-pub take_before : {X : Type 0} (before after : List X) → take (length before) (before ++ after) ≡ before
-take_before [] after = refl
-take_before (b ∷ before) after = ap (λ xs. b ∷ xs) (take_before before after)
-
 -- there is a list of what its ports forgot for each node
 pub forgot_length : (nodes : List PlanNode) (ports : List Lists) → length (forgot_in nodes ports) ≡ length nodes
 forgot_length [] ports = refl
@@ -68,10 +64,10 @@ node_more n lists port within =
 pub place_more : (nodes : List PlanNode) (ports : List Lists) (before after : List PlanNode) (n : PlanNode) → nodes ≡ before ++ n ∷ after
     → nodes_text (take (length before + 1) nodes) (forgot_in nodes ports) ≡ nodes_text (take (length before) nodes) (forgot_in nodes ports) ++ ports_text n.name 0 (forgot_on n (lists_at ports (length before)))
 place_more nodes ports before after n whole =
-    let front : take (length before) nodes ≡ before = ap (λ (ns : List PlanNode). take (length before) ns) whole ∙ take_before before (n ∷ after) in
+    let front : take (length before) nodes ≡ before = ap (λ (ns : List PlanNode). take (length before) ns) whole ∙ take-append_seam before (n ∷ after) in
     let wide : length (before ++ n ∷ []) ≡ length before + 1 = omega (arith, length-append before (n ∷ [])) in
     let next : take (length before + 1) nodes ≡ before ++ n ∷ [] =
-    ap (λ (k : ℕ). take k nodes) (sym wide) ∙ (ap (λ (ns : List PlanNode). take (length (before ++ n ∷ [])) ns) (whole ∙ sym (append_assoc before (n ∷ []) after)) ∙ take_before (before ++ n ∷ []) after) in
+    ap (λ (k : ℕ). take k nodes) (sym wide) ∙ (ap (λ (ns : List PlanNode). take (length (before ++ n ∷ [])) ns) (whole ∙ sym (append_assoc before (n ∷ []) after)) ∙ take-append_seam (before ++ n ∷ []) after) in
     let inside : length before < length (forgot_in nodes ports) = omega (arith, forgot_length nodes ports, ap (λ (ns : List PlanNode). length ns) whole, length-append before (n ∷ after)) in
     ap (λ (ns : List PlanNode). nodes_text ns (forgot_in nodes ports)) next
     ∙ (nodes_more before n (forgot_in nodes ports) inside

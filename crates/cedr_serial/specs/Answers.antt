@@ -6,7 +6,7 @@ use Rattle.cedr_laws.specs.declared.forgotten.Cause.{Cause}
 use Rattle.cedr_laws.specs.declared.forgotten.Cause.TheVariants as cause
 use Rattle.cedr_laws.specs.declared.forgotten.Forgotten.{Forgotten}
 use Rattle.cedr_plan.specs.declared.plan.PlanNode.{PlanNode}
-use Rattle.cedr_text.specs.Parts.{line_feed}
+use Rattle.cedr_base.specs.Bytes.{line_feed}
 use Rattle.cedr_text.specs.Texts.{rows_text, forgotten_text}
 
 -- the word for a cause

@@ -16,7 +16,7 @@ use Rattle.cedr_runs.specs.Without.{query_without, forgot_in}
 use Rattle.cedr_table.specs.Operators.{Tables, table_at}
 use Rattle.cedr_text.specs.declared.event_line.Shape.{Shape}
 use Rattle.cedr_text.specs.Texts.{change_text}
-use Rattle.op_planned.specs.Ready.{is_source}
+use Rattle.op_node.specs.Ready.{is_source}
 use Rattle.cedr_serial.specs.Answers.{has_memory, tail_text, answer_text}
 use Rattle.cedr_serial.specs.Sources.{file_of, HasTypes}
 

@@ -14,7 +14,7 @@ use Rattle.cedr_source.specs.declared.fault.SourceFault.{SourceFault}
 use Rattle.cedr_source.specs.declared.fault.SourceFault.TheVariants as source_fault
 use Rattle.cedr_text.specs.declared.event_line.Shape.{Shape}
 use Rattle.cedr_text.specs.declared.event_line.Shape.TheVariants.{AnyText, Fields}
-use Rattle.op_planned.specs.Ready.{is_source}
+use Rattle.op_node.specs.Ready.{is_source}
 use Rattle.cedr_serial.specs.declared.feeding.Remaining.{Remaining}
 use Rattle.cedr_serial.specs.declared.sources.FaultySource.{FaultySource}
 use Rattle.cedr_serial.specs.declared.sources.ReadSoFar.{ReadSoFar}
@@ -26,19 +26,7 @@ use Rattle.cedr_serial.specs.declared.sources.SourcesFault.TheVariants as source
 -- the file that a source reads
 abbrev pub file_of : NodeKind → List ℕ
 file_of (kind.Source file) = file
-file_of (kind.Select tests) = []
-file_of (kind.Project keep) = []
-file_of kind.Union = []
-file_of (kind.Join tests) = []
-file_of (kind.Window width) = []
-file_of (kind.Shift by) = []
-file_of (kind.Hop every width) = []
-file_of kind.Starts = []
-file_of kind.Ends = []
-file_of (kind.Group keys count sums) = []
-file_of (kind.Sequence scope tests) = []
-file_of (kind.Unless scope hold tests) = []
-file_of kind.Output = []
+file_of other = []
 
 -- the files of a node: a source has one
 abbrev pub files_of : PlanNode → List (List ℕ)

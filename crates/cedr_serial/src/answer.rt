@@ -52,8 +52,9 @@ fn write_one(
     Ok(())
 }
 
-/// The lines of what a port forgot.
-fn write_port(
+/// Appends a line for each change that a port of the node of this name forgot. Where memory runs out some of them may stand
+/// there.
+pub fn write_port(
     name: &Text,
     port: usize,
     forgotten: &[Forgotten],

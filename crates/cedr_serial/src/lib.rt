@@ -12,7 +12,7 @@ mod law;
 mod query;
 mod sources;
 
-pub use answer::{has_memory, write_answer};
+pub use answer::{has_memory, write_answer, write_port};
 pub use feeding::{Remaining, feed_all, feed_round};
 pub use law::{accepted_sources, fed_sources, streamed_changes};
 pub use query::{answer_rows, answer_sources};

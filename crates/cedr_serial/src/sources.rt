@@ -2,7 +2,7 @@ ghost use Rattle.std.specs.Prelude.{ℕ, ◌≡◌, ◌<◌, ◌++◌, ◌∷◌
 ghost use Rattle.cedr_base.specs.Messages.{IsLegal};
 ghost use Rattle.cedr_io.specs.Counts.{last_count};
 ghost use Rattle.cedr_source.specs.Whole.{CountsSource};
-ghost use Rattle.op_planned.specs.Ready.{is_source};
+ghost use Rattle.op_node.specs.Ready.{is_source};
 ghost use Rattle.cedr_serial.specs.declared.sources.SourcesFault.TheVariants.{OutOfMemory as NoMemory};
 ghost use Rattle.cedr_serial.specs.Feeding.{AreSources};
 ghost use Rattle.cedr_serial.specs.Sources.{AsksFirst, AsksSource, AreTold, HasTypes, AnswersFile, AnswersSources, CountsSources, IsNothing, Notes, PassesOn, file_of, files_of, source_files};

@@ -91,7 +91,7 @@ fn equal_rows_are_joined_each(rt: HostRuntime) -> Result<(), Fail> {
     files.add("l.csv", b"+,1,1,10,a\n+,2,1,10,a\n")?;
     files.add("r.csv", b"+,1,5,20,b\n")?;
     let written = answer(alloc, JOIN, &mut files)?;
-    assert!(rt; written.as_slice() == b"5,10,a,b\n5,10,a,b\n".as_slice());
+    assert_eq!(rt; written.as_slice(), b"5,10,a,b\n5,10,a,b\n".as_slice());
     let [first, second] = files.asked() else {
         return Err("two files are asked for")?;
     };
@@ -105,7 +105,7 @@ fn what_was_forgotten_follows_the_rows(rt: HostRuntime) -> Result<(), Fail> {
     files.add("s.csv", b"+,1,1,2,a\n+,2,20,30,b\n+,3,10,40,c\n-,3,25\n")?;
     let written = answer(rt.alloc(), WEAK, &mut files)?;
     let wanted = b"1,2,a\n20,30,b\n--\nout,0,late,20,+,10,40,c\nout,0,orphan,20,-,25,10,40,c\n";
-    assert!(rt; written.as_slice() == wanted.as_slice());
+    assert_eq!(rt; written.as_slice(), wanted.as_slice());
     Ok(())
 }
 
@@ -116,7 +116,7 @@ fn a_restart_in_time_is_no_failure(rt: HostRuntime) -> Result<(), Fail> {
     files.add("shutdown.csv", b"+,1,5000,inf,m1\n+,2,6000,inf,m2\n")?;
     files.add("restart.csv", b"+,1,5100,inf,m1\n")?;
     let written = answer(rt.alloc(), FAILED_INSTALLS, &mut files)?;
-    assert!(rt; written.as_slice() == b"6300,6301,m2,m2\n".as_slice());
+    assert_eq!(rt; written.as_slice(), b"6300,6301,m2,m2\n".as_slice());
     Ok(())
 }
 
@@ -165,7 +165,7 @@ fn what_was_forgotten_is_told_where_it_is_asked_for(rt: HostRuntime) -> Result<(
         let plan = plan(alloc, MIDDLE)?;
         let left = read(alloc, plan.nodes.as_slice(), &mut files)?;
         let text = answer_sources(alloc, &plan, always, left)?;
-        assert!(rt; text.as_slice() == wanted);
+        assert_eq!(rt; text.as_slice(), wanted, "always {always}");
     }
     Ok(())
 }

@@ -8,7 +8,8 @@ use Rattle.cedr_base.specs.declared.memory.OutOfMemory.{OutOfMemory}
 use Rattle.cedr_base.specs.declared.change.Message.{Message}
 use Rattle.cedr_base.specs.declared.change.Message.TheVariants as message
 use Rattle.cedr_base.specs.Messages.{IsLegal}
-use Rattle.cedr_text.specs.Parts.{line_feed, parts_of}
+use Rattle.cedr_base.specs.Bytes.{line_feed}
+use Rattle.cedr_text.specs.Parts.{parts_of}
 use Rattle.cedr_text.specs.Lines.{Fed, raw_lines, without_return, has_line_feed, NextIs, GivesLine, IsTooLong, GivesNone}
 use Rattle.cedr_text.specs.declared.lines.LineStep.TheVariants as lines
 use Rattle.cedr_text.specs.Reading.{reading}

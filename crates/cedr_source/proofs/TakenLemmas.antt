@@ -6,7 +6,8 @@ use Rattle.std.proofs.lemmas.Bool.{ltb-true, ltb-false, lt-ltb, le-ltb, false≢
 use Rattle.std.proofs.lemmas.List.{length-append, take_all}
 use Rattle.std.proofs.lemmas.List.Splits.{length-slice_split}
 use Rattle.std.proofs.lemmas.List.Sums.{count_by-le-length}
-use Rattle.cedr_text.specs.Parts.{line_feed, parts_of}
+use Rattle.cedr_base.specs.Bytes.{line_feed}
+use Rattle.cedr_text.specs.Parts.{parts_of}
 use Rattle.cedr_text.specs.Lines.{Fed, without_empty_end, raw_lines, has_line_feed, without_return}
 use Rattle.cedr_text.specs.Reading.{reading}
 use Rattle.cedr_text.specs.declared.lines.TheConstants.{LINE_LIMIT}
@@ -20,19 +21,9 @@ use Rattle.cedr_guard.specs.Judging.{fault_behind}
 use Rattle.cedr_guard.specs.Messages.{message_of, messages_behind}
 use Rattle.cedr_guard.specs.Sources.{with_event, with_reading, line_reading, Judged, go_on, judged_behind, judged_lines, judged_front, whole_lines, unfinished_line, first_fault, limit_fault, judged}
 use Rattle.cedr_source.specs.Reads.{MayStillCome, AreTaken}
+use Rattle.cedr_text.proofs.LineLemmas.{end_dropped, kept_front}
 
 -- ---- the parts between line feeds are the lines of the bytes with a line feed more
-
--- a part that isn't the last one stays
-end_kept : (part next : List ℕ) (parts : List (List ℕ)) → without_empty_end (part ∷ next ∷ parts) ≡ part ∷ without_empty_end (next ∷ parts)
-end_kept [] next parts = refl
-end_kept (b ∷ bs) next parts = refl
-
--- without the empty end that a line feed leaves
-end_dropped : (parts : List (List ℕ)) → without_empty_end (parts ++ [] ∷ []) ≡ parts
-end_dropped [] = refl
-end_dropped (part ∷ []) = end_kept part [] []
-end_dropped (part ∷ next ∷ parts) = end_kept part next (parts ++ [] ∷ []) ∙ ap (λ rest. part ∷ rest) (end_dropped (next ∷ parts))
 
 -- a byte in front of parts leaves some part
 onto_some : (b : ℕ) (parts : List (List ℕ)) → onto_first b parts ≢ []
@@ -305,7 +296,7 @@ without_fewer : (parts : List (List ℕ)) → length (without_empty_end parts) �
 without_fewer [] = omega arith
 without_fewer ([] ∷ []) = omega arith
 without_fewer ((b ∷ bs) ∷ []) = omega arith
-without_fewer (part ∷ next ∷ parts) = omega (arith, without_fewer (next ∷ parts), ap length (end_kept part next parts))
+without_fewer (part ∷ next ∷ parts) = omega (arith, without_fewer (next ∷ parts), ap length (kept_front part next parts))
 
 -- at most one more than there are bytes
 pub few_lines : (bytes : List ℕ) → length (raw_lines bytes) ≤ length bytes + 1

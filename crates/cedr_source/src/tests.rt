@@ -82,7 +82,12 @@ fn a_source_gives_the_same_messages_in_any_pieces(rt: HostRuntime) -> Result<(),
     }
     for empty in [b"".as_slice(), b"\n\r\n", b"=,0\n=,0"] {
         let text = read_text(alloc, Shape::AnyText, empty)?;
-        assert_eq!(rt; text.as_slice(), b".\n".as_slice());
+        assert_eq!(rt;
+            text.as_slice(),
+            b".\n".as_slice(),
+            "{}",
+            empty.escape_ascii()
+        );
     }
     Ok(())
 }

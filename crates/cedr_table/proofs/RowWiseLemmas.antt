@@ -15,27 +15,27 @@ use Rattle.cedr_stream.specs.Repairs.{IsMoved, Repair}
 use Rattle.cedr_stream.proofs.BagSums.{sum_by-flat_map, count_of-itself}
 use Rattle.cedr_stream.proofs.Moves.{remnant_some, remnant_none, one_of_two, may_is, sum_by-moved, sum_by-there}
 use Rattle.cedr_stream.proofs.RepairLemmas.{Turns, repair_by_turns}
-use Rattle.cedr_table.specs.declared.life.Life.{Life}
+use Rattle.cedr_base.specs.declared.interval.Interval.{Interval}
 use Rattle.cedr_table.specs.Operators.{Tables, table_at, mark_at, with_table, CanTake, Gains}
 use Rattle.cedr_table.specs.PortLaws.{table_at-with}
-use Rattle.cedr_table.specs.RowWise.{IsLife, lives, row_of, made, replaced, emptied, Shortens, MayBecome, answer_to}
+use Rattle.cedr_table.specs.RowWise.{IsLife, lives, row_during, made, replaced, emptied, Shortens, MayBecome, answer_to}
 
 -- what a change of the result from one interval to another needs
-record MayTurn (t : ℕ) (old new : Life) (was is : Bool) : Type 0 where
+record MayTurn (t : ℕ) (old new : Interval) (was is : Bool) : Type 0 where
   old_life : was ≡ true → IsLife old.begin old.end
   new_life : is ≡ true → IsLife new.begin new.end
   kept : was ≡ true → is ≡ true → old.begin ≡ new.begin → (new.end ≤ old.end) × (new.end < old.end → t ≤ new.end)
   goes : was ≡ true → (is ≡ true → old.begin ≢ new.begin) → t ≤ old.begin
   comes : is ≡ true → (was ≡ true → old.begin ≢ new.begin) → t ≤ new.begin
 
-module _ (t : ℕ) (p : List Field) (old new : Life) where
+module _ (t : ℕ) (p : List Field) (old new : Interval) where
   abbrev old_row : Row
-  old_row = row_of old p
+  old_row = row_during old p
 
   abbrev new_row : Row
-  new_row = row_of new p
+  new_row = row_during new p
 
-  is_row : (life : Life) → IsLife life.begin life.end → IsRow (row_of life p)
+  is_row : (life : Interval) → IsLife life.begin life.end → IsRow (row_during life p)
   is_row life h = record { lives = h.lives; begins = h.begins; ends = h.ends }
 
   -- the row that a cut leaves of the old one
@@ -105,12 +105,12 @@ module _ (t : ℕ) (p : List Field) (old new : Life) where
   turns_at false false same less w i s l may = nothing_turns []
 
 -- the changes that put one row of the result in another's place take the one and put the other
-replaced_turns : (t : ℕ) (payload : Option (List Field)) (old new : Life) → MayTurn t old new (lives old) (lives new) → Turns t (made old payload) (made new payload) (replaced payload old new)
+replaced_turns : (t : ℕ) (payload : Option (List Field)) (old new : Interval) → MayTurn t old new (lives old) (lives new) → Turns t (made old payload) (made new payload) (replaced payload old new)
 replaced_turns t None old new may = record { changes = tt; from = tt; sums = λ r. refl; there = λ r. omega arith; apart = λ r. inl refl }
 replaced_turns t (Some p) old new may = turns_at t p old new (lives old) (lives new) (nat_eq old.begin new.begin) (nat_lt new.end old.end) refl refl refl refl may
 
 -- a row comes
-adds : (t : ℕ) (life : Life) → (lives life ≡ true → IsLife life.begin life.end) → t ≤ life.begin → MayTurn t (emptied life) life (lives (emptied life)) (lives life)
+adds : (t : ℕ) (life : Interval) → (lives life ≡ true → IsLife life.begin life.end) → t ≤ life.begin → MayTurn t (emptied life) life (lives (emptied life)) (lives life)
 adds t life proper from =
     let none : (lives (emptied life) ≡ true) → ⊥ = λ h. let x = ltb-true life.begin life.begin h in absurd (omega arith) in
     record {
@@ -122,7 +122,7 @@ adds t life proper from =
     }
 
 -- a row goes
-goes_away : (t : ℕ) (life : Life) → (lives life ≡ true → IsLife life.begin life.end) → t ≤ life.begin → MayTurn t life (emptied life) (lives life) (lives (emptied life))
+goes_away : (t : ℕ) (life : Interval) → (lives life ≡ true → IsLife life.begin life.end) → t ≤ life.begin → MayTurn t life (emptied life) (lives life) (lives (emptied life))
 goes_away t life proper from =
     let none : (lives (emptied life) ≡ true) → ⊥ = λ h. let x = ltb-true life.begin life.begin h in absurd (omega arith) in
     record {
@@ -133,7 +133,7 @@ goes_away t life proper from =
       comes = λ h k. absurd (none h);
     }
 
-goes_from : (t : ℕ) (old new : Life) → Shortens t old new → lives old ≡ true → (lives new ≡ true → old.begin ≢ new.begin) → (b : Bool) → lives new ≡ b → t ≤ old.begin
+goes_from : (t : ℕ) (old new : Interval) → Shortens t old new → lives old ≡ true → (lives new ≡ true → old.begin ≢ new.begin) → (b : Bool) → lives new ≡ b → t ≤ old.begin
 goes_from t old new short was other true h = absurd (other h (sym short.same_begin))
 goes_from t old new short was other false h =
     let lived = ltb-true old.begin old.end was in
@@ -143,7 +143,7 @@ goes_from t old new short was other false h =
     omega arith
 
 -- a row that is shortened and isn't empty was not empty
-comes_from : (t : ℕ) (old new : Life) → Shortens t old new → lives new ≡ true → (b : Bool) → lives old ≡ b → (lives old ≡ true → old.begin ≢ new.begin) → t ≤ new.begin
+comes_from : (t : ℕ) (old new : Interval) → Shortens t old new → lives new ≡ true → (b : Bool) → lives old ≡ b → (lives old ≡ true → old.begin ≢ new.begin) → t ≤ new.begin
 comes_from t old new short is true h other = absurd (other h (sym short.same_begin))
 comes_from t old new short is false h other =
     let lived = ltb-true new.begin new.end is in
@@ -153,7 +153,7 @@ comes_from t old new short is false h other =
     absurd (omega arith)
 
 -- a row is cut
-cuts : (t : ℕ) (old new : Life) → (lives old ≡ true → IsLife old.begin old.end) → (lives new ≡ true → IsLife new.begin new.end) → MayBecome t old new → MayTurn t old new (lives old) (lives new)
+cuts : (t : ℕ) (old new : Interval) → (lives old ≡ true → IsLife old.begin old.end) → (lives new ≡ true → IsLife new.begin new.end) → MayBecome t old new → MayTurn t old new (lives old) (lives new)
 cuts t old new old_proper new_proper (inl short) = record {
   old_life = old_proper;
   new_life = new_proper;
@@ -170,9 +170,9 @@ cuts t old new old_proper new_proper (inr moves) = record {
 }
 
 -- of an empty interval no row is made
-made_none : (life : Life) (payload : Option (List Field)) → made (emptied life) payload ≡ []
+made_none : (life : Interval) (payload : Option (List Field)) → made (emptied life) payload ≡ []
 made_none life None = refl
-made_none life (Some p) = ap {B = List Row} (λ b. cond b (row_of (emptied life) p ∷ []) []) (le-ltb life.begin life.begin (omega arith))
+made_none life (Some p) = ap {B = List Row} (λ b. cond b (row_during (emptied life) p ∷ []) []) (le-ltb life.begin life.begin (omega arith))
 
 row_is_life : (r : Row) → IsRow r → IsLife r.begin r.end
 row_is_life r h = record { lives = h.lives; begins = h.begins; ends = h.ends }
@@ -180,7 +180,7 @@ row_is_life r h = record { lives = h.lives; begins = h.begins; ends = h.ends }
 turns_to : (t : ℕ) (olds olds' news news' : List Row) (cs : List Change) → olds' ≡ olds → news' ≡ news → Turns t olds news cs → Turns t olds' news' cs
 turns_to t olds olds' news news' cs o n turns = subst (λ (rows : List Row). Turns t rows news' cs) (sym o) (subst (λ (rows : List Row). Turns t olds rows cs) (sym n) turns)
 
-module _ (image : Row → List Row) (life : ℕ → ℕ → Life) (payload : List Field → Option (List Field)) (t g : ℕ)
+module _ (image : Row → List Row) (life : ℕ → ℕ → Interval) (payload : List Field → Option (List Field)) (t g : ℕ)
     (one_row : (r : Row) → IsRow r → image r ≡ made (life r.begin r.end) (payload r.payload))
     (is_life : (begin end : ℕ) → IsLife begin end → (life begin end).begin < (life begin end).end → IsLife (life begin end).begin (life begin end).end)
     (begins_from : (begin end : ℕ) → IsLife begin end → t ≤ begin → g ≤ (life begin end).begin)

@@ -2,19 +2,20 @@
 //!
 //! `Table` counts the copies of each row in an ordered map. Contracts see the list of its rows, of which
 //! only the counts matter. `Operator` is a step of a query with its laws: tables on its ports, and a result that it
-//! repairs change by change. `RowWise` makes an operator of what says how one row gives one row or none.
+//! repairs change by change. `RowWise` makes an operator of what says how one row gives one row or none, and
+//! `Either` one of two.
 #![tactic(auto)]
 
 mod counted;
+mod either;
 mod fault;
-mod life;
 mod marks;
 mod operator;
 mod row_wise;
 mod table;
 
+pub use either::Either;
 pub use fault::TableFault;
-pub use life::Life;
 pub use marks::{least_mark, no_marks};
 pub use operator::Operator;
 pub use row_wise::RowWise;

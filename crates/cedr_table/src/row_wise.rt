@@ -4,13 +4,12 @@ ghost use Rattle.cedr_base.specs.declared.field.Field.{Field};
 ghost use Rattle.cedr_base.specs.declared.row.Row.{Row};
 ghost use Rattle.cedr_base.specs.Rows.{IsRow};
 ghost use Rattle.cedr_base.specs.Changes.{IsChange};
-ghost use Rattle.cedr_table.specs.declared.life.Life.{Life};
-ghost use Rattle.cedr_table.specs.RowWise.{IsLife, MayBecome, made, lives, row_of, shortened, withdrawn, added, replaced, life_after, answer_to};
+ghost use Rattle.cedr_base.specs.declared.interval.Interval.{Interval};
+ghost use Rattle.cedr_table.specs.RowWise.{IsLife, MayBecome, made, lives, row_during, shortened, withdrawn, added, replaced, life_after, answer_to};
 ghost use Rattle.cedr_base.specs.declared.change.Change.TheVariants.{Cut};
 
-use crate::life::Life;
 use crate::operator::Operator;
-use cedr_base::{Change, OutOfMemory, Payload, Row, Time};
+use cedr_base::{Change, Interval, OutOfMemory, Payload, Row, Time};
 use std::alloc::Global;
 
 /// An operator with one port, each of whose rows gives one row of the result or none: an interval is made of its
@@ -28,13 +27,13 @@ pub trait RowWise: Drop {
     ghost guarantee_at: { Self → ℕ → ℕ };
 
     /// The interval that is made of an interval.
-    ghost life_of: { Self → ℕ → ℕ → Life };
+    ghost life_of: { Self → ℕ → ℕ → Interval };
 
     /// The payload that is made of a payload, where there is one.
     ghost payload_of: { Self → List Field → Option (List Field) };
 
     /// The interval that is made of a row's interval.
-    fn life(&self, begin: Time, end: Time) -> Life
+    fn life(&self, begin: Time, end: Time) -> Interval
         requires { in_range self.now × IsLife begin end }
         ensures { result ≡ life_of self.now begin end };
 
@@ -66,55 +65,58 @@ pub trait RowWise: Drop {
     ghost guarantee_is_time: { (s : Self) (mark : ℕ) → in_range s → mark ≤ FOREVER → guarantee_at s mark ≤ FOREVER };
 }
 
-impl Life {
-    /// Whether the interval isn't empty.
-    fn lives(&self) -> bool
-        ensures { result ≡ lives self.now }
-    {
-        self.begin < self.end
-    }
+/// Whether an interval isn't empty.
+fn lives(interval: Interval) -> bool
+    ensures { result ≡ lives interval }
+{
+    interval.begin < interval.end
+}
 
-    /// The row of this interval and a payload.
-    fn row(&self, payload: Payload) -> Row
-        ensures { result ≡ row_of self.now payload }
-    {
-        Row {
-            end: self.end,
-            begin: self.begin,
-            payload,
-        }
+/// The row of an interval and a payload.
+fn row_during(interval: Interval, payload: Payload) -> Row
+    ensures { result ≡ row_during interval payload }
+{
+    Row {
+        end: interval.end,
+        begin: interval.begin,
+        payload,
     }
 }
 
 /// Appends the change by which one row of the result gives way to a shorter one with the same begin.
-fn shorten(old: Life, new: Life, payload: Payload, out: &mut Vec<Change>) -> Result<(), OutOfMemory>
+fn shorten(
+    old: Interval,
+    new: Interval,
+    payload: Payload,
+    out: &mut Vec<Change>,
+) -> Result<(), OutOfMemory>
     ensures ok { OnOk result (out.new.items ≡ out.old.items ++ shortened payload old new) }
     ensures err { OnErr result (out.new.items ≡ out.old.items) }
 {
     if new.end < old.end {
-        out.push(Change::Cut(old.row(payload), new.end))?;
+        out.push(Change::Cut(row_during(old, payload), new.end))?;
     }
     Ok(())
 }
 
 /// Appends the change that takes a row from the result, where there is one.
-fn withdraw(old: Life, payload: Payload, out: &mut Vec<Change>) -> Result<(), OutOfMemory>
+fn withdraw(old: Interval, payload: Payload, out: &mut Vec<Change>) -> Result<(), OutOfMemory>
     ensures ok { OnOk result (out.new.items ≡ out.old.items ++ withdrawn payload old) }
     ensures err { OnErr result (out.new.items ≡ out.old.items) }
 {
-    if old.lives() {
-        out.push(Change::Cut(old.row(payload), old.begin))?;
+    if lives(old) {
+        out.push(Change::Cut(row_during(old, payload), old.begin))?;
     }
     Ok(())
 }
 
 /// Appends the change that adds a row to the result, where there is one.
-fn add(new: Life, payload: Payload, out: &mut Vec<Change>) -> Result<(), OutOfMemory>
+fn add(new: Interval, payload: Payload, out: &mut Vec<Change>) -> Result<(), OutOfMemory>
     ensures ok { OnOk result (out.new.items ≡ out.old.items ++ added payload new) }
     ensures err { OnErr result (out.new.items ≡ out.old.items) }
 {
-    if new.lives() {
-        out.push(Change::Add(new.row(payload)))?;
+    if lives(new) {
+        out.push(Change::Add(row_during(new, payload)))?;
     }
     Ok(())
 }
@@ -123,21 +125,21 @@ fn add(new: Life, payload: Payload, out: &mut Vec<Change>) -> Result<(), OutOfMe
 /// stand there.
 fn replace(
     alloc: Global,
-    old: Life,
-    new: Life,
+    old: Interval,
+    new: Interval,
     payload: Payload,
     out: &mut Vec<Change>,
 ) -> Result<(), OutOfMemory>
     ensures ok { OnOk result (out.new.items ≡ out.old.items ++ replaced (Some payload) old new) }
     ensures err { OnErr result (take (length out.old.items) out.new.items ≡ out.old.items) }
 {
-    if old.lives() && new.lives() && old.begin == new.begin {
+    if lives(old) && lives(new) && old.begin == new.begin {
         shorten(old, new, payload, out)
-    } else if old.lives() && new.lives() {
+    } else if lives(old) && lives(new) {
         let copied = payload.copy(alloc)?;
         withdraw(old, copied, out)?;
         add(new, payload, out)
-    } else if old.lives() {
+    } else if lives(old) {
         withdraw(old, payload, out)
     } else {
         add(new, payload, out)
@@ -149,8 +151,8 @@ fn replace(
 fn replace_made<R: RowWise>(
     alloc: Global,
     op: &R,
-    old: Life,
-    new: Life,
+    old: Interval,
+    new: Interval,
     payload: Payload,
     out: &mut Vec<Change>,
 ) -> Result<(), OutOfMemory>
@@ -167,7 +169,7 @@ fn replace_made<R: RowWise>(
 }
 
 /// What is made of a row's interval once the row ends at this time.
-fn life_after<R: RowWise>(op: &R, row: &Row, old: Life, end: Time) -> Life
+fn life_after<R: RowWise>(op: &R, row: &Row, old: Interval, end: Time) -> Interval
     requires range { R.in_range op.now }
     requires cut { IsChange (Cut row.now end) }
     requires old { old ≡ R.life_of op.now row.now.begin row.now.end }
@@ -176,7 +178,7 @@ fn life_after<R: RowWise>(op: &R, row: &Row, old: Life, end: Time) -> Life
     if row.begin < end {
         op.life(row.begin, end)
     } else {
-        Life {
+        Interval {
             begin: old.begin,
             end: old.begin,
         }
@@ -198,7 +200,7 @@ fn answer<R: RowWise>(
     match change {
         Change::Add(row) => {
             let new = op.life(row.begin, row.end);
-            let old = Life {
+            let old = Interval {
                 begin: new.begin,
                 end: new.begin,
             };

@@ -2,6 +2,7 @@ use super::*;
 use cedr_base::{Change, FOREVER, Field, OutOfMemory, Payload, Row, Time};
 use std::alloc::Global;
 use std::collections::btree_map::Range;
+use std::process::Abort;
 use std::test::Fail;
 
 /// A row whose payload is this number.
@@ -81,7 +82,8 @@ fn rows_come_in_canonical_order(rt: HostRuntime) -> Result<(), Fail> {
     let wanted = [(2, 0, 9), (1, 1, 9), (2, 1, 9), (2, 1, 9), (5, 3, FOREVER)];
     assert_eq!(rt; rows.len(), wanted.len());
     for (found, (number, begin, end)) in rows.iter().zip(wanted) {
-        assert!(rt; *found == row(alloc, number, begin, end)?);
+        let same = *found == row(alloc, number, begin, end)?;
+        assert!(rt; same, "{number},{begin},{end}");
     }
     Ok(())
 }
@@ -99,24 +101,23 @@ fn a_refusal_changes_nothing(rt: HostRuntime) -> Result<(), Fail> {
     Ok(())
 }
 
-/// Whether a range shows these rows, each once.
-fn shows(
+/// A range shows these rows, each once.
+fn check_range(
+    rt: &impl Abort,
     alloc: Global,
     found: Range<'_, Row, usize>,
     wanted: &[(i128, Time, Time)],
-) -> Result<bool, OutOfMemory> {
+) -> Result<(), OutOfMemory> {
     let mut seen = 0;
     for (row_there, count) in found {
-        if seen >= wanted.len() {
-            return Ok(false);
-        }
+        assert!(rt; seen < wanted.len(), "a row too many");
         let (number, begin, end) = wanted[seen];
-        if *row_there != row(alloc, number, begin, end)? || *count != 1 {
-            return Ok(false);
-        }
+        let same = *row_there == row(alloc, number, begin, end)? && *count == 1;
+        assert!(rt; same, "{number},{begin},{end}");
         seen += 1;
     }
-    Ok(seen == wanted.len())
+    assert_eq!(rt; seen, wanted.len());
+    Ok(())
 }
 
 #[test]
@@ -127,9 +128,9 @@ fn a_range_shows_what_lies_in_it(rt: HostRuntime) -> Result<(), Fail> {
         table.insert(row(alloc, number, begin, end)?)?;
     }
     let ending_later = table.range(row(alloc, 2, 1, 9)?..);
-    assert!(rt; shows(alloc, ending_later, &[(2, 1, 9), (5, 3, FOREVER)])?);
+    check_range(&rt, alloc, ending_later, &[(2, 1, 9), (5, 3, FOREVER)])?;
     let ending_before = table.range(..row(alloc, 2, 1, 9)?);
-    assert!(rt; shows(alloc, ending_before, &[(1, 0, 8), (1, 1, 9)])?);
+    check_range(&rt, alloc, ending_before, &[(1, 0, 8), (1, 1, 9)])?;
     Ok(())
 }
 

@@ -1,7 +1,8 @@
 -- The first field of a line, by the place of the first comma.
-use Rattle.std.proofs.Common.{◌≡◌, ℕ, zero, suc, ◌-◌, ◌<◌, List, [], ◌∷◌, Bool, true, false, length, get_or, take, drop, cond, refl, ap, ◌∙◌, arith}
+use Rattle.std.proofs.Common.{◌≡◌, ℕ, zero, suc, ◌+◌, ◌-◌, ◌<◌, ◌≤◌, List, [], ◌∷◌, Bool, true, false, length, get_or, take, drop, cond, refl, ap, ◌∙◌, arith}
 use Rattle.std.specs.List.{slice_split, onto_first}
-use Rattle.std.proofs.lemmas.List.Splits.{slice_split-cons_yes, slice_split-cons_no}
+use Rattle.std.proofs.lemmas.List.Splits.{slice_split-cons_yes, slice_split-cons_no, length-slice_split}
+use Rattle.std.proofs.lemmas.List.Sums.{count_by-le-length}
 use Rattle.std.proofs.lemmas.Bool.{false_from_ne_true}
 use Rattle.std.proofs.lemmas.List.{take_all, length-drop}
 
@@ -32,6 +33,10 @@ module _ (p : ℕ → Bool) where
   pub some_part : (text : List ℕ) → slice_split p text ≡ [] → ⊥
   some_part [] none = cc
   some_part (b ∷ text) none = cut_some (p b) b (slice_split p text) none
+
+  -- there is at most one part more than bytes
+  pub few_parts : (text : List ℕ) → length (slice_split p text) ≤ length text + 1
+  few_parts text = omega (arith, length-slice_split p text, count_by-le-length p text)
 
 -- the whole of what stands from a place on, as a slice of the code has it
 pub rest_from : (text : List ℕ) (at : ℕ) → take (length text - at) (drop at text) ≡ drop at text

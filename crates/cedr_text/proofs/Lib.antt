@@ -1,3 +1,4 @@
+pub mod BareLemmas
 pub mod Cuts
 pub mod JoinLemmas
 pub mod LineLemmas

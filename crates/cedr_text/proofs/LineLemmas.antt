@@ -7,7 +7,8 @@ use Rattle.std.proofs.Math.Seq.{take-add, take-length, drop-length}
 use Rattle.std.proofs.lemmas.List.{take_all, take-take, take-append-drop, drop-drop, length-take, length-drop, length-append, append_assoc, append-nil, get_or-drop, get_or-take}
 use Rattle.std.proofs.lemmas.List.Folds.{list_any-append}
 use Rattle.cedr_text.specs.declared.lines.TheConstants.{LINE_LIMIT}
-use Rattle.cedr_text.specs.Parts.{line_feed, parts_of}
+use Rattle.cedr_base.specs.Bytes.{line_feed}
+use Rattle.cedr_text.specs.Parts.{parts_of}
 use Rattle.cedr_text.specs.Lines.{without_return, without_empty_end, raw_lines, has_line_feed, IsLineEnd, GivesLine, IsTooLong}
 
 -- of a line that ends in a carriage return, that one is dropped
@@ -30,7 +31,8 @@ none_below p (b ∷ text) (suc n) none =
     or_from (p b) (list_any p (take n text)) (false_from_ne_true (p b) (none 0 (omega arith) (omega arith)))
     (none_below p text n (λ k low within. none (suc k) (omega arith) (omega arith)))
 
-some_at : (test : Bool) (b : ℕ) (parts : List (List ℕ)) → (q : List ℕ) × (qs : List (List ℕ)) × (cond test ([] ∷ parts) (onto_first b parts) ≡ q ∷ qs)
+-- whether a part begins at a byte or not, there is a first part
+pub some_at : (test : Bool) (b : ℕ) (parts : List (List ℕ)) → (q : List ℕ) × (qs : List (List ℕ)) × (cond test ([] ∷ parts) (onto_first b parts) ≡ q ∷ qs)
 some_at true b parts = ([], parts, refl)
 some_at false b [] = (b ∷ [], [], refl)
 some_at false b (q ∷ qs) = (b ∷ q, qs, refl)
@@ -48,9 +50,16 @@ feed_ends (b ∷ text) (suc end) within none here more =
     let parts = or_parts (b == line_feed) (has_line_feed (take end text)) none in
     slice_split-cons_no (λ b. b == line_feed) b (text ++ more) parts.0 ∙ ap (onto_first b) (feed_ends text end (omega arith) parts.1 here more)
 
-kept_front : (part next : List ℕ) (parts : List (List ℕ)) → without_empty_end (part ∷ next ∷ parts) ≡ part ∷ without_empty_end (next ∷ parts)
+-- a part that isn't the last one stays
+pub kept_front : (part next : List ℕ) (parts : List (List ℕ)) → without_empty_end (part ∷ next ∷ parts) ≡ part ∷ without_empty_end (next ∷ parts)
 kept_front [] next parts = refl
 kept_front (b ∷ bs) next parts = refl
+
+-- without the empty end that a line feed leaves
+pub end_dropped : (parts : List (List ℕ)) → without_empty_end (parts ++ [] ∷ []) ≡ parts
+end_dropped [] = refl
+end_dropped (part ∷ []) = kept_front part [] []
+end_dropped (part ∷ next ∷ parts) = kept_front part next (parts ++ [] ∷ []) ∙ ap (λ rest. part ∷ rest) (end_dropped (next ∷ parts))
 
 -- the line that ends at this place is the first one, whatever follows
 pub line_ends : (text : List ℕ) (end : ℕ) → IsLineEnd text end → (more : List ℕ) → raw_lines (text ++ more) ≡ take end text ∷ raw_lines (drop (suc end) text ++ more)

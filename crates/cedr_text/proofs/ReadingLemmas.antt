@@ -175,7 +175,8 @@ short_event shape line =
     let read = event_from shape (line_fields line) in
     unless_broken (is_broken line) (as_some read) (said read (from_event shape (line_fields line)))
 
-unless_long : (long : Bool) (read : Result (Option EventLine) LineFault) → SaysEvent read → SaysEvent (cond long (Err LineTooLong) read)
+-- a line that is too long says no event
+pub unless_long : (long : Bool) (read : Result (Option EventLine) LineFault) → SaysEvent read → SaysEvent (cond long (Err LineTooLong) read)
 unless_long true read says = omega arith
 unless_long false read says = says
 

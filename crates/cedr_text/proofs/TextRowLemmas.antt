@@ -7,13 +7,10 @@ use Rattle.std.proofs.lemmas.Cmp.{nat_cmp_total, tied_itself}
 use Rattle.std.proofs.lemmas.List.{drop_more, drop_all}
 use Rattle.cedr_base.specs.declared.field.Field.TheVariants.{Bytes}
 use Rattle.cedr_base.specs.Order.{text_cmp, payload_cmp}
-use Rattle.cedr_text.specs.Parts.{comma, fields_of}
+use Rattle.cedr_base.specs.Bytes.{comma}
+use Rattle.cedr_text.specs.Parts.{fields_of}
 use Rattle.cedr_text.specs.TextRows.{texts_of, texts_cmp}
-
-some_at : (test : Bool) (b : ℕ) (parts : List (List ℕ)) → (q : List ℕ) × (qs : List (List ℕ)) × (cond test ([] ∷ parts) (onto_first b parts) ≡ q ∷ qs)
-some_at true b parts = ([], parts, refl)
-some_at false b [] = (b ∷ [], [], refl)
-some_at false b (q ∷ qs) = (b ∷ q, qs, refl)
+use Rattle.cedr_text.proofs.LineLemmas.{some_at}
 
 -- a text has a first field
 pub first_field : (text : List ℕ) → (q : List ℕ) × (qs : List (List ℕ)) × (fields_of text ≡ q ∷ qs)

@@ -1,7 +1,8 @@
 -- The lines of a file, however its bytes come.
 use Rattle.std.specs.Prelude.{ℕ, ◌≡◌, ◌==◌, ◌<◌, ◌≤◌, ◌++◌, ◌+◌, Bool, true, false, List, [], ◌∷◌, length, take, slice_index, if◌then◌else◌}
 use Rattle.std.specs.List.{list_any}
-use Rattle.cedr_text.specs.Parts.{line_feed, parts_of}
+use Rattle.cedr_base.specs.Bytes.{line_feed}
+use Rattle.cedr_text.specs.Parts.{parts_of}
 use Rattle.cedr_text.specs.declared.lines.TheConstants.{LINE_LIMIT}
 use Rattle.cedr_text.specs.declared.lines.LineStep.{LineStep}
 use Rattle.cedr_text.specs.declared.lines.LineStep.TheVariants.{Line, TooLong, NotYet, Finished}

@@ -1,5 +1,5 @@
 -- The forms of ids and times.
-use Rattle.std.specs.Prelude.{ℕ, ℤ, pos, neg_ℤ, option_map, ◌==◌, ◌-◌, ◌^◌, ◌&&◌, Bool, false, nat_le, List, [], ◌∷◌, Option, None, Some, if◌then◌else◌, codes}
+use Rattle.std.specs.Prelude.{ℕ, ℤ, ◌≡◌, ◌≤◌, pos, neg_ℤ, option_map, ◌==◌, ◌-◌, ◌^◌, ◌&&◌, Bool, false, nat_le, List, [], ◌∷◌, Option, None, Some, true, length, take, if◌then◌else◌, codes}
 use Rattle.std.specs.List.{list_all}
 use Rattle.std.specs.Char.{is_ascii_digit}
 use Rattle.std.specs.Str.{bytes_eq}
@@ -35,3 +35,14 @@ negated n = neg_ℤ (pos n)
 abbrev pub int_value : List ℕ → Option ℤ
 int_value [] = None
 int_value (c ∷ digits) = if c == 45 then option_map negated (whole_number (2 ^ 63) digits) else option_map pos (whole_number (2 ^ 63 - 1) (c ∷ digits))
+
+-- a text begins with so many digits, which spell this number
+pub record LeadsWith (text : List ℕ) (value count : ℕ) : Type 0 where
+  pub within : count ≤ length text
+  pub digits : list_all is_ascii_digit (take count text) ≡ true
+  pub spelled : digits_value 10 (take count text) ≡ value
+
+-- a text is a numeral, and spells this number
+pub record Spells (text : List ℕ) (value : ℕ) : Type 0 where
+  pub numeral : is_numeral text ≡ true
+  pub spelled : digits_value 10 text ≡ value

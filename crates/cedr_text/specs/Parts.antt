@@ -1,14 +1,7 @@
 -- What stands between separators: the lines of a file, and the fields of a line.
-use Rattle.std.specs.Prelude.{ℕ, ◌==◌, List, [], Option, None, Some}
+use Rattle.std.specs.Prelude.{ℕ, ◌≡◌, ◌==◌, List, [], ◌∷◌, Option, None, Some}
 use Rattle.std.specs.List.{slice_split}
-
--- the byte of a comma, which stands between the fields of a line
-abbrev pub comma : ℕ
-comma = 44
-
--- the byte of a line feed, which ends a line
-abbrev pub line_feed : ℕ
-line_feed = 10
+use Rattle.cedr_base.specs.Bytes.{comma}
 
 -- the parts between the separators, of which there is one more than of these
 abbrev pub parts_of : ℕ → List ℕ → List (List ℕ)
@@ -22,3 +15,9 @@ parts_left separator (Some bytes) = parts_of separator bytes
 -- the parts of a line between its commas, whatever quotes it has
 abbrev pub fields_of : List ℕ → List (List ℕ)
 fields_of line = parts_of comma line
+
+-- of some parts the first one, of which this holds, was taken
+pub record CutsField (parts rest : List (List ℕ)) (Holds : List ℕ → Type 0) : Type 0 where
+  pub field : List ℕ
+  pub parts_are : parts ≡ field ∷ rest
+  pub holds : Holds field

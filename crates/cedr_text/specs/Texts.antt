@@ -8,7 +8,7 @@ use Rattle.cedr_base.specs.declared.change.Change.{Change}
 use Rattle.cedr_base.specs.declared.change.Change.TheVariants.{Add, Cut}
 use Rattle.cedr_base.specs.declared.field.Field.{Field}
 use Rattle.cedr_base.specs.declared.field.Field.TheVariants.{Number, Bytes}
-pub use Rattle.cedr_text.specs.Parts.{comma, line_feed}
+pub use Rattle.cedr_base.specs.Bytes.{comma, line_feed}
 
 -- the byte of a double quote
 abbrev pub quote : ℕ

@@ -1,49 +1,49 @@
-ghost use Rattle.std.specs.Prelude.{◌≡◌, ◌∷◌, [], ◌≤◌, length, nat_le, option_map, MatchOption};
-ghost use Rattle.cedr_text.specs.Parts.{comma, parts_of, parts_left};
-ghost use Rattle.cedr_text.specs.Reading.{event_of, insertion};
+ghost use Rattle.std.specs.Prelude.{◌≡◌, length, nat_le, option_map};
+ghost use Rattle.cedr_base.specs.Bytes.{comma};
+ghost use Rattle.cedr_text.specs.Parts.{parts_of, parts_left};
+ghost use Rattle.cedr_text.specs.Reading.{event_of, insertion, retraction, guarantee};
 ghost use Rattle.cedr_text.specs.declared.event_line.Shape.TheVariants.{AnyText};
 ghost use Rattle.cedr_text.specs.EventTexts.{as_reading};
 
 use crate::event_text::EventText;
 use crate::fault::LineFault;
-use crate::number::{read_begin, read_id, read_time};
-use crate::parts::{Parts, cut_part};
+use crate::number::{cut_number, cut_time};
+use crate::parts::Parts;
 use crate::payload_text::{BareFields, PayloadText};
-use crate::read::{FIELD_LIMIT, read_guarantee, read_retraction};
+use crate::read::FIELD_LIMIT;
 use crate::text_row::TextRow;
+use cedr_base::FOREVER;
 
 /// What a line without quotes says, whose payload fields are texts. It takes no memory.
 pub(crate) fn read_bare(line: &[u8]) -> Result<EventText<'_>, LineFault>
     ensures { as_reading result ≡ event_of AnyText (parts_of comma line.now) }
 {
-    let (kind, rest) = cut_part(line, b',');
+    let [kind, b',', fields @ ..] = line else {
+        return Err(LineFault::BadForm);
+    };
     match kind {
-        b"+" => read_bare_insertion(rest),
-        b"-" => {
-            let (id, end) = read_retraction(Parts::left(rest, b','))?;
-            Ok(EventText::Retract { id, end })
-        }
-        b"=" => Ok(EventText::Promise(read_guarantee(Parts::left(rest, b','))?)),
+        b'+' => read_bare_insertion(fields),
+        b'-' => read_bare_retraction(fields),
+        b'=' => read_bare_guarantee(fields),
         _ => Err(LineFault::BadForm),
     }
 }
 
-fn read_bare_insertion(rest: Option<&[u8]>) -> Result<EventText<'_>, LineFault>
-    ensures { as_reading result ≡ insertion AnyText (parts_left comma (option_map (λ text. text.now) rest.entry)) }
+#[inline(always)]
+fn read_bare_insertion(fields: &[u8]) -> Result<EventText<'_>, LineFault>
+    ensures { as_reading result ≡ insertion AnyText (parts_of comma fields.now) }
 {
-    let Some((id, rest)) = cut_field(rest) else {
+    let (id, Some(rest)) = cut_number(fields, u64::MAX) else {
         return Err(LineFault::BadForm);
     };
-    let Some((begin, rest)) = cut_field(rest) else {
+    let (begin, Some(rest)) = cut_number(rest, FOREVER - 1) else {
         return Err(LineFault::BadForm);
     };
-    let Some((end, rest)) = cut_field(rest) else {
-        return Err(LineFault::BadForm);
-    };
+    let (end, rest) = cut_time(rest);
     if !are_few(rest) {
         return Err(LineFault::BadForm);
     }
-    let (Some(id), Some(begin), Some(end)) = (read_id(id), read_begin(begin), read_time(end)) else {
+    let (Some(id), Some(begin), Some(end)) = (id, begin, end) else {
         return Err(LineFault::BadNumber);
     };
     if end <= begin {
@@ -58,17 +58,39 @@ fn read_bare_insertion(rest: Option<&[u8]>) -> Result<EventText<'_>, LineFault>
     Ok(EventText::Insert { id, row })
 }
 
-/// The next field, and what stands after its comma, if it has one.
-fn cut_field(rest: Option<&[u8]>) -> Option<(&[u8], Option<&[u8]>)>
-    ensures { MatchOption result (parts_left comma (option_map (λ text. text.now) rest.entry) ≡ [])
-        (λ cut. parts_left comma (option_map (λ text. text.now) rest.entry) ≡ cut.0.now ∷ parts_left comma (option_map (λ text. text.now) cut.1)) }
+#[inline(always)]
+fn read_bare_retraction(fields: &[u8]) -> Result<EventText<'_>, LineFault>
+    ensures { as_reading result ≡ retraction (parts_of comma fields.now) }
 {
-    Some(cut_part(rest?, b','))
+    let (id, Some(rest)) = cut_number(fields, u64::MAX) else {
+        return Err(LineFault::BadForm);
+    };
+    let (end, more) = cut_time(rest);
+    match (id, end, more) {
+        (_, _, Some(_)) => Err(LineFault::BadForm),
+        (Some(id), Some(end), None) => Ok(EventText::Retract { id, end }),
+        _ => Err(LineFault::BadNumber),
+    }
 }
 
-/// Whether these are no more fields than a payload may have.
+#[inline(always)]
+fn read_bare_guarantee(fields: &[u8]) -> Result<EventText<'_>, LineFault>
+    ensures { as_reading result ≡ guarantee (parts_of comma fields.now) }
+{
+    match cut_time(fields) {
+        (_, Some(_)) => Err(LineFault::BadForm),
+        (Some(time), None) => Ok(EventText::Promise(time)),
+        (None, None) => Err(LineFault::BadNumber),
+    }
+}
+
+/// Whether these are no more fields than a payload may have. A text has at most one field more than bytes.
+#[inline(always)]
 fn are_few(rest: Option<&[u8]>) -> bool
     ensures { result ≡ nat_le (length (parts_left comma (option_map (λ text. text.now) rest.entry))) 16 }
 {
-    Parts::left(rest, b',').nth(FIELD_LIMIT).is_none()
+    match rest {
+        Some(text) if text.len() < FIELD_LIMIT => true,
+        _ => Parts::left(rest, b',').nth(FIELD_LIMIT).is_none(),
+    }
 }

@@ -1,9 +1,15 @@
-ghost use Rattle.std.specs.Prelude.{◌≡◌, ◌<◌, ◌+◌, ◌-◌, ◌*◌, ◌^◌};
+ghost use Rattle.std.specs.Prelude.{◌≡◌, ◌<◌, ◌+◌, ◌-◌, ◌*◌, ◌^◌, IfSome, option_map};
 ghost use Rattle.std.specs.Option.{SomeIff};
 ghost use Rattle.std.specs.Int.{IsInRange};
-ghost use Rattle.cedr_text.specs.Numbers.{whole_number, id_value, begin_value, time_value, int_value};
+ghost use Rattle.cedr_base.specs.Bytes.{comma};
+ghost use Rattle.cedr_text.specs.Parts.{parts_of, parts_left, CutsField};
+ghost use Rattle.cedr_text.specs.Numbers.{whole_number, id_value, begin_value, time_value, int_value, LeadsWith, Spells};
 
+use crate::parts::cut_part;
 use cedr_base::{FOREVER, Time};
+
+/// So many digits always fit 64 bits.
+const SAFE_DIGITS: usize = 19;
 
 /// The number that the text spells in digits, where it is at most `last`. Leading zeros are accepted.
 fn read_number(text: &[u8], last: u64) -> Option<u64>
@@ -59,5 +65,68 @@ pub(crate) fn read_int(text: &[u8]) -> Option<i128>
     match text {
         [b'-', digits @ ..] => Some(-i128::from(read_number(digits, 1 << 63)?)),
         _ => Some(i128::from(read_number(text, (1 << 63) - 1)?)),
+    }
+}
+
+/// The number that the digits in front spell, and how many these are, where they are few enough to fit.
+#[inline(always)]
+fn leading_number(bytes: &[u8]) -> Option<(u64, usize)>
+    ensures { IfSome result (λ leading. LeadsWith bytes.now leading.0 leading.1) }
+{
+    let mut value = 0u64;
+    for (at, byte) in bytes.iter().enumerate() {
+        if !byte.is_ascii_digit() {
+            return Some((value, at));
+        }
+        if at == SAFE_DIGITS {
+            return None;
+        }
+        value = value * 10 + u64::from(*byte - b'0');
+    }
+    Some((value, bytes.len()))
+}
+
+/// The number that the first field spells and what stands after its comma, where that field is a few digits.
+#[inline(always)]
+fn cut_digits(bytes: &[u8]) -> Option<(u64, Option<&[u8]>)>
+    ensures { IfSome result (λ cut. CutsField (parts_of comma bytes.now) (parts_left comma (option_map (λ rest. rest.now) cut.1)) (λ field. Spells field cut.0)) }
+{
+    let (value, count) = leading_number(bytes)?;
+    if count == 0 {
+        None
+    } else if count == bytes.len() {
+        Some((value, None))
+    } else if bytes[count] == b',' {
+        Some((value, Some(&bytes[count + 1..])))
+    } else {
+        None
+    }
+}
+
+/// The number of the first field, where it is at most `last`, and what stands after its comma.
+#[inline(always)]
+pub(crate) fn cut_number(bytes: &[u8], last: u64) -> (Option<u64>, Option<&[u8]>)
+    ensures { CutsField (parts_of comma bytes.now) (parts_left comma (option_map (λ rest. rest.now) result.1)) (λ field. result.0 ≡ whole_number last field) }
+{
+    match cut_digits(bytes) {
+        Some((value, rest)) => ((value <= last).then_some(value), rest),
+        None => {
+            let (field, rest) = cut_part(bytes, b',');
+            (read_number(field, last), rest)
+        }
+    }
+}
+
+/// The time of the first field, and what stands after its comma.
+#[inline(always)]
+pub(crate) fn cut_time(bytes: &[u8]) -> (Option<Time>, Option<&[u8]>)
+    ensures { CutsField (parts_of comma bytes.now) (parts_left comma (option_map (λ rest. rest.now) result.1)) (λ field. result.0 ≡ time_value field) }
+{
+    match cut_digits(bytes) {
+        Some((value, rest)) => ((value < FOREVER).then_some(value), rest),
+        None => {
+            let (field, rest) = cut_part(bytes, b',');
+            (read_time(field), rest)
+        }
     }
 }

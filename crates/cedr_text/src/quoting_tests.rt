@@ -48,7 +48,8 @@ fn a_line_has_its_fields_or_is_refused(rt: HostRuntime) -> Result<(), Fail> {
         (b"\"\"\"", None),
     ] {
         let fields = joined(alloc, line).ok_or("the line may be split")??;
-        assert_eq!(rt; fields.as_ref().map(|bytes| bytes.as_slice()), wanted);
+        let found = fields.as_ref().map(|bytes| bytes.as_slice());
+        assert_eq!(rt; found, wanted, "{}", line.escape_ascii());
     }
     Ok(())
 }

@@ -272,7 +272,7 @@ fn payload_from(alloc: Global, read: Option<Vec<Field>>) -> Result<Option<Payloa
 }
 
 /// The id and the new end of a retraction.
-pub(crate) fn read_retraction(mut fields: Parts<'_>) -> Result<(u64, Time), LineFault>
+fn read_retraction(mut fields: Parts<'_>) -> Result<(u64, Time), LineFault>
     ensures { retracted_by result ≡ retraction fields.entry }
 {
     let (Some(id), Some(end), None) = (fields.next(), fields.next(), fields.next()) else {
@@ -285,7 +285,7 @@ pub(crate) fn read_retraction(mut fields: Parts<'_>) -> Result<(u64, Time), Line
 }
 
 /// The time of a guarantee.
-pub(crate) fn read_guarantee(mut fields: Parts<'_>) -> Result<Time, LineFault>
+fn read_guarantee(mut fields: Parts<'_>) -> Result<Time, LineFault>
     ensures { promised_by result ≡ guarantee fields.entry }
 {
     let (Some(time), None) = (fields.next(), fields.next()) else {

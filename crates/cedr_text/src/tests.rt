@@ -50,7 +50,8 @@ fn a_faulty_line_has_its_least_fault(rt: HostRuntime) -> Result<(), Fail> {
         (b"\xef\xbb\xbf+,\"1\",1,2", 2),
         (b"\"+\",\"x\",\"1\",\"2\"", 3),
     ] {
-        assert_eq!(rt; read(rt.alloc(), line, &Shape::AnyText).err(), Some(wanted));
+        let fault = read(rt.alloc(), line, &Shape::AnyText).err();
+        assert_eq!(rt; fault, Some(wanted), "{}", line.escape_ascii());
     }
     Ok(())
 }
@@ -76,7 +77,8 @@ fn a_typed_line_has_its_reading_or_its_least_fault(rt: HostRuntime) -> Result<()
         (b"+,1,1,2,9223372036854775808,a", 5),
         (b"+,1,1,2,-9223372036854775809,a", 5),
     ] {
-        assert_eq!(rt; read(alloc, line, &shape).err(), Some(wanted));
+        let fault = read(alloc, line, &shape).err();
+        assert_eq!(rt; fault, Some(wanted), "{}", line.escape_ascii());
     }
     for (line, wanted) in [
         (
@@ -91,7 +93,12 @@ fn a_typed_line_has_its_reading_or_its_least_fault(rt: HostRuntime) -> Result<()
         (b"-,1,2", b"1 ends at 2"),
     ] {
         let event = read(alloc, line, &shape).ok().ok_or("the line is in form")?;
-        assert_eq!(rt; shown(alloc, event)?.as_slice(), wanted);
+        assert_eq!(rt;
+            shown(alloc, event)?.as_slice(),
+            wanted,
+            "{}",
+            line.escape_ascii()
+        );
     }
     Ok(())
 }
@@ -146,7 +153,12 @@ fn a_line_in_form_has_its_reading(rt: HostRuntime) -> Result<(), Fail> {
         let event = read(alloc, line, &Shape::AnyText)
             .ok()
             .ok_or("the line is in form")?;
-        assert_eq!(rt; shown(alloc, event)?.as_slice(), wanted);
+        assert_eq!(rt;
+            shown(alloc, event)?.as_slice(),
+            wanted,
+            "{}",
+            line.escape_ascii()
+        );
     }
     Ok(())
 }
@@ -275,7 +287,7 @@ fn each_fault_has_its_number(rt: HostRuntime) {
     let mut wanted = 0u8;
     for fault in faults {
         wanted = wanted.saturating_add(1);
-        assert_eq!(rt; fault.number(), wanted);
+        assert_eq!(rt; fault.number(), wanted, "{fault:?}");
     }
 }
 
@@ -330,7 +342,12 @@ fn lines_are_the_same_wherever_the_pieces_end(rt: HostRuntime) -> Result<(), Fai
         for end in 0..=bytes.len() {
             let (first, second) = bytes.split_at(end);
             let lines = cut_into_lines(alloc, first, second)?;
-            assert_eq!(rt; lines.as_slice(), wanted);
+            assert_eq!(rt;
+                lines.as_slice(),
+                wanted,
+                "{}, cut at {end}",
+                bytes.escape_ascii()
+            );
         }
     }
     Ok(())

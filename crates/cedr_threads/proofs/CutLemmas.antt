@@ -1,6 +1,6 @@
 -- What a lawful node gave up to the first break is lawful from the first messages of its lists.
-use Rattle.std.proofs.Common.{◌≡◌, ℕ, zero, suc, ◌<◌, Bool, true, false, ◌||◌, List, [], ◌∷◌, ◌++◌, length, map, refl, sym, ap, ◌∙◌, subst, append_assoc}
-use Rattle.std.proofs.lemmas.Bool.{or_parts}
+use Rattle.std.proofs.Common.{◌≡◌, ℕ, zero, suc, ◌<◌, Bool, true, false, List, [], ◌∷◌, ◌++◌, length, map, refl, sym, ap, ◌∙◌, subst, append_assoc}
+use Rattle.std.proofs.lemmas.Bool.{or_parts, or_from}
 use Rattle.std.proofs.lemmas.List.{append-nil}
 use Rattle.cedr_base.specs.declared.change.Message.{Message}
 use Rattle.cedr_base.specs.declared.change.Message.TheVariants as message
@@ -16,6 +16,8 @@ use Rattle.cedr_node.proofs.Goes.{lawful_push}
 use Rattle.cedr_runs.specs.Runs.{ArePrefixes, IsPrefix}
 use Rattle.cedr_runs.proofs.Partial.{prefixes_itself}
 use Rattle.cedr_threads.specs.SoFar.{unbroken}
+use Rattle.cedr_worker.proofs.WorkLemmas.{prefixes_more}
+use Rattle.cedr_worker.proofs.EndLemmas.{unbroken_front}
 
 -- they are all messages of a list that isn't broken
 pub unbroken_all : (ms : List Message) → has_broken ms ≡ false → unbroken ms ≡ ms
@@ -97,30 +99,11 @@ prefixes_along (k ∷ ks) (l ∷ ls) (w ∷ ws) h g =
     let b = g.0 in
     (record { rest = a.rest ++ b.rest; all = sym (append_assoc k a.rest b.rest) ∙ (ap (λ (xs : List Message). xs ++ b.rest) a.all ∙ b.all) }, prefixes_along ks ls ws h.1 g.1)
 
--- first messages stay so when more come
-prefixes_more : (k : ℕ) (ls ws : Lists) (ms : List Message) → ArePrefixes ls ws → ArePrefixes ls (with_more ws k ms)
-prefixes_more k [] [] ms h = tt
-prefixes_more k [] (w ∷ ws) ms h = absurd h
-prefixes_more k (l ∷ ls) [] ms h = absurd h
-prefixes_more zero (l ∷ ls) (w ∷ ws) ms h = let a = h.0 in (record { rest = a.rest ++ ms; all = sym (append_assoc l a.rest ms) ∙ ap (λ (xs : List Message). xs ++ ms) a.all }, h.1)
-prefixes_more (suc k) (l ∷ ls) (w ∷ ws) ms h = (h.0, prefixes_more k ls ws ms h.1)
-
--- the first messages of a list that isn't broken aren't
-unbroken_part : (xs ys : List Message) → has_broken (xs ++ ys) ≡ false → has_broken xs ≡ false
-unbroken_part [] ys h = refl
-unbroken_part (message.Change c ∷ xs) ys h = unbroken_part xs ys h
-unbroken_part (message.Mark t ∷ xs) ys h = unbroken_part xs ys h
-unbroken_part (message.End ∷ xs) ys h = unbroken_part xs ys h
-unbroken_part (message.Broken ∷ xs) ys h = h
-
-either_false : (a b : Bool) → a ≡ false → b ≡ false → (a || b) ≡ false
-either_false a b h k = cc
-
 -- lists that aren't broken weren't before more came
 were_unbroken : (k : ℕ) (ls : Lists) (ms : List Message) → any_broken (with_more ls k ms) ≡ false → any_broken ls ≡ false
 were_unbroken k [] ms h = refl
-were_unbroken zero (l ∷ ls) ms h = let parts = or_parts (has_broken (l ++ ms)) (any_broken ls) h in either_false (has_broken l) (any_broken ls) (unbroken_part l ms parts.0) parts.1
-were_unbroken (suc k) (l ∷ ls) ms h = let parts = or_parts (has_broken l) (any_broken (with_more ls k ms)) h in either_false (has_broken l) (any_broken ls) parts.0 (were_unbroken k ls ms parts.1)
+were_unbroken zero (l ∷ ls) ms h = let parts = or_parts (has_broken (l ++ ms)) (any_broken ls) h in or_from (has_broken l) (any_broken ls) (unbroken_front l ms parts.0) parts.1
+were_unbroken (suc k) (l ∷ ls) ms h = let parts = or_parts (has_broken l) (any_broken (with_more ls k ms)) h in or_from (has_broken l) (any_broken ls) parts.0 (were_unbroken k ls ms parts.1)
 
 -- lists without a message aren't broken
 none_broken : (levels : List Level) → any_broken (no_lists levels) ≡ false

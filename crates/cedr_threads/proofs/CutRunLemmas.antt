@@ -22,13 +22,14 @@ use Rattle.cedr_query.proofs.NodeLemmas.{inputs_are}
 use Rattle.cedr_runs.specs.Runs.{ArePrefixes, IsPartialRun, input_lists, sources_in}
 use Rattle.cedr_runs.proofs.Partial.{prefixes_itself, source_at}
 use Rattle.cedr_runs.proofs.PlanNodes.{node_stands}
-use Rattle.op_planned.specs.Meanings.{meaning_of, node_meaning, port_levels}
-use Rattle.op_planned.specs.Outputs.{handed_on}
-use Rattle.op_planned.specs.Ready.{is_source, IsReady}
-use Rattle.op_planned.specs.ReadyLaws.{node_ready}
+use Rattle.op_node.specs.Meanings.{meaning_of, node_meaning, port_levels}
+use Rattle.op_node.specs.Outputs.{handed_on}
+use Rattle.op_node.specs.Ready.{is_source}
+use Rattle.op_node.specs.ReadyLaws.{node_ready}
 use Rattle.cedr_threads.specs.SoFar.{unbroken}
 use Rattle.cedr_threads.proofs.CutLemmas.{IsCut, prefixes_before, unbroken_first, unbroken_legal, unbroken_none}
 use Rattle.cedr_threads.proofs.EchoLemmas.{passed_lawful, unbroken_passed}
+use Rattle.cedr_crew.proofs.MakeLemmas.{output_ports}
 
 -- one for each node, in order
 record Chosen {X : Type 0} (P : List PlanNode → PlanNode → X → Type 0) (d : X) (nodes : List PlanNode) : Type 0 where
@@ -131,11 +132,6 @@ module _ (nodes : List PlanNode) (given : Lists) (are : AreNodes [] (map node_of
   pub all_legal : (k : ℕ) → k < length nodes → IsLegal (list_at given k)
   all_legal k within = legal_below (suc k) k (omega arith) within
 
--- an output is no source, and has one port
-output_one : (k : NodeKind) (ports : ℕ) → is_output k ≡ true → (is_source k ≡ false → IsReady k ports) → ports ≡ 1
-output_one kind.Output ports e h = h refl
-output_one k ports e h = cc
-
 -- and hands on what comes
 output_means : (k : NodeKind) (ports : ℕ) → is_output k ≡ true → node_meaning k ports ≡ handed_on
 output_means kind.Output ports e = refl
@@ -157,6 +153,6 @@ passed_cut v (l ∷ []) given one legal is =
 -- An output that gave what its port passes on of a legal list can be cut.
 pub output_cut : (before : List PlanNode) (n : PlanNode) (lists : Lists) (given : List Message) → is_output n.kind ≡ true → IsNode (map node_of before) (node_of n) → length lists ≡ length n.inputs.items → ((port : ℕ) → IsLegal (list_at lists port)) → given ≡ pass n.level (list_at lists 0) → IsCut (meaning_of n) (port_levels n) lists given
 output_cut before n lists given output stands count legal is =
-    let one = output_one n.kind (length n.inputs.items) output (node_ready (map node_of before) n stands) in
+    let one = output_ports n.kind (length n.inputs.items) output (node_ready (map node_of before) n stands) in
     subst (λ (m : Meaning). IsCut m (port_levels n) lists given) (sym (output_means n.kind (length n.inputs.items) output))
     (subst (λ (ports : ℕ). IsCut handed_on (replicate ports n.level) lists given) (sym one) (passed_cut n.level lists given (count ∙ one) legal is))

@@ -27,7 +27,7 @@ use Rattle.cedr_laws.proofs.Middle.{middle_table}
 use Rattle.cedr_laws.proofs.Passes.{passes}
 use Rattle.cedr_laws.proofs.Splits.{in_one}
 use Rattle.cedr_node.proofs.Goes.{lawful_push}
-use Rattle.op_planned.specs.Outputs.{handed_on}
+use Rattle.op_node.specs.Outputs.{handed_on}
 use Rattle.cedr_threads.specs.SoFar.{unbroken}
 use Rattle.cedr_threads.proofs.CutLemmas.{unbroken_all, unbroken_pushed}
 

@@ -32,8 +32,8 @@ use Rattle.cedr_runs.proofs.PlanNodes.{node_stands, place_within as node_within}
 use Rattle.cedr_wires.specs.Wires.{carried, ports_of, taken_of}
 use Rattle.cedr_worker.specs.declared.source.SourceEnd.{SourceEnd}
 use Rattle.cedr_worker.specs.Stops.{last_at}
-use Rattle.op_planned.specs.Meanings.{meaning_of, port_levels}
-use Rattle.op_planned.specs.Ready.{is_source}
+use Rattle.op_node.specs.Meanings.{meaning_of, port_levels}
+use Rattle.op_node.specs.Ready.{is_source}
 use Rattle.cedr_crew.specs.declared.ending.Closed.{Closed}
 use Rattle.cedr_crew.specs.declared.held.HeldWriter.{HeldWriter}
 use Rattle.cedr_crew.specs.Sortings.{source_ends_in, writers_in}

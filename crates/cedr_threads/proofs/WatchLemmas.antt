@@ -1,29 +1,19 @@
 -- What a reader reads, and a watcher looks at.
-use Rattle.std.proofs.Common.{◌≡◌, ◌≢◌, ℕ, ◌≤◌, ◌++◌, List, [], length, ap, sym, ◌∙◌, subst, arith, Option, Some, None}
+use Rattle.std.proofs.Common.{◌≡◌, ℕ, ◌≤◌, ◌++◌, List, [], length, ap, ◌∙◌, arith, Option, Some, None}
 use Rattle.std.specs.Prelude.{IfSome}
 use Rattle.std.proofs.lemmas.List.{take_all}
 use Rattle.cedr_base.specs.declared.change.Change.{Change}
-use Rattle.cedr_history.specs.declared.close.Close.TheVariants.{Open}
 use Rattle.cedr_history.specs.declared.listed.Listed.{Listed}
 use Rattle.cedr_history.specs.Ends.{part, Reads}
-use Rattle.cedr_history.specs.Lists.{Extends}
-use Rattle.cedr_history.proofs.Fronts.{prefix_trans}
 use Rattle.cedr_threads.specs.Watching.{ReadsOn}
-
--- each list goes on from what an earlier one goes on from
-extends_along : (a b c : Listed) → Extends a b → Extends b c → Extends a c
-extends_along a b c first next = (
-  prefix_trans a.changes b.changes c.changes first.0 next.0,
-  omega (arith, first.1, next.1),
-  λ closed. let same = first.2 closed in next.2 (subst (λ (l : Listed). l.close ≢ Open) (sym same) closed) ∙ same,
-)
+use Rattle.cedr_history.proofs.Extending.{extends_trans}
 
 -- a reader that read, and read again
 pub reads_along : (a b c : Reads) → ReadsOn a b → ReadsOn b c → ReadsOn a c
 reads_along a b c first next = record {
   history = next.history ∙ first.history;
   last = next.last ∙ first.last;
-  later = extends_along a.seen b.seen c.seen first.later next.later;
+  later = extends_trans a.seen b.seen c.seen first.later next.later;
 }
 
 -- a read of all changes gives those of the list that it entered, which is that of the last note where it was

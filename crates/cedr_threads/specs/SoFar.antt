@@ -12,7 +12,7 @@ use Rattle.cedr_query.specs.Queries.{output_place, source_count}
 use Rattle.cedr_runs.specs.Runs.{IsPartialRun, sources_in}
 use Rattle.cedr_worker.specs.declared.source.SourceEnd.{SourceEnd}
 use Rattle.cedr_crew.specs.Wents.{SourceWent}
-use Rattle.op_planned.specs.Ready.{is_source}
+use Rattle.op_node.specs.Ready.{is_source}
 
 -- the messages before the first break
 abbrev pub unbroken : List Message → List Message

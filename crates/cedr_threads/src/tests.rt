@@ -158,14 +158,14 @@ fn changes_of<R: Threads + Wait + Clock + Copy + Drop + Send + 'static>(
 
 #[test]
 fn a_diamond_gives_one_answer_however_its_threads_run(rt: HostRuntime) -> Result<(), Fail> {
-    for _ in 0..100u8 {
+    for turn in 0..100u8 {
         let text = changes_of(
             rt,
             rt.alloc(),
             DIAMOND.as_bytes(),
             b"+,1,0,10,a\n+,2,1,3,b\n",
         )?;
-        assert!(rt; text.as_slice() == b"+,2,4,a,a\n".as_slice());
+        assert_eq!(rt; text.as_slice(), b"+,2,4,a,a\n".as_slice(), "turn {turn}");
     }
     Ok(())
 }
@@ -174,7 +174,7 @@ fn a_diamond_gives_one_answer_however_its_threads_run(rt: HostRuntime) -> Result
 fn a_source_may_feed_eight_nodes(rt: HostRuntime) -> Result<(), Fail> {
     let text = changes_of(rt, rt.alloc(), EIGHT.as_bytes(), b"+,1,0,1,a\n")?;
     let wanted = b"+,1,2,a\n+,2,3,a\n+,3,4,a\n+,4,5,a\n+,5,6,a\n+,6,7,a\n+,7,8,a\n+,8,9,a\n";
-    assert!(rt; text.as_slice() == wanted.as_slice());
+    assert_eq!(rt; text.as_slice(), wanted.as_slice());
     Ok(())
 }
 
@@ -206,7 +206,11 @@ fn up_to_64_nodes_run_on_as_many_threads(rt: HostRuntime) -> Result<(), Fail> {
             text.as_bytes(),
             b"+,1,1,10,a\n+,2,2,9,b\n-,1,5\n",
         )?;
-        assert!(rt; changes.as_slice() == b"+,1,10,a\n+,2,9,b\n-,5,1,10,a\n".as_slice());
+        assert_eq!(rt;
+            changes.as_slice(),
+            b"+,1,10,a\n+,2,9,b\n-,5,1,10,a\n".as_slice(),
+            "{selects} selects"
+        );
     }
     Ok(())
 }
@@ -323,7 +327,7 @@ fn workers_run_beside_each_other(rt: HostRuntime) -> Result<(), Fail> {
     let some = Arc::new(alloc, AtomicU64::new(0))?;
     let report = run_by(rt, alloc, UNION.as_bytes(), &mut files, &some, &gate)?;
     let text = lines(alloc, report.changes.as_slice())?;
-    assert!(rt; text.as_slice() == b"+,1,2,a\n+,1,3,b\n".as_slice());
+    assert_eq!(rt; text.as_slice(), b"+,1,2,a\n+,1,3,b\n".as_slice());
     assert_eq!(rt; gate.late.load(Ordering::SeqCst), 0);
     Ok(())
 }

@@ -6,18 +6,11 @@ use Rattle.cedr_laws.specs.Lists.{Lists, list_at}
 use Rattle.cedr_plan.specs.declared.plan.PlanNode.{PlanNode}
 use Rattle.cedr_runs.specs.Runs.{IsNodeRun, IsRun, lists_at, input_lists}
 use Rattle.cedr_wires.specs.Wires.{AreClosed, AreSent, AreWired, all_ends, carried, froms, port_count, ports_of, taken_of}
-
-take_all : {A : Type 0} (xs ys : List A) → take (length xs) (xs ++ ys) ≡ xs
-take_all [] ys = refl
-take_all (x ∷ xs) ys = ap (λ zs. x ∷ zs) (take_all xs ys)
-
-drop_all : {A : Type 0} (xs ys : List A) → drop (length xs) (xs ++ ys) ≡ ys
-drop_all [] ys = refl
-drop_all (x ∷ xs) ys = drop_all xs ys
+use Rattle.std.proofs.Math.Seq.{take-append_seam, drop-append_seam}
 
 -- the lists of one node's ports stand before those of the others
 ports_first : (n : PlanNode) (nodes : List PlanNode) (first rest : Lists) → length first ≡ port_count n → ports_of (n ∷ nodes) (first ++ rest) ≡ first ∷ ports_of nodes rest
-ports_first n nodes first rest count = subst (λ (k : ℕ). take k (first ++ rest) ∷ ports_of nodes (drop k (first ++ rest)) ≡ first ∷ ports_of nodes rest) count (cc (take_all first rest, drop_all first rest))
+ports_first n nodes first rest count = subst (λ (k : ℕ). take k (first ++ rest) ∷ ports_of nodes (drop k (first ++ rest)) ≡ first ∷ ports_of nodes rest) count (cc (take-append_seam first rest, drop-append_seam first rest))
 
 -- the lists of ports that were taken are found again
 taken_ports : (nodes : List PlanNode) (takers : List (List InEnd)) → map length takers ≡ map port_count nodes → ports_of nodes (map taken_of (all_ends takers)) ≡ map (map taken_of) takers
@@ -29,7 +22,7 @@ taken_ports (n ∷ nodes) (t ∷ ts) is =
     ap (ports_of (n ∷ nodes)) (map-append taken_of t (all_ends ts)) ∙ (ports_first n nodes (map taken_of t) (map taken_of (all_ends ts)) count ∙ ap (λ ls. map taken_of t ∷ ls) (taken_ports nodes ts (cc is)))
 
 -- the lists of the nodes that the edges come from are the input lists of each node
-given_ports : (given : Lists) (nodes : List PlanNode) → ports_of nodes (map (list_at given) (froms nodes)) ≡ map (input_lists given) nodes
+pub given_ports : (given : Lists) (nodes : List PlanNode) → ports_of nodes (map (list_at given) (froms nodes)) ≡ map (input_lists given) nodes
 given_ports given [] = refl
 given_ports given (n ∷ nodes) =
     ap (ports_of (n ∷ nodes)) (map-append (list_at given) n.inputs.items (froms nodes)) ∙ (ports_first n nodes (input_lists given n) (map (list_at given) (froms nodes)) (length-map n.inputs.items (list_at given)) ∙ ap (λ ls. input_lists given n ∷ ls) (given_ports given nodes))

@@ -18,7 +18,7 @@ use Rattle.cedr_plan.specs.declared.plan.PlanNode.{PlanNode}
 use Rattle.cedr_worker.specs.Inputs.{taken_in}
 use Rattle.cedr_worker.specs.Operators.{Works, Sound, Lost, NoneBroken, SoundEnd, LostEnd}
 use Rattle.cedr_worker.proofs.TurnLemmas.{element}
-use Rattle.op_planned.specs.Meanings.{meaning_of, port_levels}
+use Rattle.op_node.specs.Meanings.{meaning_of, port_levels}
 
 -- where nothing was taken, the lists are empty
 pub taken_none : (inputs : List InEnd) → All (λ (e : InEnd). e.taken ≡ []) inputs → taken_in inputs ≡ replicate (length inputs) []
@@ -36,7 +36,7 @@ works_new node inputs os stands count none nothing = record {
 }
 
 -- the first messages of a list that isn't broken aren't
-unbroken_front : (xs ys : List Message) → has_broken (xs ++ ys) ≡ false → has_broken xs ≡ false
+pub unbroken_front : (xs ys : List Message) → has_broken (xs ++ ys) ≡ false → has_broken xs ≡ false
 unbroken_front [] ys h = refl
 unbroken_front (message.Change c ∷ xs) ys h = unbroken_front xs ys h
 unbroken_front (message.Mark t ∷ xs) ys h = unbroken_front xs ys h

@@ -7,8 +7,8 @@ use Rattle.cedr_plan.specs.declared.plan.PlanNode.{PlanNode}
 use Rattle.cedr_plan.specs.Drawn.{node_of}
 use Rattle.cedr_plan.specs.Rules.{AreNodes}
 use Rattle.cedr_runs.proofs.PlanNodes.{node_stands}
-use Rattle.op_planned.specs.Ready.{is_source, IsReady}
-use Rattle.op_planned.specs.ReadyLaws.{node_ready}
+use Rattle.op_node.specs.Ready.{is_source, IsReady}
+use Rattle.op_node.specs.ReadyLaws.{node_ready}
 
 -- the nodes around a node
 split_at : (nodes : List PlanNode) (k : ℕ) (n : PlanNode) → k < length nodes → get_or nodes k n ≡ n → (after : List PlanNode) × (nodes ≡ take k nodes ++ n ∷ after)

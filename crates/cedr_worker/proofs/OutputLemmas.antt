@@ -24,22 +24,23 @@ use Rattle.cedr_laws.proofs.Passes.{passes}
 use Rattle.cedr_node.specs.declared.node.Node.{Node}
 use Rattle.cedr_node.specs.Nodes.{made_of, NodeStands}
 use Rattle.cedr_node.proofs.NodeLemmas.{stands_lawful, stands_legal, stands_inputs}
-use Rattle.cedr_plan.specs.Drawn.{Kind, kind_of, output}
+use Rattle.cedr_plan.specs.declared.plan.NodeKind.{NodeKind}
+use Rattle.cedr_plan.specs.declared.plan.NodeKind.TheVariants as kind
 use Rattle.cedr_plan.specs.declared.plan.PlanNode.{PlanNode}
 use Rattle.cedr_stream.proofs.Legal.{may_come_in}
-use Rattle.op_planned.specs.Meanings.{kind_meaning, meaning_of, port_levels}
+use Rattle.op_node.specs.Meanings.{node_meaning, meaning_of, port_levels}
 use Rattle.cedr_worker.specs.Inputs.{Asked, Took}
 use Rattle.cedr_worker.specs.Outputs.{list_from, passed_by, output_list, IsBeginning, WholeOutput, Writes, IsTold}
 use Rattle.cedr_worker.proofs.OutputLists.{close_passed, list_extends, list_differs, first_legal, over_closed, closed_over}
 use Rattle.cedr_worker.proofs.WorkLemmas.{stands_given}
 
 -- an output gave what its port passes on
-pub output_gave : (node : Node) (taken given : List Message) → kind_of (made_of node).kind ≡ output → NodeStands node (taken ∷ []) given → given ≡ passed_by node taken
+pub output_gave : (node : Node) (taken given : List Message) → (made_of node).kind ≡ kind.Output → NodeStands node (taken ∷ []) given → given ≡ passed_by node taken
 output_gave node taken given out stands =
     let made = made_of node in
     let one : 1 ≡ length made.inputs.items = stands_inputs node (taken ∷ []) given stands in
     let levels : port_levels made ≡ made.level ∷ [] = ap (λ (n : ℕ). replicate n made.level) (sym one) in
-    let echoes : (meaning_of made).echoes ≡ true = ap (λ (k : Kind). (kind_meaning k (length made.inputs.items)).echoes) out in
+    let echoes : (meaning_of made).echoes ≡ true = ap (λ (k : NodeKind). (node_meaning k (length made.inputs.items)).echoes) out in
     let lawful = subst (λ (vs : List Level). IsLawful (meaning_of made) vs (taken ∷ []) given) levels (stands_lawful node (taken ∷ []) given stands) in
     ap (λ (ls : Lists). list_at ls 0) (sym (lawful_echo (meaning_of made) echoes (made.level ∷ []) (taken ∷ []) given lawful (stands_legal node (taken ∷ []) given stands) refl))
 
@@ -62,7 +63,7 @@ begins_more node node' taken m list made b =
     }
 
 -- a worker to which nothing came
-pub outputs_new : (node : Node) (w : Writing) → kind_of (made_of node).kind ≡ output → NodeStands node ([] ∷ []) [] → (w.published ≡ nothing) × (w.all ≡ nothing) × (w.told ≡ false) → Writes node [] w false false
+pub outputs_new : (node : Node) (w : Writing) → (made_of node).kind ≡ kind.Output → NodeStands node ([] ∷ []) [] → (w.published ≡ nothing) × (w.all ≡ nothing) × (w.told ≡ false) → Writes node [] w false false
 outputs_new node w out stands empty =
     let none = output_gave node [] [] out stands in
     let begins : IsBeginning node [] nothing = record { given = []; first = (passed_by node [], refl); list_is = refl } in
@@ -88,7 +89,7 @@ found_state node taken w lacked pending found none o = subst (λ (b : Bool × Bo
 -- memory lacked for the node, or had lacked: the message is dropped
 pub outputs_lost : (node node' : Node) (taken : List Message) (m : Message) (w : Writing) (lacked pending : Bool) → made_of node' ≡ made_of node → IsLegal (taken ++ m ∷ []) → Writes node taken w lacked pending → Writes node' (taken ++ m ∷ []) w true pending
 outputs_lost node node' taken m w lacked pending made legal o = record {
-  kind = ap (λ (n : PlanNode). kind_of n.kind) made ∙ o.kind;
+  kind = ap (λ (n : PlanNode). n.kind) made ∙ o.kind;
   legal = legal;
   found = λ e. absurd (true≢false e);
   all = begins_more node node' taken m w.all made o.all;
@@ -104,8 +105,8 @@ module _ (node node' : Node) (taken piece : List Message) (m : Message) (w w' : 
   abbrev before : List Message
   before = passed_by node taken
 
-  out : kind_of (made_of node').kind ≡ output
-  out = ap (λ (n : PlanNode). kind_of n.kind) made ∙ o.kind
+  out : (made_of node').kind ≡ kind.Output
+  out = ap (λ (n : PlanNode). n.kind) made ∙ o.kind
 
   whole : before ++ piece ≡ passed_by node' (taken ++ m ∷ [])
   whole = output_gave node' (taken ++ m ∷ []) (before ++ piece) out stands

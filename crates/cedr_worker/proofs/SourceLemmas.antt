@@ -24,7 +24,10 @@ use Rattle.cedr_worker.specs.declared.source.SourceEnd.{SourceEnd}
 use Rattle.cedr_worker.specs.Sources.{SourceWorks, SourceEnds}
 use Rattle.cedr_worker.specs.SourceTurns.{Stepped, Rests, StaysStopped, BrokenOnly}
 use Rattle.cedr_worker.proofs.ReadingLemmas.{reads_given}
-use Rattle.cedr_worker.proofs.SourceOutlets.{bare_sent, some_put, put_total, put_staged, put_sent, put_none, not_put, put_full, put_some, not_both, sent_over, over_total, handed_out}
+use Rattle.cedr_worker.proofs.SourceOutlets.{some_put, put_total, put_staged, put_sent, not_put, put_full, put_some, not_both, sent_over, over_total}
+use Rattle.cedr_worker.proofs.EndLemmas.{ends_sent}
+use Rattle.cedr_worker.proofs.TurnLemmas.{bare_sent, puts_none}
+use Rattle.std.proofs.lemmas.Bool.{or_parts}
 
 -- a source's last message ends a list
 last_over : (given : List Message) (s : SourceStop) → is_over (given ++ last_message (last_at s) ∷ []) ≡ true
@@ -191,7 +194,7 @@ module _ {S : Type 0} (rest : S → Option (List ℕ)) (old now : SourceWorker S
   pub rests : (p : Bool) → pending ≡ p → moved ≡ false → stepped ≡ false → (pending ≡ false → NonePending mid (length mid)) → (pending ≡ true → SomePending mid (length mid)) → stepped ≡ (not pending && is_none old.stop)
       → (IsSome old.stop → NonePending mid (length mid) → AllOver mid) → SomeOpen now.outlets → Rests old now
   rests p is_pending is_moved is_stepped none some is over goes = subst (λ (w : SourceWorker S). Rests old w) (sym (rested is_stepped)) (record {
-    sent = put_none old.outlets mid moved puts is_moved;
+    sent = puts_none old.outlets mid moved puts is_moved;
     source = refl;
     lines = refl;
     stop = refl;
@@ -235,11 +238,9 @@ over_stopped rest faults shape content count worker works over =
 
 -- ---- no Broken but where the source stopped otherwise
 
-open_unbroken : (given : List Message) → is_over given ≡ false → has_broken given ≡ false
-open_unbroken given goes = (or_none (has_end given) (has_broken given) goes) where
-  or_none : (a b : Bool) → (a || b) ≡ false → b ≡ false
-  or_none true b e = absurd (true≢false e)
-  or_none false b e = e
+-- a list that goes on isn't broken
+pub open_unbroken : (given : List Message) → is_over given ≡ false → has_broken given ≡ false
+open_unbroken given goes = (or_parts (has_end given) (has_broken given) goes).1
 
 broken_meant : (given : List Message) (s : Option SourceStop) → has_broken given ≡ false → has_broken (meant given s) ≡ true → BreaksSo s
 broken_meant given None none some = true≢false (sym some ∙ none)
@@ -275,5 +276,5 @@ works_end rest faults shape content count worker end works over source stops sen
   is_given = works.is_given;
   stopped = subst (λ (s : Option SourceStop). StoppedSo s shape works.bytes works.given (is_ended worker.lines)) stops works.stopped;
   counted = subst (λ s. CountedSo (Some end.stop) count (faults s)) (sym source) (subst (λ (s : Option SourceStop). CountedSo s count (faults worker.source)) stops works.counted);
-  sent = handed_out (works.given ++ last_message (last_at end.stop) ∷ []) worker.outlets end.outputs.items sent (subst (λ (s : Option SourceStop). AllTotal (meant works.given s) worker.outlets) stops works.total);
+  sent = ends_sent (works.given ++ last_message (last_at end.stop) ∷ []) worker.outlets end.outputs.items sent (subst (λ (s : Option SourceStop). AllTotal (meant works.given s) worker.outlets) stops works.total);
 }

@@ -1,5 +1,6 @@
 -- What a turn comes to: a break that becomes pending, a round of puts, and then a round of takes.
 use Rattle.std.proofs.Common.{◌≡◌, ◌≢◌, ◌⊎◌, inl, inr, ℕ, zero, suc, ◌+◌, ◌<◌, Bool, true, false, true≢false, ◌||◌, List, [], ◌∷◌, ◌++◌, length, map, get_or, refl, sym, ◌∙◌, ap, subst, arith}
+use Rattle.std.proofs.lemmas.Bool.{or_parts}
 use Rattle.std.proofs.lemmas.List.{length-append, append-nil}
 use Rattle.cedr_base.specs.declared.change.Message.{Message}
 use Rattle.cedr_base.specs.declared.change.Message.TheVariants as message
@@ -9,7 +10,7 @@ use Rattle.cedr_laws.specs.Lawful.{is_over, all_over}
 use Rattle.cedr_node.specs.declared.node.Node.{Node}
 use Rattle.cedr_outlet.specs.Outgoing.{Outgoing}
 use Rattle.cedr_outlet.specs.Outlets.{AllTotal, PutSoFar, NonePending, SomePending, SomePut, SomeFull, AllOver, SomeOpen, total_of, bare, edge_of, sent_of}
-use Rattle.cedr_outlet.proofs.RoundLemmas.{map_ext, map_length, same_at, or_left, or_right}
+use Rattle.cedr_outlet.proofs.RoundLemmas.{map_ext, map_length, same_at}
 use Rattle.cedr_worker.proofs.TryLemmas.{all_tried, all_tried_before}
 use Rattle.cedr_worker.specs.Inputs.{TakenSoFar, KeptIn, Took, SomeTaken, AllEmpty, taken_of, taken_in, input_edge}
 use Rattle.cedr_worker.specs.Operators.{Works, MovedTurn, IdleTurn, TurnSteps, TurnDone}
@@ -177,8 +178,8 @@ module _ (old closed put new : List Outgoing) (inputs inputs' : List InEnd) (mov
 
   turn_idle : (moved || took) ≡ false → IdleTurn old new inputs inputs'
   turn_idle e =
-      let m = or_left moved took e in
-      let t = or_right moved took e in
+      let m = (or_parts moved took e).0 in
+      let t = (or_parts moved took e).1 in
       record {
         sent = bare_sent put new bares ∙ (puts_none closed put moved puts m ∙ bare_sent old closed closes);
         taken = idle_taken t pending refl;

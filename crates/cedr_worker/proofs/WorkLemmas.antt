@@ -22,7 +22,7 @@ use Rattle.cedr_runs.proofs.Partial.{prefixes_itself}
 use Rattle.cedr_stream.proofs.Legal.{may_come_in}
 use Rattle.cedr_worker.specs.Inputs.{taken_of, taken_in}
 use Rattle.cedr_worker.specs.Operators.{Sound, Lost, Works, with_break}
-use Rattle.op_planned.specs.Meanings.{meaning_of, port_levels}
+use Rattle.op_node.specs.Meanings.{meaning_of, port_levels}
 
 -- what a standing node gave is legal
 pub stands_given : (node : Node) (lists : Lists) (given : List Message) → NodeStands node lists given → IsLegal given

@@ -15,7 +15,7 @@ use Rattle.cedr_plan.specs.declared.plan.PlanNode.{PlanNode}
 use Rattle.cedr_runs.specs.Runs.{ArePrefixes}
 use Rattle.cedr_worker.specs.Inputs.{KeptIn, SomeTaken, AllEmpty, taken_in, input_edge}
 use Rattle.cedr_worker.specs.Tries.{AllTried}
-use Rattle.op_planned.specs.Meanings.{meaning_of, port_levels}
+use Rattle.op_node.specs.Meanings.{meaning_of, port_levels}
 
 -- the list, and a break after it
 abbrev pub with_break : Bool → List Message → List Message

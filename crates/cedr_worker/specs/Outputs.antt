@@ -12,7 +12,7 @@ use Rattle.cedr_history.specs.Lists.{Extends}
 use Rattle.cedr_laws.specs.Pass.{pass}
 use Rattle.cedr_node.specs.declared.node.Node.{Node}
 use Rattle.cedr_node.specs.Nodes.{made_of, NodeStands}
-use Rattle.cedr_plan.specs.Drawn.{kind_of, output}
+use Rattle.cedr_plan.specs.declared.plan.NodeKind.TheVariants as kind
 
 -- how messages end
 abbrev pub close_of : List Message → Close
@@ -50,7 +50,7 @@ pub record WholeOutput (node : Node) (taken : List Message) (list : Listed) : Ty
 -- with what is pending is the output's where memory was found. Where memory was lacking it is a beginning, as the
 -- published list always is: no mark is in it without the changes before that mark, and it isn't closed before its end.
 pub record Writes (node : Node) (taken : List Message) (w : Writing) (lacked pending : Bool) : Type 0 where
-  pub kind : kind_of (made_of node).kind ≡ output
+  pub kind : (made_of node).kind ≡ kind.Output
   pub legal : IsLegal taken
   pub found : lacked ≡ false → WholeOutput node taken w.all
   pub all : IsBeginning node taken w.all

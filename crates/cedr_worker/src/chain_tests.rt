@@ -81,7 +81,7 @@ fn a_select_behind_a_source_gives_the_rows_of_the_file(rt: HostRuntime) -> Resul
             } = chain_of(rt.alloc(), piece.max(1), room.clamp(1, 1024))?;
             let mut text = Vec::new(rt.alloc());
             let ended = turn_all(&rt, &mut source, &mut select, &mut last, &mut text)?;
-            assert!(rt; ended);
+            assert!(rt; ended, "pieces of {piece}, room {room}");
             assert_eq!(rt; text.as_slice(), SELECTED, "pieces of {piece}, room {room}");
         }
     }

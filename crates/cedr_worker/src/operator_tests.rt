@@ -3,7 +3,7 @@ ghost use Rattle.std.specs.List.{All};
 ghost use Rattle.cedr_edge.specs.Ends.{OutEnd};
 ghost use Rattle.cedr_node.specs.Nodes.{port_count, NodeStands};
 ghost use Rattle.cedr_plan.specs.Rules.{IsPlan};
-ghost use Rattle.msg_feed.specs.Came.{StandsFor};
+ghost use Rattle.cedr_testing.specs.Came.{StandsFor};
 ghost use Rattle.cedr_worker.specs.Workers.{IsWorking};
 
 use crate::{OperatorEnd, OperatorWorker, Turn};
@@ -12,9 +12,10 @@ use cedr_edge::{EdgeIn, EdgeOut, new_edge};
 use cedr_io::{Gate, OpenGate};
 use cedr_node::Node;
 use cedr_plan::{Plan, read_plan};
-use msg_feed::{Came, Told, message_of, tell};
-use op_planned::is_source;
+use cedr_testing::{Came, Told, message_of, tell};
+use op_node::is_source;
 use std::alloc::Global;
+use std::process::Abort;
 use std::sync::Wait;
 use std::sync::atomic::{AtomicU64, Ordering};
 use std::test::Fail;
@@ -205,7 +206,7 @@ fn perform<R: Wait>(
 }
 
 /// Does acts one after the other, each of which is to see what it wants.
-fn play<R: Wait>(
+fn play<R: Abort + Wait>(
     rt: &R,
     alloc: Global,
     worker: &mut OperatorWorker,
@@ -219,9 +220,7 @@ fn play<R: Wait>(
     ensures stands { OnOk result (StandsFor one.new.came one.new.out.sent) }
 {
     for i in 0..acts.len() {
-        if !perform(rt, alloc, worker, one, last, acts[i])? {
-            return Err("another turn or message is wanted")?;
-        }
+        assert!(rt; perform(rt, alloc, worker, one, last, acts[i])?, "act {i}");
     }
     Ok(())
 }
@@ -323,7 +322,8 @@ const SELECTED: [Told; 6] = [
     Told::End,
 ];
 
-fn selects<R: Wait>(rt: &R, alloc: Global, room: bool) -> Result<bool, Fail> {
+/// A select whose edges have room for one message, or for many, hands on the rows that pass.
+fn check_select<R: Abort + Wait>(rt: &R, alloc: Global, room: bool) -> Result<(), Fail> {
     let One {
         worker,
         feed: mut one,
@@ -331,25 +331,22 @@ fn selects<R: Wait>(rt: &R, alloc: Global, room: bool) -> Result<bool, Fail> {
     } = select(alloc, room)?;
     feed_all(rt, alloc, &mut one, &ROWS)?;
     let end = drive(rt, worker, &mut last, &SELECTED)?;
-    Ok(
-        end.ran.number() == 1
-            && end.ran.taken() == 7
-            && end.ran.put() == 6
-            && !end.lacked
-            && end.node.ended(),
-    )
+    assert_eq!(rt;
+        (end.ran.number(), end.ran.taken(), end.ran.put()),
+        (1, 7, 6)
+    );
+    assert_eq!(rt; (end.lacked, end.node.ended()), (false, true));
+    Ok(())
 }
 
 #[test]
 fn a_select_over_edges_for_one_message(rt: HostRuntime) -> Result<(), Fail> {
-    assert!(rt; selects(&rt, rt.alloc(), false)?);
-    Ok(())
+    check_select(&rt, rt.alloc(), false)
 }
 
 #[test]
 fn a_select_over_wide_edges(rt: HostRuntime) -> Result<(), Fail> {
-    assert!(rt; selects(&rt, rt.alloc(), true)?);
-    Ok(())
+    check_select(&rt, rt.alloc(), true)
 }
 
 #[test]
@@ -365,7 +362,7 @@ fn a_run_goes_on_to_the_end(rt: HostRuntime) -> Result<(), Fail> {
     let end = worker.finish();
     assert_eq!(rt; end.ran.put(), 6);
     for told in SELECTED {
-        assert!(rt; says(&rt, &mut last, told));
+        assert!(rt; says(&rt, &mut last, told), "{told:?}");
     }
     Ok(())
 }
@@ -393,7 +390,7 @@ fn a_turn_passes_the_gate_once(rt: HostRuntime) -> Result<(), Fail> {
 }
 
 /// The left input breaks, and the right one goes on and ends. What is left of the worker.
-fn break_left<R: Wait>(
+fn break_left<R: Abort + Wait>(
     rt: &R,
     alloc: Global,
     mut worker: OperatorWorker,

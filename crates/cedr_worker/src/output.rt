@@ -3,7 +3,7 @@ ghost use Rattle.cedr_edge.specs.Ends.{told};
 ghost use Rattle.cedr_history.specs.Lists.{nothing, Extends};
 ghost use Rattle.cedr_laws.specs.Lawful.{is_over};
 ghost use Rattle.cedr_node.specs.Nodes.{made_of, NodeStands};
-ghost use Rattle.cedr_plan.specs.Drawn.{kind_of, output};
+ghost use Rattle.cedr_plan.specs.declared.plan.NodeKind.TheVariants as kind;
 ghost use Rattle.cedr_worker.specs.declared.turn.Turn.TheVariants.{Moved, Idle, Ended};
 ghost use Rattle.cedr_worker.specs.Inputs.{Asked, KeptIn};
 ghost use Rattle.cedr_worker.specs.Outputs.{passed_by, output_list, IsBeginning};
@@ -65,7 +65,7 @@ impl OutputWorker {
         input: EdgeIn,
         writer: Writer,
     ) -> OutputWorker
-        requires kind { kind_of (made_of node).kind ≡ output }
+        requires kind { (made_of node).kind ≡ kind.Output }
         requires stands { NodeStands node ([] ∷ []) [] }
         requires taken { input.taken ≡ [] }
         requires writer { (writer.published ≡ nothing) × (writer.all ≡ nothing) × (writer.told ≡ false) }

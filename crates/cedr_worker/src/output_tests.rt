@@ -1,10 +1,10 @@
 ghost use Rattle.std.specs.Prelude.{◌≡◌, ◌≤◌, ℕ, List, [], ◌∷◌, Option, IfOk, IfSome, OnOk};
 ghost use Rattle.std.specs.Thread.{IsSync};
 ghost use Rattle.cedr_node.specs.Nodes.{made_of, NodeStands};
-ghost use Rattle.cedr_plan.specs.Drawn.{kind_of, output};
+ghost use Rattle.cedr_plan.specs.declared.plan.NodeKind.TheVariants as kind;
 ghost use Rattle.cedr_plan.specs.Rules.{IsPlan};
 ghost use Rattle.cedr_text.specs.declared.event_line.Shape.{Shape as Lined};
-ghost use Rattle.msg_feed.specs.Came.{StandsFor};
+ghost use Rattle.cedr_testing.specs.Came.{StandsFor};
 ghost use Rattle.cedr_worker.specs.OutputTurns.{OutputWorks, HasEnded};
 ghost use Rattle.cedr_worker.specs.Sources.{SourceWorks};
 
@@ -16,9 +16,10 @@ use cedr_history::{Close, Note, Reader, Seen, new_history};
 use cedr_io::{OpenGate, Source};
 use cedr_node::Node;
 use cedr_plan::{NodeKind, Plan, read_plan};
+use cedr_testing::{Told, tell_change};
 use cedr_text::Shape;
-use msg_feed::{Told, tell_change};
 use std::alloc::Global;
+use std::process::Abort;
 use std::sync::Wait;
 use std::sync::atomic::{AtomicU64, Ordering};
 use std::test::Fail;
@@ -36,7 +37,7 @@ pub(crate) const STRONG: &str = r#"{"version":1,"nodes":[
 /// The node of the output at a place of a plan.
 fn output_at(alloc: Global, plan: &Plan, place: usize) -> Result<Node, Fail>
     requires { IsPlan plan.now }
-    ensures { IfOk result (λ node. (kind_of (made_of node).kind ≡ output) × NodeStands node ([] ∷ []) []) }
+    ensures { IfOk result (λ node. ((made_of node).kind ≡ kind.Output) × NodeStands node ([] ∷ []) []) }
 {
     if place >= plan.nodes.len() {
         return Err("there is no such node")?;
@@ -53,7 +54,7 @@ fn output_at(alloc: Global, plan: &Plan, place: usize) -> Result<Node, Fail>
 
 /// The node of the output of the plan that a text describes, which has one source besides.
 pub(crate) fn read_output(alloc: Global, text: &str) -> Result<Node, Fail>
-    ensures { IfOk result (λ node. (kind_of (made_of node).kind ≡ output) × NodeStands node ([] ∷ []) []) }
+    ensures { IfOk result (λ node. ((made_of node).kind ≡ kind.Output) × NodeStands node ([] ∷ []) []) }
 {
     let plan = read_plan(alloc, text.as_bytes())?;
     output_at(alloc, &plan, 1)
@@ -141,7 +142,7 @@ fn perform<R: Wait>(
 }
 
 /// Does acts one after the other, each of which is to see what it wants.
-fn play<R: Wait>(
+fn play<R: Abort + Wait>(
     rt: &R,
     alloc: Global,
     made: &mut Made,
@@ -152,15 +153,13 @@ fn play<R: Wait>(
     requires stands { StandsFor made.old.one.came made.old.one.out.sent }
 {
     for i in 0..acts.len() {
-        if !perform(rt, alloc, made, wanted, acts[i])? {
-            return Err("another turn or list is wanted")?;
-        }
+        assert!(rt; perform(rt, alloc, made, wanted, acts[i])?, "act {i}");
     }
     Ok(())
 }
 
 /// Plays acts with a new output.
-fn played<R: Wait>(
+fn played<R: Abort + Wait>(
     rt: &R,
     alloc: Global,
     text: &str,

@@ -187,10 +187,13 @@ fn a_source_sends_the_messages_of_its_lines_and_the_end(rt: HostRuntime) -> Resu
                 MESSAGES,
                 "pieces of {piece}, room {room}"
             );
-            assert_eq!(rt; sent.stop, SourceStop::Closed);
-            assert_eq!(rt; sent.ran.number(), 3);
-            assert_eq!(rt; sent.ran.taken(), 0);
-            assert_eq!(rt; sent.ran.put(), 4);
+            assert_eq!(rt;
+                sent.stop,
+                SourceStop::Closed,
+                "pieces of {piece}, room {room}"
+            );
+            let ran = (sent.ran.number(), sent.ran.taken(), sent.ran.put());
+            assert_eq!(rt; ran, (3, 0, 4), "pieces of {piece}, room {room}");
         }
     }
     Ok(())
@@ -216,13 +219,18 @@ fn a_source_with_a_faulty_line_is_broken_there(rt: HostRuntime) -> Result<(), Fa
             1000,
             1,
         )?;
-        assert_eq!(rt; sent.text.as_slice(), b"+,1,10,a\nbroken\n".as_slice());
+        assert_eq!(rt;
+            sent.text.as_slice(),
+            b"+,1,10,a\nbroken\n".as_slice(),
+            "pieces of {piece}"
+        );
         assert_eq!(rt;
             sent.stop,
             SourceStop::Refused {
                 line: 3,
                 fault: LineFault::UnknownId
-            }
+            },
+            "pieces of {piece}"
         );
     }
     Ok(())

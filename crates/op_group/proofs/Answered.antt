@@ -9,7 +9,7 @@ use Rattle.cedr_base.specs.declared.field.Field.{Field}
 use Rattle.cedr_base.specs.declared.row.Row.{Row}
 use Rattle.cedr_base.specs.declared.change.Change.{Change}
 use Rattle.cedr_base.specs.declared.change.Change.TheVariants.{Add, Cut}
-use Rattle.cedr_base.specs.Changes.{IsChange, MayFollow, sync_of}
+use Rattle.cedr_base.specs.Changes.{IsChange, MayFollow, sync_of, changed_row}
 use Rattle.cedr_base.specs.Rows.{AreRows}
 use Rattle.cedr_stream.specs.Repairs.{IsMoved}
 use Rattle.cedr_stream.proofs.Moves.{may_is}
@@ -18,20 +18,22 @@ use Rattle.op_group.specs.declared.segment.Segment.{Segment}
 use Rattle.op_group.specs.declared.points.CutPoint.{CutPoint}
 use Rattle.op_group.specs.Groups.{Grouping, key_of, same_payload, rows_of}
 use Rattle.op_group.specs.Cuts.{segment_at}
-use Rattle.op_group.specs.Points.{has_point, Follows}
+use Rattle.op_group.specs.declared.points.Touched.{Touched}
+use Rattle.op_group.specs.Points.{has_point, Had, Follows}
 use Rattle.op_group.specs.Cuts.{one_at}
 use Rattle.op_group.specs.Measures.{edge_at, edges_of}
 use Rattle.op_group.specs.TimeLaws.{above_test, one_elsewhere, false_not_true}
-use Rattle.op_group.specs.BoundLaws.{last_of, Untouched, untouched_sums, same_outside}
+use Rattle.op_group.specs.LawWords.{last_of, Untouched}
+use Rattle.op_group.specs.BoundLaws.{untouched_sums, same_outside}
 use Rattle.cedr_base.specs.Order.{payload_cmp}
 use Rattle.cedr_stream.proofs.Moves.{sum_by-moved}
 use Rattle.op_group.proofs.SinceLemmas.{cut_since}
 use Rattle.op_group.specs.GroupLaws.{payload_exact, payload_itself}
-use Rattle.op_group.specs.State.{ShowsFrom, ShowsRows, KeepsGroups, NoneEmpty, IsPassed, Answers, cuts_of, row_of}
+use Rattle.op_group.specs.State.{ShowsFrom, ShowsRows, KeepsGroups, NoneEmpty, IsPassed, Answers, cuts_of}
 use Rattle.op_group.proofs.GroupRepairs.{group_moves, group_follows, rows_of_are, other_shows}
 
 -- the last time that a change touches is the end of its row
-pub last_row : (c : Change) → (row_of c).end ≡ last_of c
+pub last_row : (c : Change) → (changed_row c).end ≡ last_of c
 last_row (Add r) = refl
 last_row (Cut r e) = refl
 
@@ -65,7 +67,7 @@ same_edges : (c : Change) (old new : List Row) (t : ℕ) → IsChange c → IsMo
 same_edges c old new t is moved first last = omega (arith, sum_by-moved (edge_at t) c old new moved.sums, untouched_sums (edge_at t) c (edges_elsewhere t c is first last))
 
 -- a change is seen before the last time that it touches
-seen_before : (c : Change) → IsChange c → sync_of c < last_of c
+pub seen_before : (c : Change) → IsChange c → sync_of c < last_of c
 seen_before (Add a) is = is.lives
 seen_before (Cut a e) is = is.2
 
@@ -94,14 +96,14 @@ module _ (key : List Field) (before between after : List (List Field × BTreeMap
   own_at other h = back other ∙ ap (λ b. cond b cuts' (cuts_of between other)) h
 
   module _ (g : Grouping) (c : Change) (old new : List Row) (mark : ℕ) (all all' due due' : List CutPoint)
-      (own : key ≡ key_of g (row_of c)) (may : MayFollow old [] c) (moved : IsMoved c old new) (late : mark ≤ sync_of c)
+      (own : key ≡ key_of g (changed_row c)) (may : MayFollow old [] c) (moved : IsMoved c old new) (late : mark ≤ sync_of c)
       (change : (xs ys : List Row) (m from : ℕ) → ShowsFrom g.sums m from cuts xs → MayFollow xs [] c → IsMoved c xs ys → m ≤ sync_of c → ShowsFrom g.sums m from cuts' ys)
       (follows_all : Follows all all' key cuts' (sync_of c) (last_of c)) (follows_due : Follows due due' key cuts' (sync_of c) (last_of c))
       (keeps : KeepsGroups g before all due old mark) where
     is : IsChange c
     is = may_is old [] c may
 
-    own_test : same_payload key (key_of g (row_of c)) ≡ true
+    own_test : same_payload key (key_of g (changed_row c)) ≡ true
     own_test = ap (same_payload key) (sym own) ∙ payload_itself key
 
     group_moved : IsMoved c (rows_of g key old) (rows_of g key new)
@@ -122,7 +124,7 @@ module _ (key : List Field) (before between after : List (List Field × BTreeMap
       shown = subst (λ cs. ShowsFrom g.sums mark (keeps.shown key).from cs (rows_of g other new)) (sym (own_at other h)) (subst (λ k. ShowsFrom g.sums mark (keeps.shown key).from cuts' (rows_of g k new)) (payload_exact key other h) shown_new);
     }
     shown_at other false h =
-        let apart : same_payload other (key_of g (row_of c)) ≡ false = ap (same_payload other) (sym own) ∙ turned_test key other (same_payload other key) refl h in
+        let apart : same_payload other (key_of g (changed_row c)) ≡ false = ap (same_payload other) (sym own) ∙ turned_test key other (same_payload other key) refl h in
         record {
           from = (keeps.shown other).from;
           shown = subst (λ cs. ShowsFrom g.sums mark (keeps.shown other).from cs (rows_of g other new)) (sym (other_at other h)) (other_shows g other c old new mark (keeps.shown other).from (cuts_of before other) apart moved (keeps.shown other).shown);
@@ -184,17 +186,39 @@ module _ (key : List Field) (before between after : List (List Field × BTreeMap
         ordered_at other false h = subst (λ cs. IsStrictlySortedBy nat_cmp (keys_of cs)) (sym (other_at other h)) (keeps.ordered other)
 
 -- the group's answer, from the whole table
-pub own_answers : (key : List Field) (before : List (List Field × BTreeMap ℕ Segment)) (cuts : List (ℕ × Segment)) → cuts ≡ cuts_of before key → (g : Grouping) (c : Change) (old new : List Row) (mark : ℕ) (all due : List CutPoint) (outs outs' : List Change) → key ≡ key_of g (row_of c)
+pub own_answers : (key : List Field) (before : List (List Field × BTreeMap ℕ Segment)) (cuts : List (ℕ × Segment)) → cuts ≡ cuts_of before key → (g : Grouping) (c : Change) (old new : List Row) (mark : ℕ) (all due : List CutPoint) (outs outs' : List Change) → key ≡ key_of g (changed_row c)
     → ((xs ys : List Row) (m from : ℕ) → ShowsFrom g.sums m from cuts xs → MayFollow xs [] c → IsMoved c xs ys → m ≤ sync_of c → AreRows xs → AreRows ys → Answers g.counted g.sums key xs ys outs outs')
-    → KeepsGroups g before all due old mark → MayFollow old [] c → IsMoved c old new → mark ≤ sync_of c → AreRows old → Answers g.counted g.sums (key_of g (row_of c)) (rows_of g (key_of g (row_of c)) old) (rows_of g (key_of g (row_of c)) new) outs outs'
+    → KeepsGroups g before all due old mark → MayFollow old [] c → IsMoved c old new → mark ≤ sync_of c → AreRows old → Answers g.counted g.sums (key_of g (changed_row c)) (rows_of g (key_of g (changed_row c)) old) (rows_of g (key_of g (changed_row c)) new) outs outs'
 own_answers key before cuts out g c old new mark all due outs outs' own answers keeps may moved late are =
-    let test : same_payload key (key_of g (row_of c)) ≡ true = ap (same_payload key) (sym own) ∙ payload_itself key in
+    let test : same_payload key (key_of g (changed_row c)) ≡ true = ap (same_payload key) (sym own) ∙ payload_itself key in
     subst (λ k. Answers g.counted g.sums k (rows_of g k old) (rows_of g k new) outs outs') own
     (answers (rows_of g key old) (rows_of g key new) mark (keeps.shown key).from (subst (λ cs. ShowsFrom g.sums mark (keeps.shown key).from cs (rows_of g key old)) (sym out) (keeps.shown key).shown) (group_follows g key c old test may) (group_moves g key c old new test moved) late
     (rows_of_are g key old are) (rows_of_are g key new (moved_are c old new (may_is old [] c may) moved are)))
 
+module _ (g : Grouping) (groups : List (List Field × BTreeMap ℕ Segment)) (all due : List CutPoint) (rows : List Row) (mark : ℕ) (key : List Field) (cuts : List (ℕ × Segment))
+    (keeps : KeepsGroups g groups all due rows mark) (out : cuts ≡ cuts_of groups key) where
+  all_at : (t : ℕ) (was : Bool) → was ≡ is_some (segment_at t cuts) → has_point all t key ≡ was
+  all_at t was is = keeps.entered t key ∙ (ap (λ cs. is_some (segment_at t cs)) (sym out) ∙ sym is)
+
+  due_at : (t : ℕ) (b d : Bool) → mark ≤ t → has_point all t key ≡ b → has_point due t key ≡ d → has_point due t key ≡ b
+  due_at t true true late there is = is
+  due_at t false true late there is = absurd (false_not_true (has_point all t key) there (keeps.still t key is))
+  due_at t true false late there is = let past = (keeps.passed t key there is).past in absurd (omega arith)
+  due_at t false false late there is = is
+
+  -- the set of all cut points had those of a group at two times as the group's map had them
+  pub all_had : (first last : ℕ) (was : Touched) → was.first ≡ is_some (segment_at first cuts) → was.last ≡ is_some (segment_at last cuts) → Had all key first last was
+  all_had first last was one two = (all_at first was.first one, all_at last was.last two)
+
+  -- and so, from the mark on, had the set of those that no mark has passed
+  pub due_had : (first last : ℕ) (was : Touched) → mark ≤ first → first < last → was.first ≡ is_some (segment_at first cuts) → was.last ≡ is_some (segment_at last cuts) → Had due key first last was
+  due_had first last was late ascend one two = (
+    due_at first was.first _ late (all_at first was.first one) refl,
+    due_at last was.last _ (omega arith) (all_at last was.last two) refl,
+  )
+
 -- a set follows a change at its two times
-pub follows_change : (old new : List CutPoint) (key : List Field) (cuts : List (ℕ × Segment)) (c : Change) (first : ℕ) (r : Row) → first ≡ sync_of c → r ≡ row_of c → Follows old new key cuts first r.end → Follows old new key cuts (sync_of c) (last_of c)
+pub follows_change : (old new : List CutPoint) (key : List Field) (cuts : List (ℕ × Segment)) (c : Change) (first : ℕ) (r : Row) → first ≡ sync_of c → r ≡ changed_row c → Follows old new key cuts first r.end → Follows old new key cuts (sync_of c) (last_of c)
 follows_change old new key cuts c first r e f h =
     let end : r.end ≡ last_of c = ap (λ (x : Row). x.end) f ∙ last_row c in
     subst (λ (n : ℕ). Follows old new key cuts n (last_of c)) e (subst (λ (n : ℕ). Follows old new key cuts first n) end h)

@@ -7,7 +7,7 @@ use Rattle.cedr_base.specs.declared.row.Row.{Row}
 use Rattle.cedr_base.specs.declared.change.Change.{Change}
 use Rattle.cedr_base.specs.declared.change.Change.TheVariants.{Add, Cut}
 use Rattle.cedr_base.specs.Rows.{IsRow, AreRows, one_if_same, count_of}
-use Rattle.cedr_base.specs.Changes.{IsChange, sync_of, puts, takes, MayFollow}
+use Rattle.cedr_base.specs.Changes.{IsChange, sync_of, puts, takes, MayFollow, changed_row}
 use Rattle.cedr_base.proofs.Bags.{count_of-append, one_of_itself}
 use Rattle.cedr_stream.specs.Repairs.{IsMoved, Repair}
 use Rattle.cedr_stream.proofs.BagSums.{sum_by-without}
@@ -18,9 +18,10 @@ use Rattle.op_group.specs.Groups.{Grouping, number_at, key_of, same_payload, row
 use Rattle.op_group.specs.Cuts.{differences}
 use Rattle.op_group.specs.Measures.{edge_at, part_at, is_cut_of, key_in, IsMade}
 use Rattle.op_group.specs.SegmentLaws.{sum_by-filter, segments_are, segment_fits}
-use Rattle.op_group.specs.GroupLaws.{payload_exact, payload_itself, fits_key, grouped_count, made_from_there, there_from_made, SameAt, same_at, count_alike}
-use Rattle.op_group.specs.BoundLaws.{open_below, open_at, test_open, was_open, same_outside, keyed, untouched_sums, Untouched}
-use Rattle.op_group.specs.State.{ShowsFrom, asked, Turned, row_of}
+use Rattle.op_group.specs.GroupLaws.{payload_exact, payload_itself, fits_key, grouped_count, made_from_there, there_from_made, same_at, count_alike}
+use Rattle.op_group.specs.LawWords.{Untouched, keyed, SameAt}
+use Rattle.op_group.specs.BoundLaws.{open_below, open_at, test_open, was_open, same_outside, untouched_sums}
+use Rattle.op_group.specs.State.{ShowsFrom, asked, Turned}
 use Rattle.op_group.specs.StateLaws.{from_alike}
 use Rattle.cedr_table.proofs.RowsLemmas.{fewer_are, moved_are}
 use Rattle.op_group.proofs.Turning.{edges_are_times}
@@ -38,7 +39,7 @@ rows_of_are g key rows are = fewer_are (rows_of g key rows) rows (λ r there. om
     fewer r xs = Rattle.std.proofs.lemmas.List.Sums.sum_by-le-sum_by (λ x. cond (same_payload key (key_of g x)) (one_if_same r x) 0) (one_if_same r) xs (λ x. fewer_at r x (same_payload key (key_of g x)))
 
 -- each row of a change has the same key
-keyed_one : (g : Grouping) (key : List Field) (w : Row → ℕ) (c : Change) → same_payload key (key_of g (row_of c)) ≡ true → (sum_by (keyed g key w) (takes c) ≡ sum_by w (takes c)) × (sum_by (keyed g key w) (puts c) ≡ sum_by w (puts c))
+keyed_one : (g : Grouping) (key : List Field) (w : Row → ℕ) (c : Change) → same_payload key (key_of g (changed_row c)) ≡ true → (sum_by (keyed g key w) (takes c) ≡ sum_by w (takes c)) × (sum_by (keyed g key w) (puts c) ≡ sum_by w (puts c))
 keyed_one g key w (Add a) same = (refl, omega (arith, ap (λ b. cond b (w a) 0) same))
 keyed_one g key w (Cut a e) same = (
   omega (arith, ap (λ b. cond b (w a) 0) same),
@@ -49,7 +50,7 @@ keyed_one g key w (Cut a e) same = (
 )
 
 -- a change of a table changes its row's group
-pub group_moves : (g : Grouping) (key : List Field) (c : Change) (old new : List Row) → same_payload key (key_of g (row_of c)) ≡ true → IsMoved c old new → IsMoved c (rows_of g key old) (rows_of g key new)
+pub group_moves : (g : Grouping) (key : List Field) (c : Change) (old new : List Row) → same_payload key (key_of g (changed_row c)) ≡ true → IsMoved c old new → IsMoved c (rows_of g key old) (rows_of g key new)
 group_moves g key c old new same moved = record {
   sums = record {
     each = λ r.
@@ -68,18 +69,18 @@ group_moves g key c old new same moved = record {
 }
 
 -- and what may follow in the table may follow in the group
-pub group_follows : (g : Grouping) (key : List Field) (c : Change) (old : List Row) → same_payload key (key_of g (row_of c)) ≡ true → MayFollow old [] c → MayFollow (rows_of g key old) [] c
+pub group_follows : (g : Grouping) (key : List Field) (c : Change) (old : List Row) → same_payload key (key_of g (changed_row c)) ≡ true → MayFollow old [] c → MayFollow (rows_of g key old) [] c
 group_follows g key (Add a) old same may = may
 group_follows g key (Cut a e) old same may =
     let there : 0 < count_of a old = let h = may.1 in omega arith in
     (may.0, (let one = sum_by-without (keyed g key (one_if_same a)) a old there in omega (arith, one, sum_by-filter (one_if_same a) (λ x. same_payload key (key_of g x)) old, ap (λ b. cond b (one_if_same a a) 0) same, one_of_itself a)))
 
 -- a change doesn't touch the other groups
-other_untouched : (g : Grouping) (key : List Field) (w : Row → ℕ) (c : Change) → same_payload key (key_of g (row_of c)) ≡ false → Untouched (keyed g key w) c
+other_untouched : (g : Grouping) (key : List Field) (w : Row → ℕ) (c : Change) → same_payload key (key_of g (changed_row c)) ≡ false → Untouched (keyed g key w) c
 other_untouched g key w (Add a) other = ap (λ b. cond b (w a) 0) other
 other_untouched g key w (Cut a e) other = (λ lives. ap (λ b. cond b (w a) 0) other ∙ sym (ap (λ b. cond b (w (record a { end = e })) 0) other), λ gone. ap (λ b. cond b (w a) 0) other)
 
-other_sum : (g : Grouping) (key : List Field) (w : Row → ℕ) (c : Change) (old new : List Row) → same_payload key (key_of g (row_of c)) ≡ false → IsMoved c old new → sum_by w (rows_of g key old) ≡ sum_by w (rows_of g key new)
+other_sum : (g : Grouping) (key : List Field) (w : Row → ℕ) (c : Change) (old new : List Row) → same_payload key (key_of g (changed_row c)) ≡ false → IsMoved c old new → sum_by w (rows_of g key old) ≡ sum_by w (rows_of g key new)
 other_sum g key w c old new other moved = omega (
   arith,
   sum_by-filter w (λ x. same_payload key (key_of g x)) old,
@@ -89,11 +90,11 @@ other_sum g key w c old new other moved = omega (
 )
 
 -- a change leaves each group of another key the same at each time
-pub other_same : (g : Grouping) (key : List Field) (c : Change) (old new : List Row) (t : ℕ) → same_payload key (key_of g (row_of c)) ≡ false → IsMoved c old new → SameAt g key old new t
+pub other_same : (g : Grouping) (key : List Field) (c : Change) (old new : List Row) (t : ℕ) → same_payload key (key_of g (changed_row c)) ≡ false → IsMoved c old new → SameAt g key old new t
 other_same g key c old new t other moved = same_at g key old new t (other_sum g key (edge_at t) c old new other moved) (other_sum g key (part_at (λ _. 1) t) c old new other moved) (λ column. other_sum g key (part_at (number_at column) t) c old new other moved)
 
 -- a map that shows another group goes on showing it
-pub other_shows : (g : Grouping) (key : List Field) (c : Change) (old new : List Row) (mark from : ℕ) (cuts : List (ℕ × Segment)) → same_payload key (key_of g (row_of c)) ≡ false → IsMoved c old new → ShowsFrom g.sums mark from cuts (rows_of g key old) → ShowsFrom g.sums mark from cuts (rows_of g key new)
+pub other_shows : (g : Grouping) (key : List Field) (c : Change) (old new : List Row) (mark from : ℕ) (cuts : List (ℕ × Segment)) → same_payload key (key_of g (changed_row c)) ≡ false → IsMoved c old new → ShowsFrom g.sums mark from cuts (rows_of g key old) → ShowsFrom g.sums mark from cuts (rows_of g key new)
 other_shows g key c old new mark from cuts other moved shows = from_alike g.sums mark from cuts (rows_of g key old) (rows_of g key new)
     (λ t. (other_same g key c old new t other moved).edges) (λ t. (other_same g key c old new t other moved).living) (λ t. (other_same g key c old new t other moved).sums) shows
 
@@ -114,7 +115,7 @@ made_is_row g rows r are made =
     record { lives = order; begins = omega arith; ends = time }
 
 module _ (g : Grouping) (key : List Field) (c : Change) (old new : List Row) (mark : ℕ) (olds news : List Row)
-    (own : key ≡ key_of g (row_of c)) (is : IsChange c) (moved : IsMoved c old new) (from : mark ≤ sync_of c) (old_rows : AreRows old)
+    (own : key ≡ key_of g (changed_row c)) (is : IsChange c) (moved : IsMoved c old new) (from : mark ≤ sync_of c) (old_rows : AreRows old)
     (turned : Turned g.counted g.sums key (rows_of g key old) (rows_of g key new) olds news) where
   new_rows : AreRows new
   new_rows = moved_are c old new is moved old_rows
@@ -141,7 +142,7 @@ module _ (g : Grouping) (key : List Field) (c : Change) (old new : List Row) (ma
       omega (arith, turned.others r, own_count old r same, own_count new r same)
   sums_at r false h =
       let apart : key_in g r ≡ key → ⊥ = λ e. let k : true ≡ false = sym (payload_itself (key_in g r)) ∙ (ap (same_payload (key_in g r)) e ∙ h) in cc in
-      let other : same_payload (key_in g r) (key_of g (row_of c)) ≡ false = ap (same_payload (key_in g r)) (sym own) ∙ h in
+      let other : same_payload (key_in g r) (key_of g (changed_row c)) ≡ false = ap (same_payload (key_in g r)) (sym own) ∙ h in
       let none : count_of r olds ≡ 0 = elim (cases_lt 0 (count_of r olds)) [ inl there ↦ absurd (apart (old_key r there)) | inr gone ↦ omega arith ] in
       let nothing : count_of r news ≡ 0 = elim (cases_lt 0 (count_of r news)) [ inl there ↦ absurd (apart (new_key r there)) | inr gone ↦ omega arith ] in
       omega (arith, none, nothing, count_alike g old new r (λ t over under. other_same g (key_in g r) c old new t other moved))

@@ -1,5 +1,6 @@
 -- Cut points in sets, and in the maps that they are of.
 use Rattle.std.proofs.Common.{◌≡◌, ℕ, ◌<◌, ◌≤◌, inl, inr, List, [], ◌∷◌, length, Bool, true, false, cond, Option, Some, None, not, refl, ap, sym, ◌∙◌, subst, arith}
+use mathlib.Core.Bool.{beq}
 use Rattle.std.specs.Prelude.{nat_eq, ◌&&◌, ◌||◌, is_some, IfSome, IsTrue, slice_get}
 use Rattle.std.specs.List.{list_any}
 use Rattle.std.specs.BTreeMap.{is_at}
@@ -143,10 +144,30 @@ pub none_in_empty : (points : List CutPoint) (t : ℕ) (key : List Field) → (0
 none_in_empty [] t key none there = cc
 none_in_empty (p ∷ points) t key none there = none (omega arith)
 
--- a set that has a cut point has it in place
-pub in_place : (points : List CutPoint) (at : ℕ) (key : List Field) → has_point points at key ≡ true → Places points points at key true
-in_place points at key there t other = place_at (nat_eq at t) (same_payload key other) refl refl where
-  place_at : (e s : Bool) → nat_eq at t ≡ e → same_payload key other ≡ s → has_point points t other ≡ cond (e && s) true (has_point points t other)
+-- a set that has a cut point, or lacks it, is as if it had been placed so
+pub in_place : (points : List CutPoint) (at : ℕ) (key : List Field) (was : Bool) → has_point points at key ≡ was → Places points points at key was
+in_place points at key was there t other = place_at (nat_eq at t) (same_payload key other) refl refl where
+  place_at : (e s : Bool) → nat_eq at t ≡ e → same_payload key other ≡ s → has_point points t other ≡ cond (e && s) was (has_point points t other)
   place_at true true is same = ap (λ n. has_point points n other) (sym (eqb-true at t is)) ∙ (ap (λ k. has_point points at k) (sym (payload_exact key other same)) ∙ there)
   place_at true false is same = refl
   place_at false s is same = refl
+
+-- where one cut point is placed, a later one stays as it was
+pub placed_before : (old new : List CutPoint) (at last : ℕ) (key : List Field) (there : Bool) → at < last → Places old new at key there → has_point new last key ≡ has_point old last key
+placed_before old new at last key there before places = places last key ∙ ap (λ b. cond (b && same_payload key key) there (has_point old last key)) (below_test at last before)
+
+-- two answers that are the same
+pub told_same : (was there : Bool) → beq was there ≡ true → was ≡ there
+told_same true true h = refl
+told_same false false h = refl
+told_same true false h = cc
+told_same false true h = cc
+
+-- two answers that aren't
+pub told_other : (was b there : Bool) → was ≡ b → beq was there ≡ false → not b ≡ there
+told_other true true false h k = refl
+told_other false false true h k = refl
+told_other true b true h k = cc
+told_other false b false h k = cc
+told_other true false there h k = cc
+told_other false true there h k = cc

@@ -8,7 +8,7 @@ use Rattle.cedr_base.specs.declared.field.Field.{Field}
 use Rattle.cedr_base.specs.declared.row.Row.{Row}
 use Rattle.cedr_base.specs.declared.change.Change.{Change}
 use Rattle.cedr_base.specs.Order.{payload_cmp}
-use Rattle.cedr_base.specs.Changes.{MayFollow, sync_of}
+use Rattle.cedr_base.specs.Changes.{MayFollow, sync_of, changed_row}
 use Rattle.cedr_base.specs.Rows.{AreRows}
 use Rattle.cedr_stream.specs.Repairs.{IsMoved}
 use Rattle.cedr_stream.proofs.Moves.{may_is}
@@ -20,8 +20,8 @@ use Rattle.op_group.specs.declared.points.Points.{Points}
 use Rattle.op_group.specs.Groups.{Grouping, key_of, rows_of, grouped, open_from}
 use Rattle.op_group.specs.Cuts.{differences}
 use Rattle.op_group.specs.Measures.{sums_of}
-use Rattle.op_group.specs.StateLaws.{shown_as}
-use Rattle.op_group.specs.State.{KeepsGroups, Answers, StandsForGroups, row_of}
+use Rattle.op_group.specs.LawWords.{shown_as}
+use Rattle.op_group.specs.State.{KeepsGroups, Answers, StandsForGroups}
 use Rattle.op_group.proofs.GroupRepairs.{group_repairs}
 
 -- on the only port
@@ -61,18 +61,18 @@ stands_after g groups groups' points points' tables marks port c after g' same k
 
 -- and what was appended repairs the result
 pub gains_after : (g : Grouping) (groups : List (List Field × BTreeMap ℕ Segment)) (points : Points) (tables : Tables) (marks : List ℕ) (port : ℕ) (c : Change) (after : List Row) (outs outs' : List Change)
-    → (g' : Grouping) → g' ≡ g → ((old new : List Row) (mark : ℕ) → KeepsGroups g' groups points.all.keys points.due.keys old mark → MayFollow old [] c → IsMoved c old new → mark ≤ sync_of c → AreRows old → Answers g'.counted g'.sums (key_of g' (row_of c)) (rows_of g' (key_of g' (row_of c)) old) (rows_of g' (key_of g' (row_of c)) new) outs outs')
+    → (g' : Grouping) → g' ≡ g → ((old new : List Row) (mark : ℕ) → KeepsGroups g' groups points.all.keys points.due.keys old mark → MayFollow old [] c → IsMoved c old new → mark ≤ sync_of c → AreRows old → Answers g'.counted g'.sums (key_of g' (changed_row c)) (rows_of g' (key_of g' (changed_row c)) old) (rows_of g' (key_of g' (changed_row c)) new) outs outs')
     → StandsForGroups g groups points tables marks → CanTake tables marks port c → IsMoved c (table_at tables port) after
     → Gains (grouped g (table_at tables 0)) (grouped g (table_at (with_table tables port after) 0)) (open_from (mark_at marks 0) (grouped g (table_at tables 0))) outs outs'
 gains_after g groups points tables marks port c after outs outs' g' same answers stands can moved =
     let one = on_one tables marks port c after stands.table can moved in
-    let answer = subst (λ (k : Grouping). Answers k.counted k.sums (key_of k (row_of c)) (rows_of k (key_of k (row_of c)) (table_at tables 0)) (rows_of k (key_of k (row_of c)) after) outs outs') same
+    let answer = subst (λ (k : Grouping). Answers k.counted k.sums (key_of k (changed_row c)) (rows_of k (key_of k (changed_row c)) (table_at tables 0)) (rows_of k (key_of k (changed_row c)) after) outs outs') same
     (answers (table_at tables 0) after (mark_at marks 0) (subst (λ (k : Grouping). KeepsGroups k groups points.all.keys points.due.keys (table_at tables 0) (mark_at marks 0)) (sym same) stands.keeps) one.may one.moved one.from stands.rows) in
     subst (λ (rows : List Row). Gains (grouped g (table_at tables 0)) (grouped g rows) (open_from (mark_at marks 0) (grouped g (table_at tables 0))) outs outs') (sym one.new_table)
     (record {
       changes = differences answer.olds answer.news;
       appended = answer.appended;
-      repair = group_repairs g (key_of g (row_of c)) c (table_at tables 0) after (mark_at marks 0) answer.olds answer.news refl (may_is (table_at tables 0) [] c one.may) one.moved one.from stands.rows answer.turned;
+      repair = group_repairs g (key_of g (changed_row c)) c (table_at tables 0) after (mark_at marks 0) answer.olds answer.news refl (may_is (table_at tables 0) [] c one.may) one.moved one.from stands.rows answer.turned;
     })
 
 nothing_since : (b : Bool) (n : ℕ) (ns ms : List ℕ) → None ≡ shown_as (cond b 0 0) (cond b 0 0) (cond b ns ms)

@@ -16,7 +16,8 @@ use Rattle.op_group.specs.Cuts.{segment_at, rows_in, IsNextCut, IsLastCut}
 use Rattle.op_group.specs.Measures.{edge_at, part_at, edges_of, living_of, sums_of, Ascends, Fits, is_cut_of}
 use Rattle.op_group.specs.TimeLaws.{below_test, same_count, false_not_true}
 use Rattle.op_group.specs.SegmentLaws.{fits_alike, segment_fits, fits_segment, map_alike}
-use Rattle.op_group.specs.BoundLaws.{last_of, Outside, untouched_sums, edges_untouched, parts_untouched, Untouched}
+use Rattle.op_group.specs.LawWords.{last_of, Untouched, Outside}
+use Rattle.op_group.specs.BoundLaws.{untouched_sums, edges_untouched, parts_untouched}
 use Rattle.op_group.specs.State.{ShowsFrom, asked, Turned}
 use Rattle.cedr_table.proofs.RowsLemmas.{first_is, others_are}
 use Rattle.op_group.proofs.SinceLemmas.{Starts, cut_is, some_cut, low_cut, gone_before}

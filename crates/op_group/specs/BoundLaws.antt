@@ -20,7 +20,8 @@ use Rattle.op_group.specs.Measures.{edge_at, part_at, edges_of, living_of, sums_
 use Rattle.op_group.specs.TimeLaws.{below_test, above_test, one_elsewhere, false_not_true}
 use Rattle.op_group.specs.CutLaws.{next_of}
 use Rattle.op_group.specs.SegmentLaws.{sum_by-filter, cuts_ascend, among_cuts, edge_there, fits_alike}
-use Rattle.op_group.specs.GroupLaws.{fits_key, made_from_there, there_from_made, SameAt, same_at}
+use Rattle.op_group.specs.GroupLaws.{fits_key, made_from_there, there_from_made, same_at}
+use Rattle.op_group.specs.LawWords.{IsLeastOpen, Untouched, keyed, Outside, IsBegun, SameAt}
 
 open_test : (mark : ℕ) (begin end : ℕ) → (nat_lt begin mark && nat_le mark end) ≡ true → (begin < mark) × (mark ≤ end)
 open_test mark begin end h = (grind (arith, nat_tests), grind (arith, nat_tests))
@@ -53,14 +54,6 @@ open_at mark (x ∷ rows) r there test = elim (cases_lt 0 (one_if_same r x)) [
   | inl here ↦ open_first mark r x rows (is_open mark x) refl (one_if_same_exact r x here) test
   | inr not_here ↦ open_rest mark x rows r.begin (is_open mark x) (open_at mark rows r (omega (arith, count_of-cons r x rows)) test)
 ]
-
--- a row is open, and the bound is its begin
-pub record IsLeastOpen (mark : ℕ) (rows : List Row) (bound : ℕ) : Type 0 where
-  pub row : Row
-  pub there : 0 < count_of row rows
-  pub less : row.begin < mark
-  pub within : mark ≤ row.end
-  pub is : bound ≡ row.begin
 
 least_is : (mark : ℕ) (x : Row) (rows : List Row) (b : Bool) → is_open mark x ≡ b → (open_from mark rows ≡ mark) ⊎ IsLeastOpen mark rows (open_from mark rows)
     → let bound = least_from mark (map (λ (y : Row). y.begin) (cond b (x ∷ filter (is_open mark) rows) (filter (is_open mark) rows))) in (bound ≡ mark) ⊎ IsLeastOpen mark (x ∷ rows) bound
@@ -108,16 +101,6 @@ open_below_same mark xs ys same = elim (open_is mark ys) [
 pub same_open : (mark : ℕ) (xs ys : List Row) → SameRows xs ys → open_from mark xs ≡ open_from mark ys
 same_open mark xs ys same = omega (arith, open_below_same mark xs ys same, open_below_same mark ys xs (same_back xs ys same))
 
--- the last time that a change touches
-abbrev pub last_of : Change → ℕ
-last_of (Add r) = r.end
-last_of (Cut r e) = r.end
-
--- a change doesn't touch a weight
-abbrev pub Untouched : (Row → ℕ) → Change → Type 0
-Untouched w (Add a) = w a ≡ 0
-Untouched w (Cut a e) = (a.begin < e → w a ≡ w (record a { end = e })) × (e ≤ a.begin → w a ≡ 0)
-
 -- a weight that a change doesn't touch has the same sum over the rows that it takes and those that it puts
 pub untouched_sums : (w : Row → ℕ) (c : Change) → Untouched w c → sum_by w (takes c) ≡ sum_by w (puts c)
 untouched_sums w (Add a) h = omega (arith, h)
@@ -125,10 +108,6 @@ untouched_sums w (Cut a e) h = elim (cases_lt a.begin e) [
   | inl lives ↦ omega (arith, ap (sum_by w) (remnant_some a e lives), h.0 lives)
   | inr gone ↦ omega (arith, ap (sum_by w) (remnant_none a e gone), h.1 gone)
 ]
-
--- the weight of a row in the group of a key, and 0 for a row of another group
-abbrev pub keyed : Grouping → List Field → (Row → ℕ) → Row → ℕ
-keyed g key w x = cond (same_payload key (key_of g x)) (w x) 0
 
 -- a number, or 0 in its place, is 0 where the number is
 pub none_either : (b : Bool) (n : ℕ) → n ≡ 0 → cond b n 0 ≡ 0
@@ -148,10 +127,6 @@ still g key w c old new untouched moved = omega (
   sum_by-moved (keyed g key w) c old new moved.sums,
   untouched_sums (keyed g key w) c (keyed_untouched g key w c untouched),
 )
-
--- a time before a change is seen, or after the last time that it touches
-abbrev pub Outside : Change → ℕ → Type 0
-Outside c t = (t < sync_of c) ⊎ (last_of c < t)
 
 no_edges : (t : ℕ) (r : Row) → nat_eq r.begin t ≡ false → nat_eq r.end t ≡ false → edge_at t r ≡ 0
 no_edges t r b e = omega (arith, one_elsewhere r.begin t b, one_elsewhere r.end t e)
@@ -222,13 +197,6 @@ ends_later_at x rows p false is some rest =
 ends_later : (rows : List Row) (p : ℕ) → 0 < living_of rows p → IsLater rows p
 ends_later [] p some = absurd (omega arith)
 ends_later (x ∷ rows) p some = ends_later_at x rows p (lives_at p x) refl (omega (arith, some, sum_by-cons (part_at (λ _. 1) p) x rows)) (ends_later rows p)
-
--- a row of the result begins at a time, and doesn't end before a mark
-pub record IsBegun (g : Grouping) (rows : List Row) (p mark : ℕ) : Type 0 where
-  pub row : Row
-  pub there : 0 < count_of row (grouped g rows)
-  pub begins : row.begin ≡ p
-  pub within : mark ≤ row.end
 
 -- a cut point from which rows are valid begins a row, which doesn't end before a mark that no other cut point precedes
 pub begins_row : (g : Grouping) (key : List Field) (rows : List Row) (p mark : ℕ) → 0 < living_of (rows_of g key rows) p → is_cut_of (rows_of g key rows) p ≡ true → ((u : ℕ) → p < u → u < mark → is_cut_of (rows_of g key rows) u ≡ false) → IsBegun g rows p mark

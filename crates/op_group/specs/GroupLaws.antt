@@ -20,9 +20,10 @@ use Rattle.cedr_base.proofs.RowLemmas.{exact_rows}
 use Rattle.cedr_stream.proofs.BagSums.{sum_by-same}
 use Rattle.op_group.specs.Groups.{Grouping, number_at, key_of, same_payload, distinct, rows_of, segments, grouped}
 use Rattle.op_group.specs.Cuts.{totals}
-use Rattle.op_group.specs.Measures.{edge_at, part_at, edges_of, living_of, sums_of, Fits, is_cut_of, key_in, IsMade}
+use Rattle.op_group.specs.Measures.{edge_at, part_at, living_of, sums_of, Fits, is_cut_of, key_in, IsMade}
 use Rattle.op_group.specs.TimeLaws.{same_count}
 use Rattle.op_group.specs.SegmentLaws.{sum_by-filter, fits_alike, segment_fits, fits_segment, map_alike}
+use Rattle.op_group.specs.LawWords.{SameAt}
 
 from_is_eq : (o : Ordering) → is_eq o ≡ true → o ≡ Equal
 from_is_eq Less h = cc
@@ -127,12 +128,6 @@ made_from_there g rows r there = segment_fits g (key_in g r) (rows_of g (key_in 
 -- a row that its group makes between neighbouring cut points is in the result, once
 pub there_from_made : (g : Grouping) (rows : List Row) (r : Row) → IsMade g rows r → count_of r (grouped g rows) ≡ 1
 there_from_made g rows r made = grouped_count g rows r ∙ fits_segment g (key_in g r) (rows_of g (key_in g r) rows) r made
-
--- at a time the same begins and ends stand in a group of two tables, and as many rows are valid, with the same sums
-pub record SameAt (g : Grouping) (key : List Field) (xs ys : List Row) (t : ℕ) : Type 0 where
-  pub edges : edges_of (rows_of g key xs) t ≡ edges_of (rows_of g key ys) t
-  pub living : living_of (rows_of g key xs) t ≡ living_of (rows_of g key ys) t
-  pub sums : sums_of g.sums (rows_of g key xs) t ≡ sums_of g.sums (rows_of g key ys) t
 
 -- sums over a group that are the same make it the same
 pub same_at : (g : Grouping) (key : List Field) (xs ys : List Row) (t : ℕ) → sum_by (edge_at t) (rows_of g key xs) ≡ sum_by (edge_at t) (rows_of g key ys)

@@ -1,6 +1,7 @@
 pub mod Groups
 pub mod Cuts
 pub mod Measures
+pub mod LawWords
 pub mod TimeLaws
 pub mod CutLaws
 pub mod SegmentLaws
@@ -10,3 +11,4 @@ pub mod Points
 pub mod State
 pub mod Held
 pub mod StateLaws
+pub mod Readings

@@ -8,6 +8,7 @@ use Rattle.cedr_base.specs.declared.field.Field.{Field}
 use Rattle.cedr_base.specs.Order.{payload_cmp}
 use Rattle.op_group.specs.declared.segment.Segment.{Segment}
 use Rattle.op_group.specs.declared.points.CutPoint.{CutPoint}
+use Rattle.op_group.specs.declared.points.Touched.{Touched}
 use Rattle.op_group.specs.Groups.{same_payload}
 use Rattle.op_group.specs.Cuts.{segment_at}
 
@@ -22,6 +23,10 @@ has_point points t key = list_any (is_at (point_cmp (record { at = t; key = key 
 -- a set of cut points has one exactly where it is said to, and has each other one as before
 abbrev pub Places : List CutPoint → List CutPoint → ℕ → List Field → Bool → Type 0
 Places old new at key there = (t : ℕ) (other : List Field) → has_point new t other ≡ (if nat_eq at t && same_payload key other then there else has_point old t other)
+
+-- at two times a set of cut points has those of a group that it is said to have
+abbrev pub Had : List CutPoint → List Field → ℕ → ℕ → Touched → Type 0
+Had points key first last was = (has_point points first key ≡ was.first) × (has_point points last key ≡ was.last)
 
 -- at two times a set of cut points has those that a group's map has, and all others as before
 abbrev pub Follows : List CutPoint → List CutPoint → List Field → List (ℕ × Segment) → ℕ → ℕ → Type 0

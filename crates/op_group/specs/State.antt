@@ -7,7 +7,6 @@ use Rattle.std.specs.BTreeMap.{BTreeMap, is_at}
 use Rattle.cedr_base.specs.declared.field.Field.{Field}
 use Rattle.cedr_base.specs.declared.row.Row.{Row}
 use Rattle.cedr_base.specs.declared.change.Change.{Change}
-use Rattle.cedr_base.specs.declared.change.Change.TheVariants.{Add, Cut}
 use Rattle.cedr_base.specs.Order.{payload_cmp}
 use Rattle.cedr_base.specs.Rows.{count_of, AreRows}
 use Rattle.cedr_table.specs.Operators.{Tables, table_at, mark_at}
@@ -75,11 +74,6 @@ pub record StandsForGroups (g : Grouping) (groups : List (List Field × BTreeMap
   pub mark : length marks ≡ 1
   pub rows : AreRows (table_at tables 0)
   pub keeps : KeepsGroups g groups points.all.keys points.due.keys (table_at tables 0) (mark_at marks 0)
-
--- the row of a change
-abbrev pub row_of : Change → Row
-row_of (Add r) = r
-row_of (Cut r e) = r
 
 -- what is asked of groups, but for the columns of the key
 abbrev pub asked : Bool → List ℕ → Grouping

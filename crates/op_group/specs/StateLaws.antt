@@ -1,6 +1,6 @@
 -- What the state of an operator over groups stands for.
 use Rattle.std.proofs.Common.{◌≡◌, ℕ, ◌<◌, ◌≤◌, inl, inr, List, [], length, refl, ap, sym, ◌∙◌, subst, arith}
-use Rattle.std.specs.Prelude.{Option, Some, None, cond, nat_eq, nat_le, replicate}
+use Rattle.std.specs.Prelude.{cond, nat_le, replicate}
 use Rattle.std.specs.BTreeMap.{BTreeMap}
 use Rattle.cedr_base.specs.declared.time.TheConstants.{FOREVER}
 use Rattle.cedr_base.specs.declared.field.Field.{Field}
@@ -19,7 +19,8 @@ use Rattle.op_group.specs.declared.points.CutPoint.{CutPoint}
 use Rattle.op_group.specs.declared.points.Points.{Points}
 use Rattle.op_group.specs.Groups.{Grouping, group_of, number_at, rows_of, grouped, open_from}
 use Rattle.op_group.specs.Measures.{edge_at, part_at, edges_of, living_of, sums_of}
-use Rattle.op_group.specs.GroupLaws.{same_grouped, group_sum, SameAt, same_at as same_sums}
+use Rattle.op_group.specs.LawWords.{SameAt, shown_as}
+use Rattle.op_group.specs.GroupLaws.{same_grouped, group_sum, same_at as same_sums}
 use Rattle.op_group.specs.BoundLaws.{open_below, open_rises, open_stays}
 use Rattle.op_group.specs.State.{ShowsFrom, KeepsGroups, StandsForGroups}
 
@@ -45,10 +46,6 @@ keeps_rising g groups all due rows mark later rise h = record {
 -- a state that stands for some marks stands for greater ones, too
 pub stands_rising : (g : Grouping) (groups : List (List Field × BTreeMap ℕ Segment)) (points : Points) (tables : Tables) (marks later : List ℕ) → AllRise marks later → StandsForGroups g groups points tables marks → StandsForGroups g groups points tables later
 stands_rising g groups points tables marks later rise h = record { table = h.table; mark = rise_length marks later rise ∙ h.mark; rows = h.rows; keeps = keeps_rising g groups points.all.keys points.due.keys (table_at tables 0) (mark_at marks 0) (mark_at later 0) (rise_at 0 marks later rise) h.keeps }
-
--- what is shown at a time
-abbrev pub shown_as : ℕ → ℕ → List ℕ → Option Segment
-shown_as edges living sums = cond (nat_eq edges 0) None (Some (record { edges = edges; living = living; totals = sums }))
 
 -- what shows some rows of a group shows others that count the same at each time
 pub from_alike : (sums : List ℕ) (mark from : ℕ) (cuts : List (ℕ × Segment)) (xs ys : List Row) → ((t : ℕ) → edges_of xs t ≡ edges_of ys t) → ((t : ℕ) → living_of xs t ≡ living_of ys t) → ((t : ℕ) → sums_of sums xs t ≡ sums_of sums ys t)

@@ -110,7 +110,7 @@ fn shift_between(
 ) -> Result<(), OutOfMemory>
     ensures { OnOk result ((u : ℕ) → segment_at u cuts.new.entries ≡ (if nat_le from u && nat_lt u to then option_map (shifted up numbers.now) (segment_at u cuts.old.entries) else segment_at u cuts.old.entries)) }
 {
-    let mut at = cut_from(cuts, from);
+    let mut at = from;
     while at < to {
         shift_at(cuts, at, up, numbers)?;
         at = cut_from(cuts, at + 1);

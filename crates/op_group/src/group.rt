@@ -7,16 +7,16 @@ ghost use Rattle.cedr_base.specs.declared.row.Row.{Row};
 ghost use Rattle.cedr_base.specs.declared.field.Field.{Field};
 ghost use Rattle.cedr_base.specs.Order.{payload_cmp};
 ghost use Rattle.cedr_base.specs.Rows.{AreRows};
-ghost use Rattle.cedr_base.specs.Changes.{IsChange, MayFollow, sync_of};
+ghost use Rattle.cedr_base.specs.Changes.{IsChange, MayFollow, sync_of, changed_row};
 ghost use Rattle.cedr_stream.specs.Repairs.{IsMoved};
 ghost use Rattle.op_group.specs.Groups.{grouping_by, group_of, key_of, rows_of};
-ghost use Rattle.op_group.specs.State.{ShowsFrom, KeepsGroups, NoneEmpty, Answers, cuts_of, row_of};
+ghost use Rattle.op_group.specs.State.{ShowsFrom, KeepsGroups, NoneEmpty, Answers, cuts_of};
 
 use crate::answer::{push_differences, rows_between};
 use crate::bound::first_open;
 use crate::cuts::{Cuts, add_row, cut_before, cut_from, cut_row};
 use crate::forget::forget;
-use crate::points::{CutPoint, Points, follow};
+use crate::points::{CutPoint, Points, find_touched, follow};
 use crate::segment::numbers;
 use cedr_base::{Change, OutOfMemory, Payload, Row, Time};
 use cedr_expr::Keep;
@@ -37,7 +37,7 @@ pub(crate) type Groups = BTreeMap<Payload, Cuts>;
 pub struct Group {
     keys: Keep,
     count: bool,
-    sums: Vec<usize>,
+    sums: Keep,
     pub(crate) groups: Groups,
     pub(crate) points: Points,
 }
@@ -45,8 +45,8 @@ pub struct Group {
 impl Group {
     /// Groups by the fields that `keys` keeps, with the number of rows where `count` asks for it, and then the sum of
     /// each of the columns `sums`. It takes no memory.
-    pub fn new(alloc: Global, keys: Keep, count: bool, sums: Vec<usize>) -> Group
-        ensures meaning { ⟦<Group as Operator>⟧.meaning result ≡ group_of (grouping_by keys count sums.items) }
+    pub fn new(alloc: Global, keys: Keep, count: bool, sums: Keep) -> Group
+        ensures meaning { ⟦<Group as Operator>⟧.meaning result ≡ group_of (grouping_by keys count sums) }
         ensures stands { ⟦<Group as Operator>⟧.stands result ([] ∷ []) (0 ∷ []) }
     {
         Group {
@@ -83,16 +83,6 @@ fn change_cuts(
     }
 }
 
-/// The row of a change.
-fn row_in(change: &Change) -> &Row
-    ensures { result.now ≡ row_of change.now }
-{
-    match change {
-        Change::Add(row) => row,
-        Change::Cut(row, _) => row,
-    }
-}
-
 /// One group takes a change, and appends what answers it.
 fn answer_in(
     alloc: Global,
@@ -110,7 +100,7 @@ fn answer_in(
     ensures kept { take (length out.old.items) out.new.items ≡ out.old.items }
 {
     let from = cut_before(cuts, change.sync());
-    let to = cut_from(cuts, row_in(change).end + 1);
+    let to = cut_from(cuts, change.row().end + 1);
     let olds = rows_between(alloc, count, key, cuts, from, to)?;
     change_cuts(alloc, sums, cuts, change)?;
     let news = rows_between(alloc, count, key, cuts, from, to)?;
@@ -158,29 +148,30 @@ pub(crate) fn answer(
     requires { IsChange change.now }
     ensures keeps { OnOk result ((old new : List Row) (mark : ℕ) → KeepsGroups (grouping_by keys.now count sums.now) groups.old.entries points.old.all.keys points.old.due.keys old mark → MayFollow old [] change.now → IsMoved change.now old new → mark ≤ sync_of change.now → KeepsGroups (grouping_by keys.now count sums.now) groups.new.entries points.new.all.keys points.new.due.keys new mark) }
     ensures answers { OnOk result ((old new : List Row) (mark : ℕ) → KeepsGroups (grouping_by keys.now count sums.now) groups.old.entries points.old.all.keys points.old.due.keys old mark → MayFollow old [] change.now → IsMoved change.now old new → mark ≤ sync_of change.now → AreRows old
-        → let key = key_of (grouping_by keys.now count sums.now) (row_of change.now) in Answers count sums.now key (rows_of (grouping_by keys.now count sums.now) key old) (rows_of (grouping_by keys.now count sums.now) key new) out.old.items out.new.items) }
+        → let key = key_of (grouping_by keys.now count sums.now) (changed_row change.now) in Answers count sums.now key (rows_of (grouping_by keys.now count sums.now) key old) (rows_of (grouping_by keys.now count sums.now) key new) out.old.items out.new.items) }
     ensures kept { take (length out.old.items) out.new.items ≡ out.old.items }
 {
-    let key = keys.apply(alloc, &row_in(change).payload)?;
-    let mut cuts = take_group(alloc, groups, &key);
-    answer_in(alloc, count, sums, &key, &mut cuts, change, out)?;
+    let key = keys.apply(alloc, &change.row().payload)?;
     let at = change.sync();
+    let last = change.row().end;
+    let mut cuts = take_group(alloc, groups, &key);
+    let was = find_touched(&cuts, at, last);
+    answer_in(alloc, count, sums, &key, &mut cuts, change, out)?;
     let mut point = CutPoint { at, key };
-    follow(alloc, points, &mut point, &cuts, row_in(change).end)?;
+    follow(alloc, points, &mut point, &cuts, last, was)?;
     put_group(groups, point.key, cuts)
 }
 
 impl Operator for Group {
-    ghost use Rattle.op_group.specs.Groups.{grouping_by, group_of};
-    ghost use Rattle.op_group.specs.State.{StandsForGroups};
-    ghost use Rattle.op_group.specs.Held.{group_held};
+    ghost use Rattle.op_group.specs.Groups.{grouping_by};
+    ghost use Rattle.op_group.specs.Readings.{group_reading};
     ghost use Rattle.op_group.specs.StateLaws.{group_laws};
 
-    ghost meaning = { λ s. group_of (grouping_by s.keys s.count s.sums.items) };
+    ghost meaning = { group_reading.meaning };
 
-    ghost stands = { λ s tables marks. StandsForGroups (grouping_by s.keys s.count s.sums.items) s.groups.entries s.points tables marks };
+    ghost stands = { group_reading.stands };
 
-    ghost held = { λ s. group_held s.groups.entries };
+    ghost held = { group_reading.held };
 
     fn ports(&self) -> usize {
         1
@@ -198,7 +189,7 @@ impl Operator for Group {
             alloc,
             &self.keys,
             self.count,
-            self.sums.as_slice(),
+            self.sums.columns(),
             &mut self.groups,
             &mut self.points,
             &change,
@@ -219,5 +210,5 @@ impl Operator for Group {
         forget(&mut self.groups, &mut self.points, marks[0]);
     }
 
-    ghost lawful = { λ s. group_laws (grouping_by s.keys s.count s.sums.items) s.groups.entries s.points };
+    ghost lawful = { λ s. group_laws (grouping_by s.keys s.count s.sums) s.groups.entries s.points };
 }

@@ -3,10 +3,10 @@ ghost use Rattle.cedr_table.specs.Operators.{AreTimes};
 
 use crate::Group;
 use crate::plain::{are_held, number, plain_bound, plain_result};
-use cedr_base::{Change, FieldType, Time};
+use cedr_base::{FieldType, Time};
 use cedr_expr::Keep;
 use cedr_table::{Operator, Table, no_marks};
-use op_feed::{Random, go_on, no_tables};
+use cedr_testing::{Random, go_on, no_tables, repair};
 use std::alloc::Global;
 use std::process::Abort;
 use std::test::Fail;
@@ -17,7 +17,7 @@ fn new_group(alloc: Global) -> Result<Group, Fail>
 {
     let types = [FieldType::Number, FieldType::Number];
     let keys = Keep::new(vec![in alloc; 0usize]?, &types)?;
-    let sums = vec![in alloc; 1usize]?;
+    let sums = Keep::new(vec![in alloc; 1usize]?, &types)?;
     Ok(Group::new(alloc, keys, true, sums))
 }
 
@@ -29,18 +29,11 @@ fn bound_of<O: Operator>(op: &O, tables: &[Table], marks: &[Time]) -> Time
     op.bound(marks)
 }
 
-/// The answers come one after the other: each cuts a row that is there.
-fn apply_all(made: &mut Table, answers: Vec<Change>) -> Result<(), Fail> {
-    for answer in answers {
-        made.apply(answer)?;
-    }
-    Ok(())
-}
-
-/// The rows made so far, the bound and what is held are what all rows give.
+/// The rows made so far, the bound and what is held are what all rows give, at this step of a history.
 fn check(
     rt: &impl Abort,
     alloc: Global,
+    step: (u64, usize),
     group: &Group,
     tables: &[Table],
     marks: &[Time],
@@ -55,11 +48,12 @@ fn check(
     let rows = full.canonical()?;
     let wanted = plain_result(alloc, rows.as_slice())?.canonical()?;
     let found = made.canonical()?;
-    assert!(rt; found.as_slice() == wanted.as_slice());
+    assert!(rt; found.as_slice() == wanted.as_slice(), "{step:?}");
     let bound = bound_of(group, tables, marks);
-    assert_eq!(rt; bound, plain_bound(wanted.as_slice(), *mark));
+    assert_eq!(rt; bound, plain_bound(wanted.as_slice(), *mark), "{step:?}");
     for (key, cuts) in &group.groups {
-        assert!(rt; are_held(rows.as_slice(), number(key, 0), cuts, *mark));
+        let held = are_held(rows.as_slice(), number(key, 0), cuts, *mark);
+        assert!(rt; held, "{step:?}, group {}", number(key, 0));
     }
     Ok(())
 }
@@ -71,23 +65,22 @@ fn run(rt: &impl Abort, alloc: Global, seed: u64) -> Result<(), Fail> {
     let mut marks = no_marks(alloc, 1)?;
     let mut made = Table::new(alloc);
     let mut random = Random::new(seed);
-    for _ in 0..50 {
+    for step in 0..50 {
         let mut out = Vec::new(alloc);
-        assert!(rt;
-            go_on(
-                alloc,
-                &mut group,
-                &mut tables,
-                &mut marks,
-                2,
-                &mut random,
-                &mut out
-            )?
-        );
-        apply_all(&mut made, out)?;
+        let came = go_on(
+            alloc,
+            &mut group,
+            &mut tables,
+            &mut marks,
+            2,
+            &mut random,
+            &mut out,
+        )?;
+        assert!(rt; came && repair(&mut made, out), "{:?}", (seed, step));
         check(
             rt,
             alloc,
+            (seed, step),
             &group,
             tables.as_slice(),
             marks.as_slice(),

@@ -6,7 +6,7 @@ use crate::tests::row;
 use cedr_base::{Change, FOREVER, FieldType, Row, Time};
 use cedr_expr::Keep;
 use cedr_table::{Operator, Table};
-use op_feed::{feed, no_tables};
+use cedr_testing::{feed, no_tables, repair};
 use std::alloc::Global;
 use std::process::Abort;
 use std::test::Fail;
@@ -31,7 +31,7 @@ fn grouping(alloc: Global, keys: &[usize], count: bool, sums: &[usize]) -> Resul
         FieldType::Number,
     ];
     let keys = Keep::new(Vec::from_slice(alloc, keys)?, &types)?;
-    let sums = Vec::from_slice(alloc, sums)?;
+    let sums = Keep::new(Vec::from_slice(alloc, sums)?, &types)?;
     Ok(Fed {
         alloc,
         group: Group::new(alloc, keys, count, sums),
@@ -56,13 +56,8 @@ fn take(fed: &mut Fed, change: &Change) -> Result<(), Fail>
     )? {
         return Err("not legal")?;
     }
-    apply_all(&mut fed.made, out)
-}
-
-/// The answers come one after the other: each cuts a row that is there.
-fn apply_all(made: &mut Table, answers: Vec<Change>) -> Result<(), Fail> {
-    for answer in answers {
-        made.apply(answer)?;
+    if !repair(&mut fed.made, out) {
+        return Err("an answer that may not come")?;
     }
     Ok(())
 }
@@ -97,7 +92,8 @@ fn check(rt: &impl Abort, fed: &Fed, wanted: &[Wanted]) -> Result<(), Fail> {
     let made = fed.made.canonical()?;
     assert_eq!(rt; made.len(), wanted.len());
     for (found, (text, numbers, begin, end)) in made.iter().zip(wanted) {
-        assert!(rt; *found == row(fed.alloc, text, numbers, *begin, *end)?);
+        let same = *found == row(fed.alloc, text, numbers, *begin, *end)?;
+        assert!(rt; same, "{numbers:?} from {begin} to {end}");
     }
     Ok(())
 }

@@ -2,7 +2,7 @@
 use crate::cuts::Cuts;
 use cedr_base::{Change, FOREVER, Field, OutOfMemory, Payload, Row, Time};
 use cedr_table::Table;
-use op_feed::change_of;
+use cedr_testing::change_of;
 use std::alloc::Global;
 
 /// The number in a column of a payload.

@@ -112,7 +112,8 @@ impl Counted {
         let found = self.made.canonical()?;
         assert_eq!(rt; found.len(), rows.len());
         for (made, (text, numbers, begin, end)) in found.iter().zip(rows) {
-            assert!(rt; *made == row(self.alloc, text, numbers, *begin, *end)?);
+            let same = *made == row(self.alloc, text, numbers, *begin, *end)?;
+            assert!(rt; same, "{numbers:?} from {begin} to {end}");
         }
         Ok(())
     }

@@ -1,5 +1,5 @@
 -- Rows that are filed under tags, and what a change does to them.
-use Rattle.std.proofs.Common.{◌≡◌, ◌≢◌, ℕ, ◌+◌, ◌<◌, ◌⊎◌, inl, inr, List, [], ◌∷◌, ◌++◌, Bool, true, false, cond, Option, Some, refl, ap, sym, ◌∙◌, subst, arith}
+use Rattle.std.proofs.Common.{◌≡◌, ◌≢◌, ℕ, ◌+◌, ◌<◌, ◌⊎◌, inl, inr, List, [], ◌∷◌, ◌++◌, Bool, true, false, cond, Some, refl, ap, sym, ◌∙◌, arith}
 use Rattle.std.specs.Prelude.{unwrap_or, nat_lt}
 use Rattle.std.specs.List.{AllByRecursion}
 use Rattle.std.specs.List.Sorted.{IsStrictlySortedBy}
@@ -14,13 +14,11 @@ use Rattle.cedr_base.specs.declared.field.Field.{Field}
 use Rattle.cedr_base.specs.declared.row.Row.{Row}
 use Rattle.cedr_base.specs.declared.change.Change.{Change}
 use Rattle.cedr_base.specs.declared.change.Change.TheVariants.{Add, Cut}
-use Rattle.cedr_base.specs.Rows.{count_of, SameRows, in_order}
-use Rattle.cedr_base.specs.Changes.{puts, takes}
+use Rattle.cedr_base.specs.Rows.{count_of, SameRows}
+use Rattle.cedr_base.specs.Changes.{puts, takes, changed_row}
 use Rattle.cedr_base.proofs.Bags.{count_of-append, one_if_same_exact}
-use Rattle.cedr_base.proofs.Sorting.{in_order_counts}
 use Rattle.cedr_stream.specs.Repairs.{IsMoved}
-use Rattle.op_join.specs.Filed.{FiledRows, under, all_under, listed, Files}
-use Rattle.op_join.specs.Pairs.{changed_row}
+use Rattle.op_join.specs.Filed.{FiledRows, under, all_under, Files}
 use Rattle.cedr_expr.proofs.TieLemmas.{from_is_eq}
 
 -- a tag compares to itself as equal
@@ -32,18 +30,8 @@ differs_at t q true h other = absurd (other (sym (exact_unsigned t q (from_is_eq
 differs_at t q false h other = refl
 
 -- other tags don't compare as equal
-pub differs : (t q : ℕ) → q ≢ t → is_eq (nat_cmp t q) ≡ false
+differs : (t q : ℕ) → q ≢ t → is_eq (nat_cmp t q) ≡ false
 differs t q other = differs_at t q (is_eq (nat_cmp t q)) refl other
-
--- the new rows have these under the tag, and others under other tags stay
-abbrev pub IsFiledAt : ℕ → Option (List Row) → FiledRows → FiledRows → Type 0
-IsFiledAt t w old new = (q : ℕ) → lookup (is_at (nat_cmp q)) new ≡ cond (is_at (nat_cmp t) q) w (lookup (is_at (nat_cmp q)) old)
-
--- an update of one tag leaves the rows under others
-pub others_stay : (t : ℕ) (w : Option (List Row)) (old new : FiledRows) → IsFiledAt t w old new → (q : ℕ) → q ≢ t → under new q ≡ under old q
-others_stay t w old new h q other =
-    ap (λ o. unwrap_or o []) (h q)
-    ∙ ap (λ b. unwrap_or (cond b w (lookup (is_at (nat_cmp q)) old)) []) (differs t q other)
 
 -- rows that a change takes have its row's payload
 takes_payload : (c : Change) (r : Row) → 0 < count_of r (takes c) → r.payload ≡ (changed_row c).payload
@@ -147,7 +135,6 @@ count_all (e ∷ es) sorted k r only =
           let later = ap (count_of r) (under_later e es k other) in
           omega (arith, tail, none, later, count_of-append r e.1 (all_under es))
 
--- a list of all rows has each as often as it is there
-pub count_listed : (filed : FiledRows) (r : Row) → count_of r (listed filed) ≡ count_of r (all_under filed)
-count_listed [] r = refl
-count_listed (e ∷ es) r = omega (arith, count_of-append r (in_order e.1) (listed es), count_of-append r e.1 (all_under es), (in_order_counts e.1).each r, count_listed es r)
+-- where the rows of a bag are filed, so are those of the same bag
+pub files_alike : (tag : List Field → ℕ) (filed : FiledRows) (xs ys : List Row) → SameRows xs ys → Files tag filed xs → Files tag filed ys
+files_alike tag filed xs ys same files = record { there = λ r. files.there r ∙ same.each r; only = files.only }

@@ -8,7 +8,7 @@ use Rattle.cedr_base.specs.declared.row.Row.{Row}
 use Rattle.cedr_base.specs.declared.change.Change.{Change}
 use Rattle.cedr_base.specs.declared.change.Change.TheVariants.{Add, Cut}
 use Rattle.cedr_base.specs.Rows.{count_of, AreRows}
-use Rattle.cedr_base.specs.Changes.{sync_of, IsChange, puts, takes, all_puts, all_takes}
+use Rattle.cedr_base.specs.Changes.{sync_of, IsChange, puts, takes, all_puts, all_takes, changed_row}
 use Rattle.cedr_stream.specs.Repairs.{AllFrom}
 use Rattle.cedr_stream.proofs.RepairLemmas.{AllChanges, AllChanges-append, AllFrom-append, takes-flat_map, puts-flat_map, takes_adds, Turns}
 use Rattle.cedr_table.specs.Choices.{chosen}
@@ -18,7 +18,7 @@ use Rattle.std.proofs.Math.Nat.{max_comm, min_comm}
 use Rattle.cedr_expr.specs.declared.side.Side.{Side}
 use Rattle.cedr_expr.specs.declared.side.Side.TheVariants.{Left, Right}
 use Rattle.op_join.specs.Joins.{PairTest, meet, joined, joined_rows}
-use Rattle.op_join.specs.Pairs.{met, passes_on, both_on, pair_changes, changed_row, all_changes}
+use Rattle.op_join.specs.Pairs.{met, passes_on, both_on, pair_changes, all_changes}
 use Rattle.cedr_table.specs.Counted.{ends_after, SameAmong}
 use Rattle.op_join.proofs.SkipLemmas.{ended_alone}
 use Rattle.cedr_table.proofs.FilterLemmas.{sum_by-among}

@@ -10,7 +10,7 @@ use Rattle.cedr_base.specs.declared.row.Row.{Row}
 use Rattle.cedr_base.specs.declared.change.Change.{Change}
 use Rattle.cedr_base.specs.declared.change.Change.TheVariants.{Add, Cut}
 use Rattle.cedr_base.specs.Rows.{count_of, SameRows}
-use Rattle.cedr_base.specs.Changes.{puts, takes, sync_of, MayFollow}
+use Rattle.cedr_base.specs.Changes.{puts, takes, sync_of, MayFollow, changed_row}
 use Rattle.cedr_stream.specs.Repairs.{IsMoved}
 use Rattle.cedr_stream.proofs.BagSums.{same_itself}
 use Rattle.cedr_stream.proofs.Moves.{may_is, applied, applied_moves}
@@ -18,11 +18,10 @@ use Rattle.cedr_table.specs.Counted.{LacksRow, ends_after}
 use Rattle.cedr_table.proofs.FilterLemmas.{count-filter, among_moved, among_along, among_fewer, among_filter, ends_earlier}
 use Rattle.cedr_table.proofs.RowsLemmas.{moved_are, fewer_are}
 use Rattle.op_join.specs.declared.filed.Filed.{Filed}
-use Rattle.op_join.specs.Filed.{FiledRows, under, all_under, listed, Files}
+use Rattle.op_join.specs.Filed.{FiledRows, under, all_under, Files}
 use Rattle.op_join.specs.Ends.{AreEnds}
-use Rattle.op_join.specs.Pairs.{changed_row}
 use Rattle.op_join.specs.Joins.{Keeps}
-use Rattle.op_join.proofs.FiledLemmas.{files_moved, count_all, count_listed}
+use Rattle.op_join.proofs.FiledLemmas.{files_moved, count_all}
 
 -- what is filed goes through a change as its bag does, with the tag as the code has it
 pub files_after : (tag : List Field → ℕ) (c : Change) (t : ℕ) (old new : FiledRows) (table after : List Row) → t ≡ tag (changed_row c).payload → Files tag old table
@@ -43,10 +42,6 @@ row_there tag (Cut a e) t filed rows is files may lacks =
 -- the rows under all tags are those that are filed
 pub all_same : (tag : List Field → ℕ) (filed : FiledRows) (rows : List Row) → IsStrictlySortedBy nat_cmp (keys_of filed) → Files tag filed rows → SameRows (all_under filed) rows
 all_same tag filed rows sorted files = record { each = λ r. count_all filed sorted (tag r.payload) r (λ q other. files.only q r other) ∙ files.there r }
-
--- the list of the rows under all tags has the rows that are filed
-pub listed_same : (tag : List Field → ℕ) (filed : FiledRows) (rows : List Row) → IsStrictlySortedBy nat_cmp (keys_of filed) → Files tag filed rows → SameRows (listed filed) rows
-listed_same tag filed rows sorted files = record { each = λ r. count_listed filed r ∙ (all_same tag filed rows sorted files).each r }
 
 -- of no row nothing is filed
 pub none_filed : (tag : List Field → ℕ) (filed : FiledRows) → ((q : ℕ) → under filed q ≡ []) → Files tag filed []

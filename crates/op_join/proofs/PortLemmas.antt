@@ -1,6 +1,6 @@
 -- A change on a port of a join.
 use Rattle.std.proofs.Common.{◌≡◌, ◌≢◌, ℕ, ◌+◌, ◌<◌, ◌≤◌, ◌⊎◌, inl, inr, zero, suc, List, [], ◌∷◌, ◌++◌, Bool, true, false, cond, refl, ap, sym, ◌∙◌, subst, arith, length, length-set}
-use Rattle.std.specs.Prelude.{nat_eq, filter}
+use Rattle.std.specs.Prelude.{nat_eq, filter, sum_by}
 use Rattle.std.specs.List.Sorted.{IsStrictlySortedBy}
 use Rattle.std.specs.Map.{keys_of}
 use Rattle.std.specs.Ordering.{nat_cmp}
@@ -10,7 +10,7 @@ use Rattle.cedr_base.specs.declared.row.Row.{Row}
 use Rattle.cedr_base.specs.declared.change.Change.{Change}
 use Rattle.cedr_base.specs.declared.change.Change.TheVariants.{Add}
 use Rattle.cedr_base.specs.Rows.{count_of, AreRows, SameRows}
-use Rattle.cedr_base.specs.Changes.{puts, takes, sync_of}
+use Rattle.cedr_base.specs.Changes.{puts, takes, sync_of, changed_row}
 use Rattle.cedr_base.proofs.Bags.{count_of-append}
 use Rattle.cedr_stream.specs.Repairs.{IsMoved}
 use Rattle.cedr_stream.proofs.Moves.{may_is}
@@ -24,15 +24,15 @@ use Rattle.cedr_table.proofs.ChoiceLemmas.{chosen_repairs}
 use Rattle.cedr_table.proofs.FilterLemmas.{among_itself, among_along, among_same}
 use Rattle.cedr_table.proofs.RowsLemmas.{same_are}
 use Rattle.op_join.specs.declared.filed.Filed.{Filed}
+use Rattle.cedr_expr.specs.declared.side.Side.{Side}
 use Rattle.cedr_expr.specs.declared.side.Side.TheVariants.{Left, Right}
-use Rattle.cedr_expr.specs.Tags.{tag_of}
-use Rattle.op_join.specs.Tags.{left_tag, right_tag}
-use Rattle.op_join.specs.Filed.{FiledRows, under, all_under, listed, Files, right_partners, left_partners}
+use Rattle.cedr_expr.specs.Tags.{tag_of, left_tag, right_tag}
+use Rattle.op_join.specs.Filed.{FiledRows, under, all_under, Files, right_partners, left_partners}
 use Rattle.op_join.specs.Ends.{AreEnds}
-use Rattle.op_join.specs.Pairs.{passes_on, changed_row, all_changes}
+use Rattle.op_join.specs.Pairs.{met, passes_on, all_changes}
 use Rattle.op_join.specs.Joins.{join_of, joined_rows, Keeps, StandsOnTwo}
 use Rattle.cedr_expr.proofs.TagLemmas.{tag_same}
-use Rattle.op_join.proofs.KeepLemmas.{all_same, listed_same, none_filed, kept_later, keeps_moved, keeps_forgotten, held_ends_later}
+use Rattle.op_join.proofs.KeepLemmas.{all_same, none_filed, kept_later, keeps_moved, keeps_forgotten, held_ends_later}
 use Rattle.op_join.proofs.JoinLemmas.{may_meet, pairs_turn, count_left, count_right}
 
 -- an addition puts a row at a list's end
@@ -48,10 +48,10 @@ filed_anew old_tag new_tag [] rows empty files = record { there = λ r. sym (non
 filed_anew old_tag new_tag (e ∷ es) rows empty files = absurd (omega arith)
 
 -- where no left row is held the right rows may be filed anew
-pub stands_settled : (tests : List Test) (width later : ℕ) (left right filed : Filed) (tables : Tables) (marks : List ℕ) → length left.by_tag.entries ≡ 0 → IsStrictlySortedBy nat_cmp (keys_of right.by_tag.entries) → Files (right_tag later tests) filed.by_tag.entries (listed right.by_tag.entries)
+pub stands_settled : (tests : List Test) (width later : ℕ) (left right filed : Filed) (tables : Tables) (marks : List ℕ) → length left.by_tag.entries ≡ 0 → IsStrictlySortedBy nat_cmp (keys_of right.by_tag.entries) → Files (right_tag later tests) filed.by_tag.entries (all_under right.by_tag.entries)
     → AreEnds filed.by_tag.entries filed.ends → IsStrictlySortedBy nat_cmp (keys_of filed.by_tag.entries) → StandsOnTwo tests width left right tables marks → StandsOnTwo tests later left filed tables marks
 stands_settled tests width later left right filed tables marks empty sorted files ends ordered h =
-    let rows = listed_same (right_tag width tests) right.by_tag.entries h.rights.kept sorted h.rights.files in
+    let rows = all_same (right_tag width tests) right.by_tag.entries h.rights.kept sorted h.rights.files in
     record {
       table = h.table;
       mark = h.mark;
@@ -64,9 +64,9 @@ stands_settled tests width later left right filed tables marks empty sorted file
         ordered = h.lefts.ordered;
       };
       rights = record {
-        kept = listed right.by_tag.entries;
-        same = among_along (ends_after (least_of marks)) (listed right.by_tag.entries) h.rights.kept (table_at tables 1) (among_same (ends_after (least_of marks)) (listed right.by_tag.entries) h.rights.kept rows) h.rights.same;
-        rows = same_are (listed right.by_tag.entries) h.rights.kept rows h.rights.rows;
+        kept = all_under right.by_tag.entries;
+        same = among_along (ends_after (least_of marks)) (all_under right.by_tag.entries) h.rights.kept (table_at tables 1) (among_same (ends_after (least_of marks)) (all_under right.by_tag.entries) h.rights.kept rows) h.rights.same;
+        rows = same_are (all_under right.by_tag.entries) h.rights.kept rows h.rights.rows;
         files = files;
         ends = ends;
         ordered = ordered;
@@ -120,6 +120,10 @@ from_least tables marks port c two tables_two can =
     let below = least_below port marks (omega arith) in
     let from = can.from in
     omega arith
+
+-- of two ports the one that isn't the first is the second
+pub second_port : (tables : Tables) (marks : List ℕ) (port : ℕ) (c : Change) → length tables ≡ 2 → port ≢ 0 → CanTake tables marks port c → port ≡ 1
+second_port tables marks port c two other can = let within = can.port_is in omega arith
 
 module _ (tests : List Test) (width : ℕ) (left right : Filed) (tables : Tables) (marks : List ℕ) (h : StandsOnTwo tests width left right tables marks) where
   -- a right row that may meet a left one is under its tag as often as in the table
@@ -231,35 +235,29 @@ module _ (tests : List Test) (width : ℕ) (left right : Filed) (tables : Tables
                 (keeps_moved (right_tag width tests) right (least_of marks) (table_at tables 1) h.rights c t after new (from_least tables marks 1 c h.mark h.table can) can.legal moved is here others ends ordered);
           }
 
+    -- the changes of a row's pairs repair the join, on whichever port the row is
+    side_gains : (side : Side) (port : ℕ) (partners others : List Row) (outs outs' : List Change) → CanTake tables marks port c → IsMoved c (table_at tables port) after → SameAmong (may_meet (passes tests) side c) partners others × AreRows partners
+        → ((rows : List Row) (r : Row) → count_of r (chosen (joined_rows (passes tests)) (with_table tables port rows)) ≡ sum_by (λ o. sum_by (λ x. count_of r (met (passes tests) side x o)) rows) others)
+        → outs' ≡ outs ++ all_changes (passes tests) side c partners → Gains (chosen (joined_rows (passes tests)) tables) (chosen (joined_rows (passes tests)) (with_table tables port after)) (least_of marks) outs outs'
+    side_gains side port partners others outs outs' can moved finds counts appended = record {
+      changes = all_changes (passes tests) side c partners;
+      appended = appended;
+      repair = chosen_repairs (joined_rows (passes tests)) tables port c after (least_of marks) (all_changes (passes tests) side c partners) can.port_is can.legal moved
+          (pairs_turn (passes tests) side c (least_of marks) partners others (chosen (joined_rows (passes tests)) (with_table tables port (takes c))) (chosen (joined_rows (passes tests)) (with_table tables port (puts c)))
+          (may_is (table_at tables port) [] c can.legal) (from_least tables marks port c h.mark h.table can) finds.1 finds.0 (counts (takes c)) (counts (puts c)));
+    }
+
     pub left_gains : (outs outs' : List Change) → CanTake tables marks 0 c → IsMoved c (table_at tables 0) after → t ≡ left_tag width tests (changed_row c).payload
         → outs' ≡ outs ++ all_changes (passes tests) Left c (right_partners right.by_tag.entries t) → Gains (chosen (joined_rows (passes tests)) tables) (chosen (joined_rows (passes tests)) (with_table tables 0 after)) (least_of marks) outs outs'
-    left_gains outs outs' can moved is appended =
-        let from = from_least tables marks 0 c h.mark h.table can in
-        let finds = right_finds c t from is in
-        record {
-          changes = all_changes (passes tests) Left c (right_partners right.by_tag.entries t);
-          appended = appended;
-          repair = chosen_repairs (joined_rows (passes tests)) tables 0 c after (least_of marks) (all_changes (passes tests) Left c (right_partners right.by_tag.entries t)) can.port_is can.legal moved
-              (pairs_turn (passes tests) Left c (least_of marks) (right_partners right.by_tag.entries t) (table_at tables 1) (chosen (joined_rows (passes tests)) (with_table tables 0 (takes c))) (chosen (joined_rows (passes tests)) (with_table tables 0 (puts c)))
-              (may_is (table_at tables 0) [] c can.legal) from finds.1 finds.0
-              (λ r. ap (λ (ts : Tables). count_of r (chosen (joined_rows (passes tests)) ts)) (two_left tables (takes c) h.table) ∙ count_left (passes tests) r (takes c) (table_at tables 1))
-              (λ r. ap (λ (ts : Tables). count_of r (chosen (joined_rows (passes tests)) ts)) (two_left tables (puts c) h.table) ∙ count_left (passes tests) r (puts c) (table_at tables 1)));
-        }
+    left_gains outs outs' can moved is =
+        side_gains Left 0 (right_partners right.by_tag.entries t) (table_at tables 1) outs outs' can moved (right_finds c t (from_least tables marks 0 c h.mark h.table can) is)
+        (λ rows r. ap (λ (ts : Tables). count_of r (chosen (joined_rows (passes tests)) ts)) (two_left tables rows h.table) ∙ count_left (passes tests) r rows (table_at tables 1))
 
     pub right_gains : (outs outs' : List Change) → CanTake tables marks 1 c → IsMoved c (table_at tables 1) after → t ≡ right_tag width tests (changed_row c).payload
         → outs' ≡ outs ++ all_changes (passes tests) Right c (left_partners left.by_tag.entries t) → Gains (chosen (joined_rows (passes tests)) tables) (chosen (joined_rows (passes tests)) (with_table tables 1 after)) (least_of marks) outs outs'
-    right_gains outs outs' can moved is appended =
-        let from = from_least tables marks 1 c h.mark h.table can in
-        let finds = left_finds c t from is in
-        record {
-          changes = all_changes (passes tests) Right c (left_partners left.by_tag.entries t);
-          appended = appended;
-          repair = chosen_repairs (joined_rows (passes tests)) tables 1 c after (least_of marks) (all_changes (passes tests) Right c (left_partners left.by_tag.entries t)) can.port_is can.legal moved
-              (pairs_turn (passes tests) Right c (least_of marks) (left_partners left.by_tag.entries t) (table_at tables 0) (chosen (joined_rows (passes tests)) (with_table tables 1 (takes c))) (chosen (joined_rows (passes tests)) (with_table tables 1 (puts c)))
-              (may_is (table_at tables 1) [] c can.legal) from finds.1 finds.0
-              (λ r. ap (λ (ts : Tables). count_of r (chosen (joined_rows (passes tests)) ts)) (two_right tables (takes c) h.table) ∙ count_right (passes tests) r (table_at tables 0) (takes c))
-              (λ r. ap (λ (ts : Tables). count_of r (chosen (joined_rows (passes tests)) ts)) (two_right tables (puts c) h.table) ∙ count_right (passes tests) r (table_at tables 0) (puts c)));
-        }
+    right_gains outs outs' can moved is =
+        side_gains Right 1 (left_partners left.by_tag.entries t) (table_at tables 0) outs outs' can moved (left_finds c t (from_least tables marks 1 c h.mark h.table can) is)
+        (λ rows r. ap (λ (ts : Tables). count_of r (chosen (joined_rows (passes tests)) ts)) (two_right tables rows h.table) ∙ count_right (passes tests) r (table_at tables 0) rows)
 
 only_on_two : (p : Row → Bool) (xs ys : List Row) → ((r : Row) → 0 < count_of r xs → p r ≡ true) → ((r : Row) → 0 < count_of r ys → p r ≡ true) → (port : ℕ) (r : Row) → 0 < count_of r (table_at (xs ∷ ys ∷ []) port) → p r ≡ true
 only_on_two p xs ys left right zero r there = left r there

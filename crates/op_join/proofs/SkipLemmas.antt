@@ -1,17 +1,21 @@
--- Rows that ended before a change is seen say nothing to it.
-use Rattle.std.proofs.Common.{◌≡◌, ℕ, List, [], ◌∷◌, ◌++◌, Bool, true, false, cond, refl, ap, sym, ◌∙◌, arith, min, max}
+-- Rows that ended before a change is seen, or begin once its row ended, say nothing to it.
+use Rattle.std.proofs.Common.{◌≡◌, ◌<◌, ◌≤◌, ◌+◌, inl, inr, ℕ, List, [], ◌∷◌, ◌++◌, Bool, true, false, cond, refl, ap, sym, ◌∙◌, arith, min, max}
 use Rattle.std.specs.Prelude.{nat_lt}
 use Rattle.std.specs.List.{filter, flat_map}
+use Rattle.std.proofs.lemmas.Bool.{cases_lt}
 use Rattle.std.proofs.lemmas.Bool.Decides.{nat_tests}
 use Rattle.cedr_base.specs.declared.field.Field.{Field}
 use Rattle.cedr_base.specs.declared.row.Row.{Row}
 use Rattle.cedr_base.specs.declared.change.Change.{Change}
 use Rattle.cedr_base.specs.declared.change.Change.TheVariants.{Add, Cut}
-use Rattle.cedr_base.specs.Changes.{sync_of}
+use Rattle.cedr_base.specs.Rows.{count_of}
+use Rattle.cedr_base.specs.Changes.{sync_of, changed_row}
+use Rattle.cedr_base.proofs.Bags.{count_of-cons, one_of_itself}
 use Rattle.cedr_expr.specs.declared.side.Side.{Side}
 use Rattle.op_join.specs.Joins.{PairTest, meet}
 use Rattle.cedr_table.specs.Counted.{ends_after}
-use Rattle.op_join.specs.Pairs.{met, passes_on, both_on, cut_to, pair_changes, changed_row, all_changes}
+use Rattle.op_join.specs.Spans.{AreShort, ends_within, begins_before}
+use Rattle.op_join.specs.Pairs.{met, passes_on, both_on, cut_to, pair_changes, all_changes}
 
 never_meet : (b : Bool) (w : List Field) (s t : ℕ) → nat_lt s t ≡ false → meet b w s t ≡ []
 never_meet true w s t h = ap {B = List Row} (λ d. cond d (record { end = t; begin = s; payload = w } ∷ []) []) h
@@ -35,13 +39,40 @@ module _ (p : PairTest) (side : Side) where
   ended_alone (Cut a e) o h =
       never_cut (passes_on p side a.payload o.payload) (both_on side a.payload o.payload) (max a.begin o.begin) (min a.end o.end) e (grind (arith, nat_tests, h))
 
-  first_skipped : (c : Change) (o : Row) (os : List Row) (b : Bool) → ends_after (sync_of c) o ≡ b → all_changes p side c (cond b (o ∷ os) os) ≡ pair_changes c (met p side (changed_row c) o) ++ all_changes p side c os
-  first_skipped c o os true h = refl
-  first_skipped c o os false h = ap (λ (cs : List Change). cs ++ all_changes p side c os) (sym (ended_alone c o h))
+  -- a row that begins once the changed row ended gives none
+  pub begun_alone : (c : Change) (o : Row) → (changed_row c).end ≤ o.begin → pair_changes c (met p side (changed_row c) o) ≡ []
+  begun_alone (Add a) o h =
+      ap (λ rows. pair_changes (Add a) rows)
+      (never_meet (passes_on p side a.payload o.payload) (both_on side a.payload o.payload) (max a.begin o.begin) (min a.end o.end) (grind (arith, nat_tests, h)))
+  begun_alone (Cut a e) o h =
+      ap (λ rows. pair_changes (Cut a e) rows)
+      (never_meet (passes_on p side a.payload o.payload) (both_on side a.payload o.payload) (max a.begin o.begin) (min a.end o.end) (grind (arith, nat_tests, h)))
 
-  -- what is left of a table where those that ended are left out says the same
+  first_skipped : (q : Row → Bool) (c : Change) (o : Row) (os : List Row) (b : Bool) → q o ≡ b → (q o ≡ false → pair_changes c (met p side (changed_row c) o) ≡ []) → all_changes p side c (cond b (o ∷ os) os) ≡ pair_changes c (met p side (changed_row c) o) ++ all_changes p side c os
+  first_skipped q c o os true h none = refl
+  first_skipped q c o os false h none = ap (λ (cs : List Change). cs ++ all_changes p side c os) (sym (none h))
+
+  -- where those are left out that give no change, the others give the same
+  pub skip : (q : Row → Bool) (c : Change) (os : List Row) → ((o : Row) → 0 < count_of o os → q o ≡ false → pair_changes c (met p side (changed_row c) o) ≡ []) → all_changes p side c (filter q os) ≡ all_changes p side c os
+  skip q c [] none = refl
+  skip q c (o ∷ os) none =
+      first_skipped q c o (filter q os) (q o) refl (none o (omega (arith, count_of-cons o o os, one_of_itself o)))
+      ∙ ap (λ (cs : List Change). pair_changes c (met p side (changed_row c) o) ++ cs) (skip q c os (λ r there. none r (omega (arith, count_of-cons r o os))))
+
+  -- of a table those that ended may be left out
   pub skip_ended : (c : Change) (os : List Row) → all_changes p side c (filter (ends_after (sync_of c)) os) ≡ all_changes p side c os
-  skip_ended c [] = refl
-  skip_ended c (o ∷ os) =
-      first_skipped c o (filter (ends_after (sync_of c)) os) (ends_after (sync_of c) o) refl
-      ∙ ap (λ (cs : List Change). pair_changes c (met p side (changed_row c) o) ++ cs) (skip_ended c os)
+  skip_ended c os = skip (ends_after (sync_of c)) c os (λ o there gone. ended_alone c o gone)
+
+  within_alone : (c : Change) (o : Row) (longest : ℕ) → o.end ≤ o.begin + longest → ends_within (sync_of c) ((changed_row c).end + longest) o ≡ false → pair_changes c (met p side (changed_row c) o) ≡ []
+  within_alone c o longest short out = elim (cases_lt (sync_of c) o.end) [
+    | inr ended ↦ ended_alone c o (grind (arith, nat_tests, ended))
+    | inl later ↦ begun_alone c o (grind (arith, nat_tests, later, short, out))
+  ]
+
+  -- and of rows none of which is valid for longer than some time those that end so long after the changed row
+  pub skip_within : (c : Change) (os : List Row) (longest : ℕ) → AreShort longest os → all_changes p side c (filter (ends_within (sync_of c) ((changed_row c).end + longest)) os) ≡ all_changes p side c os
+  skip_within c os longest short = skip (ends_within (sync_of c) ((changed_row c).end + longest)) c os (λ o there out. within_alone c o longest (short o there) out)
+
+  -- and those that begin once the changed row ended
+  pub skip_begun : (c : Change) (os : List Row) → all_changes p side c (filter (begins_before (changed_row c).end) os) ≡ all_changes p side c os
+  skip_begun c os = skip (begins_before (changed_row c).end) c os (λ o there out. begun_alone c o (grind (arith, nat_tests, out)))

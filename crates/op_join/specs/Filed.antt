@@ -6,7 +6,7 @@ use Rattle.std.specs.BTreeMap.{is_at}
 use Rattle.std.specs.Ordering.{nat_cmp}
 use Rattle.cedr_base.specs.declared.field.Field.{Field}
 use Rattle.cedr_base.specs.declared.row.Row.{Row}
-use Rattle.cedr_base.specs.Rows.{count_of, in_order}
+use Rattle.cedr_base.specs.Rows.{count_of}
 
 -- tags with the rows under each
 abbrev pub FiledRows : Type 0
@@ -19,10 +19,6 @@ under filed tag = unwrap_or (lookup (is_at (nat_cmp tag)) filed) []
 -- the rows under all tags
 abbrev pub all_under : FiledRows → List Row
 all_under filed = flat_map (λ e. e.1) filed
-
--- the rows under all tags, those under each in order
-abbrev pub listed : FiledRows → List Row
-listed filed = flat_map (λ e. in_order e.1) filed
 
 -- the rows of a bag are filed, each under its tag and no other
 pub record Files (tag : List Field → ℕ) (filed : FiledRows) (rows : List Row) : Type 0 where

@@ -14,7 +14,7 @@ use Rattle.cedr_table.specs.Operators.{Tables, Meaning, table_at, with_table, le
 use Rattle.cedr_table.specs.Choices.{chosen}
 use Rattle.cedr_table.specs.Counted.{ends_after, SameAmong}
 use Rattle.op_join.specs.declared.filed.Filed.{Filed}
-use Rattle.op_join.specs.Tags.{left_tag, right_tag}
+use Rattle.cedr_expr.specs.Tags.{left_tag, right_tag}
 use Rattle.op_join.specs.Filed.{Files}
 use Rattle.op_join.specs.Ends.{AreEnds}
 

@@ -8,6 +8,7 @@ use Rattle.cedr_base.specs.declared.change.Change.TheVariants.{Add, Cut}
 use Rattle.cedr_expr.specs.declared.side.Side.{Side}
 use Rattle.cedr_expr.specs.declared.side.Side.TheVariants.{Left, Right}
 use Rattle.op_join.specs.Joins.{PairTest, meet}
+use Rattle.cedr_base.specs.Changes.{changed_row}
 
 -- whether two payloads pass, seen from the side of the first row
 abbrev pub passes_on : PairTest → Side → List Field → List Field → Bool
@@ -31,11 +32,6 @@ cut_to e r = if nat_lt e r.end then Cut r (max e r.begin) ∷ [] else []
 abbrev pub pair_changes : Change → List Row → List Change
 pair_changes (Add a) rows = map (λ r. Add r) rows
 pair_changes (Cut a e) rows = flat_map (cut_to e) rows
-
--- the row that a change adds or cuts
-abbrev pub changed_row : Change → Row
-changed_row (Add a) = a
-changed_row (Cut a e) = a
 
 -- what a change does to the rows of all its pairs
 abbrev pub all_changes : PairTest → Side → Change → List Row → List Change

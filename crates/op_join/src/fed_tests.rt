@@ -1,17 +1,19 @@
 //! What the helpers of tests refuse, at a join: other rows, other changes, and a change that may not come.
 
 use super::*;
-use crate::worked::no_tests;
-use op_feed::{gives, leads};
+use cedr_testing::{Mismatch, Step, gives, leads, no_tests};
 use std::alloc::Global;
 use std::test::Fail;
 
 /// Whether one pair of rows leads to these rows of the join.
-fn one_pair_leads_to(alloc: Global, wanted: &[(u64, u64, &[i128])]) -> Result<bool, Fail> {
+fn one_pair_leads_to(
+    alloc: Global,
+    wanted: &[(u64, u64, &[i128])],
+) -> Result<Option<Mismatch>, Fail> {
     let mut op = Join::new(alloc, no_tests(alloc)?);
     let steps = [
-        ((0, 1, 10, None, 1), &[][..]),
-        ((1, 5, 20, None, 2), wanted),
+        Step((0, 1, 10, None, &[1]), &[]),
+        Step((1, 5, 20, None, &[2]), wanted),
     ];
     Ok(leads(alloc, &mut op, 2, &steps)?)
 }
@@ -19,17 +21,22 @@ fn one_pair_leads_to(alloc: Global, wanted: &[(u64, u64, &[i128])]) -> Result<bo
 #[test]
 fn other_rows_than_the_wanted_ones_are_told(rt: HostRuntime) -> Result<(), Fail> {
     let alloc = rt.alloc();
+    let told = Some(Mismatch::Answer(1));
     let pair = (5, 10, &[1, 2][..]);
-    assert!(rt; one_pair_leads_to(alloc, &[pair])?);
-    assert!(rt; !one_pair_leads_to(alloc, &[])?, "a row too many");
-    assert!(rt; !one_pair_leads_to(alloc, &[pair, pair])?, "a row too few");
+    assert_eq!(rt; one_pair_leads_to(alloc, &[pair])?, None);
+    assert_eq!(rt; one_pair_leads_to(alloc, &[])?, told, "a row too many");
+    assert_eq!(rt;
+        one_pair_leads_to(alloc, &[pair, pair])?,
+        told,
+        "a row too few"
+    );
     for other in [
         (4, 10, &[1, 2][..]),
         (5, 11, &[1, 2]),
         (5, 10, &[2, 1]),
         (5, 10, &[1]),
     ] {
-        assert!(rt; !one_pair_leads_to(alloc, &[other])?, "another row");
+        assert_eq!(rt; one_pair_leads_to(alloc, &[other])?, told, "{other:?}");
     }
     Ok(())
 }
@@ -37,15 +44,20 @@ fn other_rows_than_the_wanted_ones_are_told(rt: HostRuntime) -> Result<(), Fail>
 #[test]
 fn rows_that_may_not_come_are_told(rt: HostRuntime) -> Result<(), Fail> {
     let alloc = rt.alloc();
+    let told = Some(Mismatch::Given(0));
     for given in [
-        (0, 1, 10, Some(5), 1),
-        (0, 10, 10, None, 1),
-        (2, 1, 10, None, 1),
+        (0, 1, 10, Some(5), &[1][..]),
+        (0, 10, 10, None, &[1]),
+        (2, 1, 10, None, &[1]),
     ] {
         let mut op = Join::new(alloc, no_tests(alloc)?);
-        assert!(rt; !leads(alloc, &mut op, 2, &[(given, &[])])?);
+        assert_eq!(rt;
+            leads(alloc, &mut op, 2, &[Step(given, &[])])?,
+            told,
+            "{given:?}"
+        );
         let mut op = Join::new(alloc, no_tests(alloc)?);
-        assert!(rt; !gives(alloc, &mut op, 2, &[given], &[])?);
+        assert_eq!(rt; gives(alloc, &mut op, 2, &[given], &[])?, told, "{given:?}");
     }
     Ok(())
 }
@@ -54,13 +66,13 @@ fn rows_that_may_not_come_are_told(rt: HostRuntime) -> Result<(), Fail> {
 fn two_pairs_give(
     alloc: Global,
     wanted: &[(u64, u64, Option<u64>, &[i128])],
-) -> Result<bool, Fail> {
+) -> Result<Option<Mismatch>, Fail> {
     let mut op = Join::new(alloc, no_tests(alloc)?);
     let given = [
-        (0, 1, 10, None, 1),
-        (0, 2, 12, None, 3),
-        (1, 5, 20, None, 2),
-        (1, 5, 20, Some(11), 2),
+        (0, 1, 10, None, &[1][..]),
+        (0, 2, 12, None, &[3]),
+        (1, 5, 20, None, &[2]),
+        (1, 5, 20, Some(11), &[2]),
     ];
     Ok(gives(alloc, &mut op, 2, &given, wanted)?)
 }
@@ -68,20 +80,24 @@ fn two_pairs_give(
 #[test]
 fn other_changes_than_the_wanted_ones_are_told(rt: HostRuntime) -> Result<(), Fail> {
     let alloc = rt.alloc();
+    let at = |place| Some(Mismatch::Answer(place));
     let first = (5, 10, None, &[1, 2][..]);
     let second = (5, 12, None, &[3, 2][..]);
     let cut = (5, 12, Some(11), &[3, 2][..]);
-    assert!(rt; two_pairs_give(alloc, &[first, second, cut])?);
-    assert!(rt;
-        !two_pairs_give(alloc, &[second, first, cut])?,
+    assert_eq!(rt; two_pairs_give(alloc, &[first, second, cut])?, None);
+    assert_eq!(rt;
+        two_pairs_give(alloc, &[second, first, cut])?,
+        at(0),
         "in another order"
     );
-    assert!(rt;
-        !two_pairs_give(alloc, &[first, second])?,
+    assert_eq!(rt;
+        two_pairs_give(alloc, &[first, second])?,
+        at(2),
         "a change too many"
     );
-    assert!(rt;
-        !two_pairs_give(alloc, &[first, second, cut, cut])?,
+    assert_eq!(rt;
+        two_pairs_give(alloc, &[first, second, cut, cut])?,
+        at(3),
         "a change too few"
     );
     for other in [
@@ -89,9 +105,10 @@ fn other_changes_than_the_wanted_ones_are_told(rt: HostRuntime) -> Result<(), Fa
         (5, 12, Some(10), &[3, 2]),
         (5, 12, Some(11), &[3, 3]),
     ] {
-        assert!(rt;
-            !two_pairs_give(alloc, &[first, second, other])?,
-            "another change"
+        assert_eq!(rt;
+            two_pairs_give(alloc, &[first, second, other])?,
+            at(2),
+            "{other:?}"
         );
     }
     Ok(())

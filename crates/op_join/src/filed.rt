@@ -3,19 +3,21 @@ ghost use Rattle.std.specs.List.{filter};
 ghost use Rattle.std.specs.BTreeMap.{IsOrdered};
 ghost use Rattle.std.specs.Ordering.{nat_cmp};
 ghost use Rattle.cedr_base.specs.declared.row.Row.{Row as RowValue};
-ghost use Rattle.cedr_base.specs.Rows.{in_order, count_of, SameRows};
+ghost use Rattle.cedr_base.specs.Rows.{count_of, SameRows};
 ghost use Rattle.cedr_base.specs.Changes.{puts, takes, remnant};
 ghost use Rattle.cedr_table.specs.Counted.{LacksRow, ends_after};
-ghost use Rattle.op_join.specs.Filed.{under, listed};
+ghost use Rattle.op_join.specs.Filed.{under, all_under};
 ghost use Rattle.op_join.specs.Ends.{end_row, end_rows, AreEnds};
 
+use crate::spans::Spans;
 use cedr_base::{Change, OutOfMemory, Payload, Row, Time};
 use cedr_table::Table;
 use std::alloc::Global;
 use std::collections::BTreeMap;
+use std::collections::btree_map::Entry;
 
 /// Rows by their tags. No tag stands there without a row.
-pub(crate) type ByTag = BTreeMap<u64, Table>;
+pub(crate) type ByTag = BTreeMap<u64, Spans>;
 
 /// Rows by their tags, and the ends of all of them in order of time, each with its row's tag: by these the rows that
 /// ended are found without a look at the others.
@@ -26,14 +28,14 @@ pub(crate) struct Filed {
 }
 
 /// Cuts a row that is there. Where memory runs out it may be lost.
-fn cut_row(table: &mut Table, mut row: Row, end: Time) -> Result<(), OutOfMemory>
-    requires { 0 < count_of row table.old }
-    ensures { OnOk result (SameRows (table.new ++ row ∷ []) (table.old ++ remnant row end)) }
+fn cut_row(rows: &mut Spans, mut row: Row, end: Time) -> Result<(), OutOfMemory>
+    requires { 0 < count_of row rows.old }
+    ensures { OnOk result (SameRows (rows.new ++ row ∷ []) (rows.old ++ remnant row end)) }
 {
-    table.take(&row);
+    rows.take(&row);
     if row.begin < end {
         row.end = end;
-        table.insert(row)?;
+        rows.insert(row)?;
     }
     Ok(())
 }
@@ -44,40 +46,29 @@ fn add_under(alloc: Global, by_tag: &mut ByTag, tag: u64, row: Row) -> Result<()
     ensures others { OnOk result ((q : ℕ) → q ≢ tag → under by_tag.new.entries q ≡ under by_tag.old.entries q) }
     ensures ordered { OnOk result (IsOrdered nat_cmp by_tag.new) }
 {
-    let table = by_tag.entry(tag)?.or_insert(Table::new(alloc));
-    table.insert(row)?;
+    let rows = by_tag.entry(tag)?.or_insert(Spans::new(alloc));
+    rows.insert(row)?;
     Ok(())
 }
 
-/// Cuts a row under its tag, and says whether no row is left there. Where memory runs out the rows there may be lost.
-fn cut_there(by_tag: &mut ByTag, tag: u64, row: Row, end: Time) -> Result<bool, OutOfMemory>
-    requires { 0 < count_of row (under by_tag.old.entries tag) }
-    ensures here { OnOk result (SameRows (under by_tag.new.entries tag ++ row ∷ []) (under by_tag.old.entries tag ++ remnant row end)) }
-    ensures others { OnOk result ((q : ℕ) → q ≢ tag → under by_tag.new.entries q ≡ under by_tag.old.entries q) }
-    ensures emptied { IfOk result (λ emptied. emptied ≡ true → under by_tag.new.entries tag ≡ []) }
-    ensures ordered { OnOk result (IsOrdered nat_cmp by_tag.new) }
-{
-    match by_tag.get_mut(&tag) {
-        Some(table) => {
-            cut_row(table, row, end)?;
-            Ok(table.len() == 0)
-        }
-        None => Ok(false),
-    }
-}
-
-/// Cuts a row under its tag. Where memory runs out the rows there may be lost. One search for the tag, and one more
-/// where no row is left there.
+/// Cuts a row under its tag. Where memory runs out the rows there may be lost. One search for the tag.
 fn cut_under(by_tag: &mut ByTag, tag: u64, row: Row, end: Time) -> Result<(), OutOfMemory>
     requires { 0 < count_of row (under by_tag.old.entries tag) }
     ensures here { OnOk result (SameRows (under by_tag.new.entries tag ++ row ∷ []) (under by_tag.old.entries tag ++ remnant row end)) }
     ensures others { OnOk result ((q : ℕ) → q ≢ tag → under by_tag.new.entries q ≡ under by_tag.old.entries q) }
     ensures ordered { OnOk result (IsOrdered nat_cmp by_tag.new) }
 {
-    if cut_there(by_tag, tag, row, end)? {
-        by_tag.remove(&tag);
+    match by_tag.entry(tag)? {
+        Entry::Occupied(mut found) => {
+            let rows = found.get_mut();
+            cut_row(rows, row, end)?;
+            if rows.is_empty() {
+                found.remove();
+            }
+            Ok(())
+        }
+        Entry::Vacant(_) => Ok(()),
     }
-    Ok(())
 }
 
 /// Applies a change to the rows under its row's tag. Where memory runs out rows there may be lost.
@@ -190,33 +181,22 @@ fn shorten_under(by_tag: &mut ByTag, tag: u64, time: Time) -> bool
     ensures ordered { IsOrdered nat_cmp by_tag.new }
 {
     match by_tag.get_mut(&tag) {
-        Some(table) => {
-            table.forget_ended(time);
-            table.len() == 0
+        Some(rows) => {
+            rows.forget_ended(time);
+            rows.is_empty()
         }
         None => false,
     }
 }
 
-/// Adds copies of a table's rows at the end.
-fn push_rows(rows: &mut Vec<Row>, table: &Table) -> Result<(), OutOfMemory>
-    ensures { OnOk result (rows.new.items ≡ rows.old.items ++ in_order table.now) }
-{
-    let more = table.canonical()?;
-    for row in more {
-        rows.push(row)?;
-    }
-    Ok(())
-}
-
 /// Copies of the rows under all tags.
 pub(crate) fn all_rows(alloc: Global, by_tag: &ByTag) -> Result<Vec<Row>, OutOfMemory>
-    ensures rows { IfOk result (λ rows. rows.items ≡ listed by_tag.now.entries) }
+    ensures rows { IfOk result (λ rows. SameRows rows.items (all_under by_tag.now.entries)) }
     ensures ordered { OnOk result (IsOrdered nat_cmp by_tag.now) }
 {
     let mut rows = Vec::with_capacity(alloc, by_tag.len())?;
-    for (_, table) in by_tag {
-        push_rows(&mut rows, table)?;
+    for (_, filed) in by_tag {
+        filed.push_to(&mut rows)?;
     }
     Ok(rows)
 }

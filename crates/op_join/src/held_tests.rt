@@ -4,19 +4,17 @@ ghost use Rattle.std.specs.Prelude.{OnOk};
 
 use crate::Join;
 use crate::filed::{Filed, all_rows};
-use crate::worked::{no_tests, same_column};
 use cedr_base::{Change, OutOfMemory, Time, sort_rows};
 use cedr_expr::Tests;
-use cedr_table::{Operator, Table, least_mark, no_marks};
-use op_feed::{Given, Random, change_of, feed, go_on, no_tables, raise};
+use cedr_table::{Operator, Table, no_marks};
+use cedr_testing::{
+    Given, change_of, equal_columns, feed, first_unheld, no_tables, no_tests, raise, repair,
+};
 use std::alloc::Global;
 use std::test::Fail;
 
 /// Whether a port holds those of its rows that end after a time, and as many ends.
-fn holds(alloc: Global, filed: &Filed, full: Option<&Table>, time: Time) -> Result<bool, Fail> {
-    let Some(full) = full else {
-        return Ok(false);
-    };
+fn holds(alloc: Global, filed: &Filed, full: &Table, time: Time) -> Result<bool, OutOfMemory> {
     let mut wanted = Vec::new(alloc);
     for row in full.canonical()? {
         if row.end > time {
@@ -28,33 +26,15 @@ fn holds(alloc: Global, filed: &Filed, full: Option<&Table>, time: Time) -> Resu
     Ok(held.as_slice() == wanted.as_slice() && filed.ends.len() == wanted.len())
 }
 
-/// Whether a join holds what it may after each step of a made history.
-fn holds_throughout(alloc: Global, tests: Tests, seed: u64) -> Result<bool, Fail> {
+/// The first step of a made history after which a join doesn't hold what it may.
+fn first_misheld(alloc: Global, tests: Tests, seed: u64) -> Result<Option<usize>, OutOfMemory> {
     let mut op = Join::new(alloc, tests);
-    let mut tables = no_tables(alloc, 2)?;
-    let mut marks = no_marks(alloc, 2)?;
-    let mut random = Random::new(seed);
-    let mut out = Vec::new(alloc);
-    for _ in 0..50 {
-        if !go_on(
-            alloc,
-            &mut op,
-            &mut tables,
-            &mut marks,
-            1,
-            &mut random,
-            &mut out,
-        )? {
+    first_unheld(alloc, &mut op, 2, seed, |op, tables, least| {
+        let [left, right] = tables else {
             return Ok(false);
-        }
-        let least = least_mark(marks.as_slice());
-        if !holds(alloc, &op.left, tables.get(0), least)?
-            || !holds(alloc, &op.right, tables.get(1), least)?
-        {
-            return Ok(false);
-        }
-    }
-    Ok(true)
+        };
+        Ok(holds(alloc, &op.left, left, least)? && holds(alloc, &op.right, right, least)?)
+    })
 }
 
 #[test]
@@ -63,13 +43,18 @@ fn made_histories_leave_the_rows_that_end_after_the_least_mark(
 ) -> Result<(), Fail> {
     let alloc = rt.alloc();
     for seed in 0..200 {
-        assert!(rt; holds_throughout(alloc, no_tests(alloc)?, seed)?);
-        assert!(rt; holds_throughout(alloc, same_column(alloc)?, seed)?);
+        assert_eq!(rt;
+            first_misheld(alloc, no_tests(alloc)?, seed)?,
+            None,
+            "seed {seed}"
+        );
+        let tests = equal_columns(alloc, 1, 1, 1)?;
+        assert_eq!(rt; first_misheld(alloc, tests, seed)?, None, "seed {seed}");
     }
     Ok(())
 }
 
-/// A change of a row of one number comes on a port of a join. Whether it may come.
+/// A change comes on a port of a join. Whether it may come.
 fn take(
     alloc: Global,
     op: &mut Join,
@@ -81,8 +66,8 @@ fn take(
     requires { ⟦<Join as Operator>⟧.stands op.old tables.old.items marks.now }
     ensures { OnOk result (⟦<Join as Operator>⟧.stands op.new tables.new.items marks.now) }
 {
-    let (port, begin, end, to, number) = given;
-    let change = change_of(alloc, begin, end, to, &[number])?;
+    let (port, begin, end, to, numbers) = given;
+    let change = change_of(alloc, begin, end, to, numbers)?;
     feed(alloc, op, tables, marks, port, &change, out)
 }
 
@@ -94,9 +79,9 @@ fn a_cut_of_a_row_whose_partner_was_forgotten_changes_nothing(rt: HostRuntime) -
     let mut marks = no_marks(alloc, 2)?;
     let mut out = Vec::new(alloc);
     let (a, b, cut) = (
-        (0, 1, 10, None, 1),
-        (1, 5, 20, None, 2),
-        (1, 5, 20, Some(12), 2),
+        (0, 1, 10, None, &[1][..]),
+        (1, 5, 20, None, &[2][..]),
+        (1, 5, 20, Some(12), &[2][..]),
     );
     assert!(rt; take(alloc, &mut op, &mut tables, marks.as_slice(), a, &mut out)?);
     assert!(rt; take(alloc, &mut op, &mut tables, marks.as_slice(), b, &mut out)?);
@@ -109,9 +94,7 @@ fn a_cut_of_a_row_whose_partner_was_forgotten_changes_nothing(rt: HostRuntime) -
     assert!(rt; take(alloc, &mut op, &mut tables, marks.as_slice(), cut, &mut out)?);
     assert_eq!(rt; out.len(), 1);
     let mut rows = Table::new(alloc);
-    for answer in out {
-        rows.apply(answer)?;
-    }
+    assert!(rt; repair(&mut rows, out));
     let mut wanted = Table::new(alloc);
     wanted.apply(change_of(alloc, 5, 10, None, &[1, 2])?)?;
     assert!(rt; rows.canonical()?.as_slice() == wanted.canonical()?.as_slice());

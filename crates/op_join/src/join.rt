@@ -2,13 +2,12 @@ ghost use Rattle.std.specs.Prelude.{◌≡◌, ◌∷◌, ◌++◌, [], ℕ, Lis
 ghost use Rattle.std.specs.BTreeMap.{IsOrdered};
 ghost use Rattle.std.specs.Ordering.{nat_cmp};
 ghost use Rattle.cedr_table.specs.Operators.{Tables, CanTake};
-ghost use Rattle.op_join.specs.Tags.{right_tag, side_tag};
-ghost use Rattle.op_join.specs.Filed.{Files, listed};
+ghost use Rattle.cedr_expr.specs.Tags.{right_tag, side_tag};
+ghost use Rattle.op_join.specs.Filed.{Files, all_under};
 ghost use Rattle.op_join.specs.Ends.{AreEnds};
 ghost use Rattle.op_join.specs.Joins.{join_of, StandsOnTwo, StandsAfter, RepairsAfter};
 
 use crate::filed::{ByTag, Filed, all_rows};
-use crate::pairs::row_of;
 use crate::partners::{repair_left, repair_right};
 use cedr_base::{Change, OutOfMemory, Payload, Row, Time};
 use cedr_expr::{Side, Tests};
@@ -18,10 +17,10 @@ use std::alloc::Global;
 /// One row for each pair of a left row and a right one whose payloads pass tests: it is valid while both are, and
 /// its payload is theirs, left then right. Port 0 is the left one. The bound is the least mark.
 ///
-/// A change costs O(log n) comparisons, and O(1) for each row of the other port that has its row's tag and ends after
-/// the change is seen. The tag is a number made of the fields that equality tests between the two sides compare, at the
-/// width of the left payloads. Left rows of two widths are allowed: those of another width than the first one meet all
-/// rows.
+/// A change costs O(log n) comparisons, and O(1) for each row of the other port that has its row's tag, ends after the
+/// change is seen and, by the longest of those rows, may begin before the changed row ends. The tag is a number made of
+/// the fields that equality tests between the two sides compare, at the width of the left payloads. Left rows of two
+/// widths are allowed: those of another width than the first one meet all rows.
 ///
 /// It keeps a row until the least mark reaches its end, and with each row its end in a second order, so that the rows
 /// that ended are found without a look at the others.
@@ -64,49 +63,6 @@ impl Join {
         Ok(())
     }
 
-    /// Answers a change of the left port. Where memory runs out a part of the answer may stand there.
-    fn answer_left(
-        &mut self,
-        alloc: Global,
-        change: Change,
-        out: &mut Vec<Change>,
-    ) -> Result<(), OutOfMemory>
-        requires { (tables : Tables) × (marks : List ℕ) × StandsOnTwo self.old.tests self.old.width self.old.left self.old.right tables marks × CanTake tables marks 0 change }
-        ensures stands { OnOk result (StandsAfter (StandsOnTwo self.old.tests self.old.width self.old.left self.old.right)
-            (StandsOnTwo self.new.tests self.new.width self.new.left self.new.right) 0 change) }
-        ensures repairs { OnOk result (RepairsAfter (StandsOnTwo self.old.tests self.old.width self.old.left self.old.right) (join_of self.old.tests) 0 change out.old.items out.new.items) }
-        ensures tests { self.new.tests ≡ self.old.tests }
-        ensures err { OnErr result (take (length out.old.items) out.new.items ≡ out.old.items) }
-    {
-        let row = row_of(&change);
-        self.settle(row.payload.fields().len())?;
-        let tag = side_tag(&self.tests, Side::Left, self.width, &row.payload);
-        repair_right(alloc, &self.tests, &change, &self.right.by_tag, tag, out)?;
-        self.left.note(alloc, tag, change)?;
-        Ok(())
-    }
-
-    /// Answers a change of the right port. Where memory runs out a part of the answer may stand there.
-    fn answer_right(
-        &mut self,
-        alloc: Global,
-        change: Change,
-        out: &mut Vec<Change>,
-    ) -> Result<(), OutOfMemory>
-        requires { (tables : Tables) × (marks : List ℕ) × StandsOnTwo self.old.tests self.old.width self.old.left self.old.right tables marks × CanTake tables marks 1 change }
-        ensures stands { OnOk result (StandsAfter (StandsOnTwo self.old.tests self.old.width self.old.left self.old.right)
-            (StandsOnTwo self.new.tests self.new.width self.new.left self.new.right) 1 change) }
-        ensures repairs { OnOk result (RepairsAfter (StandsOnTwo self.old.tests self.old.width self.old.left self.old.right) (join_of self.old.tests) 1 change out.old.items out.new.items) }
-        ensures tests { self.new.tests ≡ self.old.tests }
-        ensures err { OnErr result (take (length out.old.items) out.new.items ≡ out.old.items) }
-    {
-        let row = row_of(&change);
-        let tag = side_tag(&self.tests, Side::Right, self.width, &row.payload);
-        repair_left(alloc, &self.tests, &change, &self.left.by_tag, tag, out)?;
-        self.right.note(alloc, tag, change)?;
-        Ok(())
-    }
-
     /// Answers a change. Where memory runs out a part of the answer may stand there.
     fn answer(
         &mut self,
@@ -122,27 +78,19 @@ impl Join {
         ensures tests { self.new.tests ≡ self.old.tests }
         ensures err { OnErr result (take (length out.old.items) out.new.items ≡ out.old.items) }
     {
+        let row = change.row();
         if port == 0 {
-            self.answer_left(alloc, change, out)
+            self.settle(row.payload.fields().len())?;
+            let tag = self.tests.side_tag(Side::Left, self.width, &row.payload);
+            repair_right(alloc, &self.tests, &change, &self.right.by_tag, tag, out)?;
+            self.left.note(alloc, tag, change)?;
+            Ok(())
         } else {
-            self.answer_right(alloc, change, out)
+            let tag = self.tests.side_tag(Side::Right, self.width, &row.payload);
+            repair_left(alloc, &self.tests, &change, &self.left.by_tag, tag, out)?;
+            self.right.note(alloc, tag, change)?;
+            Ok(())
         }
-    }
-}
-
-/// The tag of a payload beside left payloads of this width: 0 for a left payload of another width.
-fn side_tag(tests: &Tests, side: Side, width: usize, payload: &Payload) -> u64
-    ensures { result ≡ side_tag side width tests.now payload.now }
-{
-    match side {
-        Side::Left => {
-            if payload.fields().len() == width {
-                tests.tag(Side::Left, width, payload)
-            } else {
-                0
-            }
-        }
-        Side::Right => tests.tag(Side::Right, width, payload),
     }
 }
 
@@ -153,7 +101,7 @@ fn file_right(
     tests: &Tests,
     right: &ByTag,
 ) -> Result<Filed, OutOfMemory>
-    ensures filed { IfOk result (λ filed. Files (right_tag width tests.now) filed.by_tag.entries (listed right.now.entries)) }
+    ensures filed { IfOk result (λ filed. Files (right_tag width tests.now) filed.by_tag.entries (all_under right.now.entries)) }
     ensures ends { IfOk result (λ filed. AreEnds filed.by_tag.entries filed.ends) }
     ensures ordered { IfOk result (λ filed. IsOrdered nat_cmp filed.by_tag) }
     ensures was_ordered { OnOk result (IsOrdered nat_cmp right.now) }
@@ -168,14 +116,14 @@ fn file_right(
 }
 
 impl Operator for Join {
-    ghost use Rattle.op_join.specs.Filed.{all_under};
+    ghost use Rattle.op_join.specs.Readings.{join_reading};
     ghost use Rattle.op_join.specs.JoinLaws.{join_laws};
 
-    ghost meaning = { λ s. join_of s.tests };
+    ghost meaning = { join_reading.meaning };
 
-    ghost stands = { λ s tables marks. StandsOnTwo s.tests s.width s.left s.right tables marks };
+    ghost stands = { join_reading.stands };
 
-    ghost held = { λ s. all_under s.left.by_tag.entries ∷ all_under s.right.by_tag.entries ∷ [] };
+    ghost held = { join_reading.held };
 
     fn ports(&self) -> usize {
         2

@@ -1,13 +1,14 @@
 //! The join of two tables: one row for each pair of rows that passes tests, over the time that both are valid.
 //!
 //! Each port's rows are filed under a tag, a number made of the fields that equality tests between the two sides
-//! compare, so that a change looks only at the rows that may meet it.
+//! compare, and those under one tag by their times, so that a change looks only at the rows that may meet it.
 #![tactic(auto)]
 
 mod filed;
 mod join;
 mod pairs;
 mod partners;
+mod spans;
 
 pub use join::Join;
 
@@ -17,5 +18,3 @@ mod fed_tests;
 mod held_tests;
 #[cfg(test)]
 mod tests;
-#[cfg(test)]
-mod worked;

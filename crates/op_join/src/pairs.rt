@@ -1,12 +1,13 @@
-ghost use Rattle.std.specs.Prelude.{◌≡◌, ◌<◌, ◌++◌, OnOk, OnErr, IfOk, option_to_list, replicate, take, length};
+ghost use Rattle.std.specs.Prelude.{◌≡◌, ◌<◌, ◌++◌, [], OnOk, OnErr, IfOk, option_to_list, replicate, take, length};
 ghost use Rattle.std.specs.List.{filter};
 ghost use Rattle.cedr_base.specs.declared.time.TheConstants.{FOREVER};
-ghost use Rattle.cedr_base.specs.Changes.{sync_of};
+ghost use Rattle.cedr_base.specs.Changes.{sync_of, changed_row};
 ghost use Rattle.cedr_table.specs.Counted.{spread, ends_after};
 ghost use Rattle.cedr_expr.specs.Tests.{passes};
-ghost use Rattle.op_join.specs.Pairs.{passes_on, both_on, met, pair_changes, changed_row, all_changes};
+ghost use Rattle.op_join.specs.Pairs.{passes_on, both_on, met, pair_changes, all_changes};
+ghost use Rattle.op_join.specs.Spans.{AreShort, AreOpen, ends_within, begins_before};
 
-use cedr_base::{Change, OutOfMemory, Payload, Row, Time};
+use cedr_base::{Change, FOREVER, OutOfMemory, Payload, Row, Time};
 use cedr_expr::{Side, Tests};
 use cedr_table::Table;
 use std::alloc::Global;
@@ -80,15 +81,6 @@ fn repair_row(change: &Change, found: Option<Row>, out: &mut Vec<Change>) -> Res
     Ok(())
 }
 
-pub(crate) fn row_of(change: &Change) -> &Row
-    ensures { result.now ≡ changed_row change.now }
-{
-    match change {
-        Change::Add(row) => row,
-        Change::Cut(row, _) => row,
-    }
-}
-
 /// Appends what a change does to the rows of its pairs with copies of a row. Where memory runs out a part may stand
 /// there.
 fn repair_copies(
@@ -104,10 +96,40 @@ fn repair_copies(
     ensures err { OnErr result (take (length out.old.items) out.new.items ≡ out.old.items) }
 {
     for _ in 0..count {
-        let found = pair_row(alloc, tests, side, row_of(change), other)?;
+        let found = pair_row(alloc, tests, side, change.row(), other)?;
         repair_row(change, found, out)?;
     }
     Ok(())
+}
+
+/// Appends what a change does to the rows of its pairs with the rows of a range. Where memory runs out a part may stand
+/// there.
+fn repair_range(
+    alloc: Global,
+    tests: &Tests,
+    side: Side,
+    change: &Change,
+    others: Range<'_, Row, usize>,
+    out: &mut Vec<Change>,
+) -> Result<(), OutOfMemory>
+    ensures ok { OnOk result (out.new.items ≡ out.old.items ++ all_changes (passes tests.now) side change.now (spread others.entry)) }
+    ensures err { OnErr result (take (length out.old.items) out.new.items ≡ out.old.items) }
+{
+    for (other, count) in others {
+        repair_copies(alloc, tests, side, change, other, *count, out)?;
+    }
+    Ok(())
+}
+
+/// What comes before each row that ends at a time.
+fn first_at(alloc: Global, end: Time) -> Row
+    ensures { result ≡ record { end = end; begin = 0; payload = [] } }
+{
+    Row {
+        end,
+        begin: 0,
+        payload: Payload::new(alloc),
+    }
 }
 
 /// The rows that end after a time, in order, with the number of their copies.
@@ -115,18 +137,62 @@ fn ending_after(alloc: Global, rows: &Table, time: Time) -> Range<'_, Row, usize
     requires { time < FOREVER }
     ensures { spread result ≡ filter (ends_after time) rows.now }
 {
-    let first = Row {
-        end: time + 1,
-        begin: 0,
-        payload: Payload::new(alloc),
-    };
-    rows.range(first..)
+    rows.range(first_at(alloc, time + 1)..)
 }
 
-/// Appends what a change does to the rows of its pairs with these rows. It looks at those alone that end after the
-/// change is seen: O(log n) comparisons in the different rows, and O(1) for each of these. Where memory runs out a
-/// part may stand there.
-pub(crate) fn repair_pairs(
+/// The rows that end after a time and before another one, in order, with the number of their copies.
+fn ending_within(alloc: Global, rows: &Table, time: Time, last: Time) -> Range<'_, Row, usize>
+    requires { (time < FOREVER) × (time < last) }
+    ensures { spread result ≡ filter (ends_within time last) rows.now }
+{
+    rows.range(first_at(alloc, time + 1)..first_at(alloc, last))
+}
+
+/// The rows without end that begin before a time, in order, with the number of their copies.
+fn begun_before(alloc: Global, rows: &Table, time: Time) -> Range<'_, Row, usize>
+    requires { AreOpen rows.now }
+    ensures { spread result ≡ filter (begins_before time) rows.now }
+{
+    let last = Row {
+        end: FOREVER,
+        begin: time,
+        payload: Payload::new(alloc),
+    };
+    rows.range(..last)
+}
+
+/// Appends what a change does to the rows of its pairs with rows that end, none of which is valid for longer than this.
+/// Where memory runs out a part may stand there.
+pub(crate) fn repair_ending(
+    alloc: Global,
+    tests: &Tests,
+    side: Side,
+    change: &Change,
+    others: &Table,
+    longest: u64,
+    out: &mut Vec<Change>,
+) -> Result<(), OutOfMemory>
+    requires seen { sync_of change.now < FOREVER }
+    requires short { AreShort longest others.now }
+    ensures ok { OnOk result (out.new.items ≡ out.old.items ++ all_changes (passes tests.now) side change.now others.now) }
+    ensures err { OnErr result (take (length out.old.items) out.new.items ≡ out.old.items) }
+{
+    let sync = change.sync();
+    match change.row().end.checked_add(longest) {
+        Some(last) if sync < last => {
+            let found = ending_within(alloc, others, sync, last);
+            repair_range(alloc, tests, side, change, found, out)
+        }
+        _ => {
+            let found = ending_after(alloc, others, sync);
+            repair_range(alloc, tests, side, change, found, out)
+        }
+    }
+}
+
+/// Appends what a change does to the rows of its pairs with rows without end. Where memory runs out a part may stand
+/// there.
+pub(crate) fn repair_open(
     alloc: Global,
     tests: &Tests,
     side: Side,
@@ -134,12 +200,10 @@ pub(crate) fn repair_pairs(
     others: &Table,
     out: &mut Vec<Change>,
 ) -> Result<(), OutOfMemory>
-    requires { sync_of change.now < FOREVER }
+    requires { AreOpen others.now }
     ensures ok { OnOk result (out.new.items ≡ out.old.items ++ all_changes (passes tests.now) side change.now others.now) }
     ensures err { OnErr result (take (length out.old.items) out.new.items ≡ out.old.items) }
 {
-    for (other, count) in ending_after(alloc, others, change.sync()) {
-        repair_copies(alloc, tests, side, change, other, *count, out)?;
-    }
-    Ok(())
+    let found = begun_before(alloc, others, change.row().end);
+    repair_range(alloc, tests, side, change, found, out)
 }

@@ -9,7 +9,6 @@ ghost use Rattle.op_join.specs.Filed.{under, all_under, left_partners, right_par
 ghost use Rattle.op_join.specs.Pairs.{all_changes};
 
 use crate::filed::ByTag;
-use crate::pairs::repair_pairs;
 use cedr_base::{Change, OutOfMemory};
 use cedr_expr::{Side, Tests};
 use std::alloc::Global;
@@ -30,7 +29,7 @@ fn repair_under(
     ensures err { OnErr result (take (length out.old.items) out.new.items ≡ out.old.items) }
 {
     match filed.get(&tag) {
-        Some(rows) => repair_pairs(alloc, tests, side, change, rows, out),
+        Some(rows) => rows.repair_pairs(alloc, tests, side, change, out),
         None => Ok(()),
     }
 }
@@ -50,13 +49,13 @@ fn repair_all(
     ensures ordered { OnOk result (IsOrdered nat_cmp filed.now) }
 {
     for (_, rows) in filed {
-        repair_pairs(alloc, tests, side, change, rows, out)?;
+        rows.repair_pairs(alloc, tests, side, change, out)?;
     }
     Ok(())
 }
 
-/// Appends what a change of a left row of this tag does to the rows of its pairs. Where memory runs out a part may
-/// stand there.
+/// Appends what a change of a left row of this tag does to the rows of its pairs: with all right rows where the tag is
+/// 0, that of another width. Where memory runs out a part may stand there.
 pub(crate) fn repair_right(
     alloc: Global,
     tests: &Tests,
@@ -77,8 +76,8 @@ pub(crate) fn repair_right(
     }
 }
 
-/// Appends what a change of a right row of this tag does to the rows of its pairs. Where memory runs out a part may
-/// stand there.
+/// Appends what a change of a right row of this tag does to the rows of its pairs: with left rows of the tag, and those
+/// of the tag 0. Where memory runs out a part may stand there.
 pub(crate) fn repair_left(
     alloc: Global,
     tests: &Tests,

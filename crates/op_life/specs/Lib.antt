@@ -1,2 +1,3 @@
 pub mod Lifetimes
 pub mod LifetimeLaws
+pub mod Readings

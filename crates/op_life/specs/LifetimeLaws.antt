@@ -4,7 +4,7 @@ use Rattle.std.proofs.Math.Nat.{div-mul-le_self, mul-le-mul_right}
 use Rattle.std.proofs.lemmas.Nat.{le-div}
 use Rattle.std.proofs.lemmas.Bool.{ltb-true, ltb-false, eqb-true}
 use Rattle.cedr_base.specs.declared.time.TheConstants.{FOREVER}
-use Rattle.cedr_table.specs.declared.life.Life.{Life}
+use Rattle.cedr_base.specs.declared.interval.Interval.{Interval}
 use Rattle.cedr_table.specs.RowWise.{IsLife, MayBecome}
 use Rattle.op_life.specs.Lifetimes.{windowed, shifted, multiple_below, hopped, ended, shifted_mark, hopped_mark}
 
@@ -92,5 +92,5 @@ pub end_becomes : (begin end earlier t : ℕ) → earlier < end → t ≤ earlie
 end_becomes begin end earlier t below from = inr (record { other_begin = λ same. omega arith; old_from = omega arith; new_from = from })
 
 -- a row of the result may stay as it is
-pub stays : (t : ℕ) (life : Life) → MayBecome t life life
+pub stays : (t : ℕ) (life : Interval) → MayBecome t life life
 stays t life = inl (record { same_begin = refl; within = omega arith; from = λ h. absurd (omega arith) })

@@ -3,8 +3,8 @@ ghost use Rattle.cedr_table.specs.RowWise.{row_wise};
 ghost use Rattle.cedr_stream.specs.Times.{IsWhile};
 ghost use Rattle.op_life.specs.Lifetimes.{hopped, hopped_mark, with_life};
 
-use cedr_base::{FOREVER, OutOfMemory, Payload, Time, later};
-use cedr_table::{Life, Operator, RowWise};
+use cedr_base::{FOREVER, Interval, OutOfMemory, Payload, Time, later};
+use cedr_table::{Operator, RowWise};
 use std::alloc::Global;
 
 /// Each row from the last multiple of `every` that isn't above its begin, for `width`: `[t, t + width)`. The bound is
@@ -41,9 +41,9 @@ impl RowWise for Hop {
 
     ghost payload_of = { λ _ payload. Some payload };
 
-    fn life(&self, begin: Time, end: Time) -> Life {
+    fn life(&self, begin: Time, end: Time) -> Interval {
         let first = begin - begin % self.every;
-        Life {
+        Interval {
             begin: first,
             end: later(first, self.width),
         }

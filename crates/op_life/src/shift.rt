@@ -3,8 +3,8 @@ ghost use Rattle.cedr_table.specs.RowWise.{row_wise};
 ghost use Rattle.cedr_stream.specs.Times.{IsWhile};
 ghost use Rattle.op_life.specs.Lifetimes.{shifted, shifted_mark, with_life};
 
-use cedr_base::{OutOfMemory, Payload, Time, later};
-use cedr_table::{Life, Operator, RowWise};
+use cedr_base::{Interval, OutOfMemory, Payload, Time, later};
+use cedr_table::{Operator, RowWise};
 use std::alloc::Global;
 
 /// Each row a while later: `[begin + by, end + by)`, where a time that isn't finite is `FOREVER`. At the mark 0 the
@@ -40,8 +40,8 @@ impl RowWise for Shift {
 
     ghost payload_of = { λ _ payload. Some payload };
 
-    fn life(&self, begin: Time, end: Time) -> Life {
-        Life {
+    fn life(&self, begin: Time, end: Time) -> Interval {
+        Interval {
             begin: later(begin, self.by),
             end: later(end, self.by),
         }

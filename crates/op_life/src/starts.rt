@@ -2,8 +2,8 @@ ghost use Rattle.std.specs.Prelude.{◌≡◌, ◌∷◌, [], Some};
 ghost use Rattle.cedr_table.specs.RowWise.{row_wise};
 ghost use Rattle.op_life.specs.Lifetimes.{started, with_life};
 
-use cedr_base::{FOREVER, OutOfMemory, Payload, Time};
-use cedr_table::{Life, Operator, RowWise};
+use cedr_base::{FOREVER, Interval, OutOfMemory, Payload, Time};
+use cedr_table::{Operator, RowWise};
 use std::alloc::Global;
 
 /// Each row from its begin on, for ever: `[begin, FOREVER)`. The bound is the mark.
@@ -35,8 +35,8 @@ impl RowWise for Starts {
 
     ghost payload_of = { λ _ payload. Some payload };
 
-    fn life(&self, begin: Time, end: Time) -> Life {
-        Life {
+    fn life(&self, begin: Time, end: Time) -> Interval {
+        Interval {
             begin,
             end: FOREVER,
         }

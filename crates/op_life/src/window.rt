@@ -3,8 +3,8 @@ ghost use Rattle.cedr_table.specs.RowWise.{row_wise};
 ghost use Rattle.cedr_stream.specs.Times.{IsWhile};
 ghost use Rattle.op_life.specs.Lifetimes.{with_life, windowed};
 
-use cedr_base::{OutOfMemory, Payload, Time, later};
-use cedr_table::{Life, Operator, RowWise};
+use cedr_base::{Interval, OutOfMemory, Payload, Time, later};
+use cedr_table::{Operator, RowWise};
 use std::alloc::Global;
 
 /// Each row for at most a while from its begin on: `[begin, min(end, begin + width))`. The bound is the mark.
@@ -38,8 +38,8 @@ impl RowWise for Window {
 
     ghost payload_of = { λ _ payload. Some payload };
 
-    fn life(&self, begin: Time, end: Time) -> Life {
-        Life {
+    fn life(&self, begin: Time, end: Time) -> Interval {
+        Interval {
             begin,
             end: end.min(later(begin, self.width)),
         }

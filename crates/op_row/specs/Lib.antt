@@ -2,3 +2,4 @@ pub mod Rows
 pub mod RowLaws
 pub mod Unions
 pub mod UnionLaws
+pub mod Readings

@@ -2,7 +2,7 @@
 use Rattle.std.specs.Prelude.{ℕ, List, [], ◌∷◌, Option, Some, None, if◌then◌else◌}
 use Rattle.cedr_base.specs.declared.field.Field.{Field}
 use Rattle.cedr_base.specs.declared.row.Row.{Row}
-use Rattle.cedr_table.specs.declared.life.Life.{Life}
+use Rattle.cedr_base.specs.declared.interval.Interval.{Interval}
 use Rattle.cedr_expr.specs.declared.test.Test.{Test}
 use Rattle.cedr_expr.specs.Tests.{passes}
 use Rattle.cedr_expr.specs.Columns.{kept}
@@ -16,7 +16,7 @@ abbrev pub projected : List ℕ → Row → List Row
 projected columns r = record r { payload = kept columns r.payload } ∷ []
 
 -- the interval stays as it is
-abbrev pub same_life : ℕ → ℕ → Life
+abbrev pub same_life : ℕ → ℕ → Interval
 same_life begin end = record { begin = begin; end = end }
 
 -- the payload, where it passes

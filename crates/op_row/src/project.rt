@@ -3,9 +3,9 @@ ghost use Rattle.cedr_expr.specs.Columns.{kept};
 ghost use Rattle.cedr_table.specs.RowWise.{row_wise};
 ghost use Rattle.op_row.specs.Rows.{projected, same_life};
 
-use cedr_base::{OutOfMemory, Payload, Time};
+use cedr_base::{Interval, OutOfMemory, Payload, Time};
 use cedr_expr::Keep;
-use cedr_table::{Life, Operator, RowWise};
+use cedr_table::{Operator, RowWise};
 use std::alloc::Global;
 
 /// Each row with the kept columns. The bound is the mark.
@@ -37,8 +37,8 @@ impl RowWise for Project {
 
     ghost payload_of = { λ s payload. Some (kept s.keep payload) };
 
-    fn life(&self, begin: Time, end: Time) -> Life {
-        Life { begin, end }
+    fn life(&self, begin: Time, end: Time) -> Interval {
+        Interval { begin, end }
     }
 
     fn payload(&self, alloc: Global, payload: Payload) -> Result<Option<Payload>, OutOfMemory> {

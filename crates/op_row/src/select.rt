@@ -2,9 +2,9 @@ ghost use Rattle.std.specs.Prelude.{◌≡◌, ◌∷◌, []};
 ghost use Rattle.cedr_table.specs.RowWise.{row_wise};
 ghost use Rattle.op_row.specs.Rows.{selected, same_life, passing};
 
-use cedr_base::{OutOfMemory, Payload, Time};
+use cedr_base::{Interval, OutOfMemory, Payload, Time};
 use cedr_expr::Tests;
-use cedr_table::{Life, Operator, RowWise};
+use cedr_table::{Operator, RowWise};
 use std::alloc::Global;
 
 /// The rows whose payload passes tests. The bound is the mark.
@@ -36,8 +36,8 @@ impl RowWise for Select {
 
     ghost payload_of = { λ s. passing s.tests };
 
-    fn life(&self, begin: Time, end: Time) -> Life {
-        Life { begin, end }
+    fn life(&self, begin: Time, end: Time) -> Interval {
+        Interval { begin, end }
     }
 
     fn payload(&self, alloc: Global, payload: Payload) -> Result<Option<Payload>, OutOfMemory> {

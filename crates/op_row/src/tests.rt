@@ -101,7 +101,7 @@ fn rows_that_pass_are_handed_on(rt: HostRuntime) -> Result<(), Fail> {
             payload(alloc, b"a", Some(4))?,
         );
         let none = answers(&rt, alloc, &mut select, given, failing)?;
-        assert_eq!(rt; none.len(), 0);
+        assert_eq!(rt; none.len(), 0, "{given:?}");
     }
     Ok(())
 }
@@ -174,7 +174,8 @@ fn a_unions_bound_is_the_least_mark(rt: HostRuntime) -> Result<(), Fail> {
         (FOREVER, 7, 7),
         (FOREVER, FOREVER, FOREVER),
     ] {
-        assert_eq!(rt; union_bound(&Union::new(2), first, second), least);
+        let bound = union_bound(&Union::new(2), first, second);
+        assert_eq!(rt; bound, least, "marks {first} and {second}");
     }
     Ok(())
 }

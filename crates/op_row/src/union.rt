@@ -32,14 +32,14 @@ fn hand_on(change: Change, out: &mut Vec<Change>) -> Result<(), OutOfMemory>
 }
 
 impl Operator for Union {
-    ghost use Rattle.op_row.specs.Unions.{StandsOnPorts};
+    ghost use Rattle.op_row.specs.Readings.{union_reading};
     ghost use Rattle.op_row.specs.UnionLaws.{union_laws};
 
-    ghost meaning = { λ s. union_of s.ports };
+    ghost meaning = { union_reading.meaning };
 
-    ghost stands = { λ s tables marks. StandsOnPorts s.ports tables marks };
+    ghost stands = { union_reading.stands };
 
-    ghost held = { λ _. [] };
+    ghost held = { union_reading.held };
 
     fn ports(&self) -> usize {
         self.ports

@@ -9,8 +9,8 @@ use Rattle.cedr_table.specs.Operators.{Tables, table_at}
 use Rattle.cedr_table.specs.Counted.{spread}
 use Rattle.cedr_expr.specs.declared.test.Test.{Test}
 use Rattle.cedr_expr.specs.Tests.{passes}
-use Rattle.pat_rows.specs.Starts.{begins_within}
-use Rattle.pat_rows.proofs.FlatLemmas.{flat_map-filter, no_copies as no_such_copies}
+use Rattle.pat_state.specs.Starts.{begins_within}
+use Rattle.pat_state.proofs.FlatLemmas.{flat_map-filter, no_copies as no_such_copies}
 use Rattle.pat_seq.specs.Steps.{begun, follows, next_passing, grown, grown_passing, grown_all, near, firsts, is_match, matches}
 use Rattle.pat_seq.proofs.MatchLemmas.{longer}
 use Rattle.pat_seq.proofs.PassingLemmas.{all_pass, matching_grown}

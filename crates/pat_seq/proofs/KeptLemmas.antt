@@ -5,7 +5,7 @@ use Rattle.cedr_base.specs.declared.change.Change.{Change}
 use Rattle.cedr_base.specs.Rows.{SameRows}
 use Rattle.cedr_base.specs.Changes.{puts, takes}
 use Rattle.cedr_table.specs.Operators.{Tables}
-use Rattle.pat_rows.specs.Starts.{all_endless}
+use Rattle.pat_state.specs.Starts.{all_endless}
 use Rattle.pat_seq.specs.Keeping.{IsKeptStep}
 
 first_steps : (old : Tables) (lefts rights left right : List Row) (change : Change) → old ≡ lefts ∷ rights ∷ [] → right ≡ rights → SameRows (left ++ all_endless (takes change)) (lefts ++ all_endless (puts change)) → IsKeptStep (lefts ∷ rights ∷ []) (left ∷ right ∷ []) 0 change

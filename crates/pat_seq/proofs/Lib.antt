@@ -5,4 +5,3 @@ pub mod RepairLemmas
 pub mod ReachLemmas
 pub mod PairLemmas
 pub mod KeptLemmas
-pub mod TestLemmas

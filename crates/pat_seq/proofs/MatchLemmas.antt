@@ -11,9 +11,9 @@ use Rattle.cedr_table.specs.Operators.{Tables, with_table}
 use Rattle.cedr_table.specs.Choices.{choices, chosen}
 use Rattle.cedr_expr.specs.declared.test.Test.{Test}
 use Rattle.cedr_expr.specs.Tests.{passes}
-use Rattle.pat_rows.specs.Starts.{begins_within}
-use Rattle.pat_rows.proofs.FlatLemmas.{flat_map-like, flat_map-map, flat_map-twice, flat_map-none, flat_map-filter}
-use Rattle.pat_rows.proofs.AnswerLemmas.{AllLate, late-append, late-flat_map}
+use Rattle.pat_state.specs.Starts.{begins_within}
+use Rattle.pat_state.proofs.FlatLemmas.{flat_map-like, flat_map-map, flat_map-twice, flat_map-none, flat_map-filter}
+use Rattle.pat_state.proofs.AnswerLemmas.{AllLate, ahead-append, ahead-flat_map}
 use Rattle.pat_seq.specs.Sequences.{ascends, last_begin, joined, sequence}
 use Rattle.pat_seq.specs.Steps.{begun, next, grown, grown_all, is_match, near, matches}
 
@@ -165,40 +165,40 @@ ascends_to after limit (e ∷ es) h =
     let rises = ltb-true after e.begin both.0 in
     record { from = (let f = rest.from in omega arith); below = rest.below }
 
-late_one : (p : Row) (rs : List Row) (row : Row) (b : Bool) → row.end ≡ p.end → row.begin ≡ last_begin p.begin rs → p.end ≤ FOREVER → (b ≡ true → IsBetween p.begin p.end (last_begin p.begin rs)) → AllLate p.begin (cond b (row ∷ []) [])
-late_one p rs row true ends begins time is =
+ahead_one : (p : Row) (rs : List Row) (row : Row) (b : Bool) → row.end ≡ p.end → row.begin ≡ last_begin p.begin rs → p.end ≤ FOREVER → (b ≡ true → IsBetween p.begin p.end (last_begin p.begin rs)) → AllLate p.begin (cond b (row ∷ []) [])
+ahead_one p rs row true ends begins time is =
     let between = is refl in
     let from = between.from in
     let below = between.below in
     ((record { lives = omega arith; begins = omega arith; ends = omega arith }, omega arith), tt)
-late_one p rs row false ends begins time is = tt
+ahead_one p rs row false ends begins time is = tt
 
 -- the rows of choices that go on from a row so far don't begin before it
-late_completions : (tests : List Test) (p : Row) (ts : Tables) → p.end ≤ FOREVER → AllLate p.begin (completions tests ts p)
-late_completions tests p ts time = late-flat_map p.begin (completed tests p) (choices ts) (λ rs. late_one p rs _ (ascends p.begin p.end rs && passes tests (p.payload ++ joined rs) []) refl refl time
+ahead_completions : (tests : List Test) (p : Row) (ts : Tables) → p.end ≤ FOREVER → AllLate p.begin (completions tests ts p)
+ahead_completions tests p ts time = ahead-flat_map p.begin (completed tests p) (choices ts) (λ rs. ahead_one p rs _ (ascends p.begin p.end rs && passes tests (p.payload ++ joined rs) []) refl refl time
     (λ both. ascends_to p.begin p.end rs (and_parts (ascends p.begin p.end rs) (passes tests (p.payload ++ joined rs) []) both).0))
 
-late_next : (t : ℕ) (tests : List Test) (p r : Row) (us : Tables) (b : Bool) → AllLate t (completions tests us (longer p r)) → AllLate t (flat_map (completions tests us) (cond b (longer p r ∷ []) []))
-late_next t tests p r us true late = late-append t (completions tests us (longer p r)) [] late tt
-late_next t tests p r us false late = tt
+ahead_next : (t : ℕ) (tests : List Test) (p r : Row) (us : Tables) (b : Bool) → AllLate t (completions tests us (longer p r)) → AllLate t (flat_map (completions tests us) (cond b (longer p r ∷ []) []))
+ahead_next t tests p r us true late = ahead-append t (completions tests us (longer p r)) [] late tt
+ahead_next t tests p r us false late = tt
 
 -- nor before a changed row among theirs
-late_changed : (tests : List Test) (x : Row) (port : ℕ) (ts : Tables) (p : Row) → port < length ts → p.end ≤ FOREVER → AllLate x.begin (completions tests (with_table ts port (x ∷ [])) p)
-late_changed tests x port [] p within time = absurd (omega arith)
-late_changed tests x zero (t ∷ ts) p within time =
+ahead_changed : (tests : List Test) (x : Row) (port : ℕ) (ts : Tables) (p : Row) → port < length ts → p.end ≤ FOREVER → AllLate x.begin (completions tests (with_table ts port (x ∷ [])) p)
+ahead_changed tests x port [] p within time = absurd (omega arith)
+ahead_changed tests x zero (t ∷ ts) p within time =
     subst (AllLate x.begin) (sym (completions-cons tests p (x ∷ []) ts))
-    (late-append x.begin (flat_map (completions tests ts) (next p x)) [] (late_next x.begin tests p x ts (nat_lt p.begin x.begin && nat_lt x.begin p.end) (late_completions tests (longer p x) ts time)) tt)
-late_changed tests x (suc port) (t ∷ ts) p within time =
+    (ahead-append x.begin (flat_map (completions tests ts) (next p x)) [] (ahead_next x.begin tests p x ts (nat_lt p.begin x.begin && nat_lt x.begin p.end) (ahead_completions tests (longer p x) ts time)) tt)
+ahead_changed tests x (suc port) (t ∷ ts) p within time =
     subst (AllLate x.begin) (sym (completions-cons tests p t (with_table ts port (x ∷ []))))
-    (late-flat_map x.begin (λ r. flat_map (completions tests (with_table ts port (x ∷ []))) (next p r)) t
-    (λ r. late_next x.begin tests p r (with_table ts port (x ∷ [])) (nat_lt p.begin r.begin && nat_lt r.begin p.end) (late_changed tests x port ts (longer p r) (omega arith) time)))
+    (ahead-flat_map x.begin (λ r. flat_map (completions tests (with_table ts port (x ∷ []))) (next p r)) t
+    (λ r. ahead_next x.begin tests p r (with_table ts port (x ∷ [])) (nat_lt p.begin r.begin && nat_lt r.begin p.end) (ahead_changed tests x port ts (longer p r) (omega arith) time)))
 
 -- the rows of the choices with a changed row don't begin before it
-pub late_matches : (scope : ℕ) (tests : List Test) (x : Row) (port : ℕ) (tables : Tables) → port < length tables → AllLate x.begin (chosen (sequence scope tests) (with_table tables port (x ∷ [])))
-late_matches scope tests x port [] within = absurd (omega arith)
-late_matches scope tests x zero (t ∷ ts) within =
+pub ahead_matches : (scope : ℕ) (tests : List Test) (x : Row) (port : ℕ) (tables : Tables) → port < length tables → AllLate x.begin (chosen (sequence scope tests) (with_table tables port (x ∷ [])))
+ahead_matches scope tests x port [] within = absurd (omega arith)
+ahead_matches scope tests x zero (t ∷ ts) within =
     subst (AllLate x.begin) (sym (chosen-cons (sequence scope tests) (x ∷ []) ts))
-    (late-append x.begin (completions tests ts (begun scope x)) [] (late_completions tests (begun scope x) ts (omega arith)) tt)
-late_matches scope tests x (suc port) (t ∷ ts) within =
+    (ahead-append x.begin (completions tests ts (begun scope x)) [] (ahead_completions tests (begun scope x) ts (omega arith)) tt)
+ahead_matches scope tests x (suc port) (t ∷ ts) within =
     subst (AllLate x.begin) (sym (chosen-cons (sequence scope tests) t (with_table ts port (x ∷ []))))
-    (late-flat_map x.begin (λ r. completions tests (with_table ts port (x ∷ [])) (begun scope r)) t (λ r. late_changed tests x port ts (begun scope r) (omega arith) (omega arith)))
+    (ahead-flat_map x.begin (λ r. completions tests (with_table ts port (x ∷ [])) (begun scope r)) t (λ r. ahead_changed tests x port ts (begun scope r) (omega arith) (omega arith)))

@@ -10,9 +10,9 @@ use Rattle.cedr_stream.proofs.BagSums.{sum_by-flat_map}
 use Rattle.cedr_table.specs.Counted.{spread}
 use Rattle.cedr_expr.specs.declared.test.Test.{Test}
 use Rattle.cedr_expr.specs.Tests.{passes}
-use Rattle.pat_rows.specs.Starts.{begins_within}
-use Rattle.pat_rows.specs.Tags.{IsSought}
-use Rattle.pat_rows.proofs.FlatLemmas.{flat_map-filter, flat_map-like, flat_map-map, no_copies}
+use Rattle.pat_state.specs.Starts.{begins_within}
+use Rattle.pat_state.specs.Tags.{IsSought}
+use Rattle.pat_state.proofs.FlatLemmas.{flat_map-filter, flat_map-like, flat_map-map, no_copies}
 use Rattle.pat_seq.specs.Steps.{begun, next_passing, matches}
 use Rattle.pat_seq.proofs.FindLemmas.{fails_none, outside}
 use Rattle.pat_seq.proofs.PassingLemmas.{matching_grown}

@@ -12,7 +12,7 @@ use Rattle.cedr_expr.specs.declared.test.Operand.{Operand}
 use Rattle.cedr_expr.specs.declared.test.Operand.TheVariants as operand
 use Rattle.cedr_expr.specs.declared.test.Test.{Test}
 use Rattle.cedr_expr.specs.Tests.{passes, test_holds, operand_value, both_pass}
-use Rattle.pat_rows.proofs.FlatLemmas.{flat_map-like}
+use Rattle.pat_state.proofs.FlatLemmas.{flat_map-like}
 use Rattle.pat_seq.specs.Steps.{next, next_passing, grown, grown_passing, is_match}
 use Rattle.pat_seq.proofs.MatchLemmas.{longer}
 

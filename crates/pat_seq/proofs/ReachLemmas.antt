@@ -13,10 +13,10 @@ use Rattle.cedr_table.specs.Choices.{choices, chosen}
 use Rattle.cedr_table.proofs.ChoiceLemmas.{same_chosen}
 use Rattle.cedr_expr.specs.declared.test.Test.{Test}
 use Rattle.cedr_expr.specs.Tests.{passes}
-use Rattle.pat_rows.specs.Starts.{reaches}
-use Rattle.pat_rows.specs.Answers.{AllAmong}
-use Rattle.pat_rows.proofs.FlatLemmas.{flat_map-none, flat_map-filter}
-use Rattle.pat_rows.proofs.EndlessLemmas.{same_with, filtered_tables}
+use Rattle.pat_state.specs.Starts.{reaches}
+use Rattle.pat_state.specs.Answers.{AllAmong}
+use Rattle.pat_state.proofs.FlatLemmas.{flat_map-none, flat_map-filter}
+use Rattle.pat_state.proofs.EndlessLemmas.{same_with, filtered_tables}
 use Rattle.pat_seq.specs.Sequences.{ascends, joined, whole, sequence}
 use Rattle.pat_seq.proofs.MatchLemmas.{chosen-cons}
 
@@ -93,10 +93,10 @@ gives_none scope time tests e es true is below fails =
     absurd (let wrong = sym all ∙ fails in cc)
 
 -- a choice with a late row gives nothing unless the scope of each of its rows ends after it
-late_choice : (scope time : ℕ) (tests : List Test) (x : Row) (before after : List Row) → time ≤ x.begin → all_pass (reaches scope time) (before ++ x ∷ after) ≡ false → sequence scope tests (before ++ x ∷ after) ≡ []
-late_choice scope time tests x [] after late fails =
+ahead_choice : (scope time : ℕ) (tests : List Test) (x : Row) (before after : List Row) → time ≤ x.begin → all_pass (reaches scope time) (before ++ x ∷ after) ≡ false → sequence scope tests (before ++ x ∷ after) ≡ []
+ahead_choice scope time tests x [] after late fails =
     gives_none scope time tests x after (ascends x.begin (later x.begin scope) after) refl (λ is. let below = bounded x.begin (later x.begin scope) after is in omega arith) fails
-late_choice scope time tests x (b ∷ before) after late fails =
+ahead_choice scope time tests x (b ∷ before) after late fails =
     gives_none scope time tests b (before ++ x ∷ after) (ascends b.begin (later b.begin scope) (before ++ x ∷ after)) refl
     (λ is. let below = row_below b.begin (later b.begin scope) before after x is in omega arith) fails
 
@@ -105,8 +105,8 @@ late_choice scope time tests x (b ∷ before) after late fails =
 pub among_chosen : (scope time : ℕ) (tests : List Test) (left tables : Tables) (port : ℕ) (x : Row) → AllAmong (reaches scope time) left tables → port < length left → port < length tables → time ≤ x.begin
     → SameRows (chosen (sequence scope tests) (with_table left port (x ∷ []))) (chosen (sequence scope tests) (with_table tables port (x ∷ [])))
 among_chosen scope time tests left tables port x same within_left within late =
-    let one = passing_with (sequence scope tests) (reaches scope time) x port left within_left (λ before after at fails. late_choice scope time tests x before after late fails) in
-    let two = passing_with (sequence scope tests) (reaches scope time) x port tables within (λ before after at fails. late_choice scope time tests x before after late fails) in
+    let one = passing_with (sequence scope tests) (reaches scope time) x port left within_left (λ before after at fails. ahead_choice scope time tests x before after late fails) in
+    let two = passing_with (sequence scope tests) (reaches scope time) x port tables within (λ before after at fails. ahead_choice scope time tests x before after late fails) in
     subst (λ rows. SameRows rows (chosen (sequence scope tests) (with_table tables port (x ∷ [])))) one
     (subst (SameRows (chosen (sequence scope tests) (with_table (map (filter (reaches scope time)) left) port (x ∷ [])))) two
     (same_chosen (sequence scope tests) (with_table (map (filter (reaches scope time)) left) port (x ∷ [])) (with_table (map (filter (reaches scope time)) tables) port (x ∷ []))

@@ -18,18 +18,18 @@ use Rattle.cedr_table.specs.Choices.{choices, chosen}
 use Rattle.cedr_table.proofs.ChoiceLemmas.{same_chosen, chosen_repairs}
 use Rattle.cedr_expr.specs.declared.test.Test.{Test}
 use Rattle.cedr_expr.specs.Tests.{passes}
-use Rattle.pat_rows.specs.declared.answer.Way.{Way}
-use Rattle.pat_rows.specs.declared.answer.Way.TheVariants.{Comes, Goes}
-use Rattle.pat_rows.specs.Starts.{endless, all_endless, endless_tables}
+use Rattle.pat_state.specs.declared.answer.Way.{Way}
+use Rattle.pat_state.specs.declared.answer.Way.TheVariants.{Comes, Goes}
+use Rattle.pat_state.specs.Starts.{endless, all_endless, endless_tables}
 use Rattle.cedr_stream.specs.Times.{IsWhile}
-use Rattle.pat_rows.specs.Answers.{answered, StandsByBegin}
-use Rattle.pat_rows.proofs.FlatLemmas.{flat_map-like, flat_map-map, flat_map-none}
-use Rattle.pat_rows.proofs.AnswerLemmas.{AllLate, late_earlier, late_same, come_turns, go_turns, same_turns}
-use Rattle.pat_rows.proofs.EndlessLemmas.{endless_with, same_with, stands_after, stands_new, length-with}
+use Rattle.pat_state.specs.Answers.{answered, StandsByBegin}
+use Rattle.pat_state.proofs.FlatLemmas.{flat_map-like, flat_map-map, flat_map-none}
+use Rattle.pat_state.proofs.AnswerLemmas.{AllLate, ahead_earlier, ahead_same, come_turns, go_turns, same_turns}
+use Rattle.pat_state.proofs.EndlessLemmas.{endless_with, same_with, stands_after, stands_new, length-with}
 use Rattle.pat_seq.specs.Sequences.{ascends, last_begin, joined, sequence, IsSequence}
 use Rattle.pat_seq.specs.Steps.{matches, IsAnswered}
 use Rattle.pat_seq.proofs.ReachLemmas.{among_chosen}
-use Rattle.pat_seq.proofs.MatchLemmas.{chosen-cons, matches_are, late_matches}
+use Rattle.pat_seq.proofs.MatchLemmas.{chosen-cons, matches_are, ahead_matches}
 
 -- choices of rows without their ends
 chosen_endless : (f : List Row → List Row) (ts : Tables) → chosen f (endless_tables ts) ≡ chosen (λ rs. f (all_endless rs)) ts
@@ -109,7 +109,7 @@ found scope tests kept tables marks port x stands within from =
           subst (λ rows. SameRows rows (chosen (sequence scope tests) (with_table tables port (x ∷ [])))) (sym are)
           (same_along (chosen (sequence scope tests) (with_table kept port (x ∷ []))) (chosen (sequence scope tests) (with_table stands.left port (x ∷ []))) (chosen (sequence scope tests) (with_table tables port (x ∷ [])))
           (kept_chosen scope tests kept stands.left port x stands.rows) (among_chosen scope (least_of marks) tests stands.left tables port x stands.same in_left within (omega arith)));
-      late = subst (AllLate (least_of marks)) (sym are) (late_earlier (least_of marks) x.begin (chosen (sequence scope tests) (with_table kept port (x ∷ []))) (omega arith) (late_matches scope tests x port kept (omega arith)));
+      late = subst (AllLate (least_of marks)) (sym are) (ahead_earlier (least_of marks) x.begin (chosen (sequence scope tests) (with_table kept port (x ∷ []))) (omega arith) (ahead_matches scope tests x port kept (omega arith)));
     }
 
 -- a row that comes adds the rows of its choices
@@ -126,7 +126,7 @@ row_comes scope tests kept kept' tables marks port c x after given gained is sta
       repair = chosen_repairs (sequence scope tests) tables port c after (least_of marks) (map (answered Comes) answered_.found) within can.legal moved
           (subst (λ (d : Change). Turns (least_of marks) (chosen (sequence scope tests) (with_table tables port (takes d))) (chosen (sequence scope tests) (with_table tables port (puts d))) (map (answered Comes) answered_.found)) (sym is)
           (subst (λ (olds : List Row). Turns (least_of marks) olds (chosen (sequence scope tests) (with_table tables port (x ∷ []))) (map (answered Comes) answered_.found)) (sym (chosen_none (sequence scope tests) tables port within))
-          (come_turns (least_of marks) answered_.found (chosen (sequence scope tests) (with_table tables port (x ∷ []))) (late_same (least_of marks) answered_.found (matches scope tests x port kept) answered_.same rows.late) (same_along answered_.found (matches scope tests x port kept) (chosen (sequence scope tests) (with_table tables port (x ∷ []))) answered_.same rows.same))));
+          (come_turns (least_of marks) answered_.found (chosen (sequence scope tests) (with_table tables port (x ∷ []))) (ahead_same (least_of marks) answered_.found (matches scope tests x port kept) answered_.same rows.late) (same_along answered_.found (matches scope tests x port kept) (chosen (sequence scope tests) (with_table tables port (x ∷ []))) answered_.same rows.same))));
     }
 
 -- a row that goes takes them
@@ -143,7 +143,7 @@ row_goes scope tests kept kept' tables marks port c x end after given gained is 
       repair = chosen_repairs (sequence scope tests) tables port c after (least_of marks) (map (answered Goes) answered_.found) within can.legal moved
           (subst (λ (d : Change). Turns (least_of marks) (chosen (sequence scope tests) (with_table tables port (takes d))) (chosen (sequence scope tests) (with_table tables port (puts d))) (map (answered Goes) answered_.found)) (sym is)
           (subst (λ (news : List Row). Turns (least_of marks) (chosen (sequence scope tests) (with_table tables port (x ∷ []))) news (map (answered Goes) answered_.found)) (sym (ap (λ (left : List Row). chosen (sequence scope tests) (with_table tables port left)) (remnant_none x end gone) ∙ chosen_none (sequence scope tests) tables port within))
-          (go_turns (least_of marks) answered_.found (chosen (sequence scope tests) (with_table tables port (x ∷ []))) (late_same (least_of marks) answered_.found (matches scope tests x port kept) answered_.same rows.late) (same_along answered_.found (matches scope tests x port kept) (chosen (sequence scope tests) (with_table tables port (x ∷ []))) answered_.same rows.same))));
+          (go_turns (least_of marks) answered_.found (chosen (sequence scope tests) (with_table tables port (x ∷ []))) (ahead_same (least_of marks) answered_.found (matches scope tests x port kept) answered_.same rows.late) (same_along answered_.found (matches scope tests x port kept) (chosen (sequence scope tests) (with_table tables port (x ∷ []))) answered_.same rows.same))));
     }
 
 -- a row that ends earlier gives the same choices

@@ -6,9 +6,9 @@ use Rattle.cedr_base.specs.Rows.{SameRows}
 use Rattle.cedr_base.specs.Changes.{puts, takes}
 use Rattle.cedr_expr.specs.declared.test.Test.{Test}
 use Rattle.cedr_table.specs.Operators.{Tables, table_at, with_table}
-use Rattle.pat_rows.specs.Answers.{StandsByBegin}
-use Rattle.pat_rows.specs.Starts.{all_endless}
-use Rattle.pat_rows.specs.Tied.{AreTied}
+use Rattle.pat_state.specs.Answers.{StandsByBegin}
+use Rattle.pat_state.specs.Starts.{all_endless}
+use Rattle.pat_state.specs.Tied.{AreTied}
 use Rattle.pat_seq.specs.declared.kept.Kept.{Kept}
 use Rattle.pat_seq.specs.declared.kept.Kept.TheVariants.{Two, More}
 use Rattle.pat_seq.specs.Sequences.{IsSequence}

@@ -5,7 +5,7 @@ use Rattle.cedr_table.specs.Choices.{chosen}
 use Rattle.cedr_table.proofs.ChoiceLemmas.{nothing_chosen, same_chosen}
 use Rattle.cedr_table.specs.OperatorLaws.{OperatorLaws}
 use Rattle.cedr_table.specs.PortLaws.{least_rises, least_is_time}
-use Rattle.pat_rows.proofs.EndlessLemmas.{stands_later, stands_alike}
+use Rattle.pat_state.proofs.EndlessLemmas.{stands_later, stands_alike}
 use Rattle.cedr_expr.specs.declared.test.Test.{Test}
 use Rattle.pat_seq.specs.declared.kept.Kept.{Kept}
 use Rattle.pat_seq.specs.Keeping.{rows_in, SequenceStands}

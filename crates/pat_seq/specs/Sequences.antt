@@ -6,7 +6,7 @@ use Rattle.cedr_base.specs.declared.row.Row.{Row}
 use Rattle.cedr_stream.specs.Times.{later}
 use Rattle.cedr_table.specs.Operators.{Meaning, least_of}
 use Rattle.cedr_table.specs.Choices.{chosen}
-use Rattle.pat_rows.specs.Starts.{reaches}
+use Rattle.pat_state.specs.Starts.{reaches}
 use Rattle.cedr_expr.specs.declared.test.Test.{Test}
 use Rattle.cedr_expr.specs.Tests.{passes}
 use Rattle.cedr_stream.specs.Times.{IsWhile}

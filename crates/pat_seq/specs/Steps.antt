@@ -11,9 +11,9 @@ use Rattle.cedr_expr.specs.Tests.{passes}
 use Rattle.cedr_base.specs.declared.change.Change.{Change}
 use Rattle.cedr_base.specs.Rows.{SameRows}
 use Rattle.cedr_base.specs.Changes.{puts, takes}
-use Rattle.pat_rows.specs.declared.answer.Way.{Way}
-use Rattle.pat_rows.specs.Answers.{answered}
-use Rattle.pat_rows.specs.Starts.{begins_within, all_endless}
+use Rattle.pat_state.specs.declared.answer.Way.{Way}
+use Rattle.pat_state.specs.Answers.{answered}
+use Rattle.pat_state.specs.Starts.{begins_within, all_endless}
 
 -- the row so far of a choice that begins with this row
 abbrev pub begun : ℕ → Row → Row

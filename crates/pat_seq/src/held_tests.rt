@@ -5,25 +5,12 @@ ghost use Rattle.cedr_stream.specs.Times.{IsWhile};
 
 use crate::Sequence;
 use crate::kept::Kept;
-use crate::tests::no_tests;
-use cedr_base::{FOREVER, Time};
-use cedr_table::{Table, least_mark, no_marks};
-use op_feed::{Random, go_on, no_tables};
-use pat_rows::ByBegin;
+use cedr_base::{OutOfMemory, Time};
+use cedr_table::Table;
+use cedr_testing::{count_reaching, first_unheld, no_tests};
+use pat_state::ByBegin;
 use std::alloc::Global;
 use std::test::Fail;
-
-/// How many rows of a table have a scope that ends after a time.
-fn count_reaching(full: &Table, scope: u64, time: Time) -> Result<usize, Fail> {
-    let mut count = 0usize;
-    for row in &full.canonical()? {
-        let last = row.begin.saturating_add(scope).min(FOREVER);
-        if last > time {
-            count = count.saturating_add(1);
-        }
-    }
-    Ok(count)
-}
 
 /// How many rows a port holds.
 fn held_on(kept: &Kept, port: usize) -> usize {
@@ -40,7 +27,7 @@ fn held_on(kept: &Kept, port: usize) -> usize {
 }
 
 /// Whether each port holds as many rows as it may.
-fn hold(kept: &Kept, tables: &[Table], scope: u64, time: Time) -> Result<bool, Fail> {
+fn hold(kept: &Kept, tables: &[Table], scope: u64, time: Time) -> Result<bool, OutOfMemory> {
     for (port, full) in tables.iter().enumerate() {
         if held_on(kept, port) != count_reaching(full, scope, time)? {
             return Ok(false);
@@ -49,42 +36,24 @@ fn hold(kept: &Kept, tables: &[Table], scope: u64, time: Time) -> Result<bool, F
     Ok(kept.len() == tables.len())
 }
 
-/// Whether a sequence holds what it may after each step of a made history.
-fn holds_throughout(alloc: Global, ports: usize, scope: u64, seed: u64) -> Result<bool, Fail>
+/// The first step of a made history after which a sequence doesn't hold what it may.
+fn first_misheld(alloc: Global, ports: usize, scope: u64, seed: u64) -> Result<Option<usize>, Fail>
     requires ports { (2 ≤ ports) × (ports ≤ 4) }
     requires scope { IsWhile scope }
 {
     let mut op = Sequence::new(alloc, ports, scope, no_tests(alloc)?)?;
-    let mut tables = no_tables(alloc, ports)?;
-    let mut marks = no_marks(alloc, ports)?;
-    let mut random = Random::new(seed);
-    let mut out = Vec::new(alloc);
-    for _ in 0..50 {
-        if !go_on(
-            alloc,
-            &mut op,
-            &mut tables,
-            &mut marks,
-            1,
-            &mut random,
-            &mut out,
-        )? {
-            return Ok(false);
-        }
-        let least = least_mark(marks.as_slice());
-        if !hold(&op.kept, tables.as_slice(), scope, least)? {
-            return Ok(false);
-        }
-    }
-    Ok(true)
+    Ok(first_unheld(alloc, &mut op, ports, seed, |op, tables, least| {
+        hold(&op.kept, tables, scope, least)
+    })?)
 }
 
 #[test]
 fn made_histories_leave_the_rows_whose_scope_lasts(rt: HostRuntime) -> Result<(), Fail> {
+    let alloc = rt.alloc();
     for seed in 0..200 {
-        assert!(rt; holds_throughout(rt.alloc(), 2, 7, seed)?);
-        assert!(rt; holds_throughout(rt.alloc(), 3, 1, seed)?);
-        assert!(rt; holds_throughout(rt.alloc(), 3, 7, seed)?);
+        assert_eq!(rt; first_misheld(alloc, 2, 7, seed)?, None, "seed {seed}");
+        assert_eq!(rt; first_misheld(alloc, 3, 1, seed)?, None, "seed {seed}");
+        assert_eq!(rt; first_misheld(alloc, 3, 7, seed)?, None, "seed {seed}");
     }
     Ok(())
 }

@@ -1,13 +1,13 @@
 ghost use Rattle.std.specs.Prelude.{◌≡◌, ◌<◌, [], List, length, replicate, OnOk, IfOk};
 ghost use Rattle.cedr_expr.specs.declared.test.Test.{Test};
 ghost use Rattle.cedr_table.specs.Operators.{table_at};
-ghost use Rattle.pat_rows.specs.Answers.{AreForgotten};
-ghost use Rattle.pat_rows.specs.Starts.{HasRow};
+ghost use Rattle.pat_state.specs.Answers.{AreForgotten};
+ghost use Rattle.pat_state.specs.Starts.{HasRow};
 ghost use Rattle.pat_seq.specs.Keeping.{rows_in, AreKept, IsKeptStep};
 
 use cedr_base::{Change, OutOfMemory, Time};
 use cedr_expr::Tests;
-use pat_rows::{ByBegin, Tied};
+use pat_state::{ByBegin, Tied};
 use std::alloc::Global;
 
 /// The rows of the ports of a sequence, without their ends. Of two ports they have tags, by which those that may pass the

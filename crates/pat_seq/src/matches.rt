@@ -2,7 +2,7 @@ ghost use Rattle.std.specs.Prelude.{◌≡◌, ◌≤◌, ◌<◌, ◌++◌, ◌
 ghost use Rattle.std.specs.List.{flat_map, filter};
 ghost use Rattle.cedr_base.specs.declared.time.TheConstants.{FOREVER};
 ghost use Rattle.cedr_table.specs.Operators.{table_at};
-ghost use Rattle.pat_rows.specs.Starts.{begins_within};
+ghost use Rattle.pat_state.specs.Starts.{begins_within};
 ghost use Rattle.cedr_base.specs.Rows.{SameRows};
 ghost use Rattle.pat_seq.specs.Keeping.{rows_in, AreKept};
 ghost use Rattle.pat_seq.specs.Steps.{begun, tests_in, follows, next_passing, grown_passing, near, firsts, matches};
@@ -11,7 +11,7 @@ use crate::kept::Kept;
 use crate::pairs::find_pairs;
 use cedr_base::{OutOfMemory, Row, Time, later};
 use cedr_expr::Tests;
-use pat_rows::ByBegin;
+use pat_state::ByBegin;
 use std::alloc::Global;
 
 /// The row so far of a choice that begins with this row: it ends when the scope does.

@@ -3,7 +3,7 @@ ghost use Rattle.cedr_base.specs.declared.time.TheConstants.{FOREVER};
 ghost use Rattle.cedr_base.specs.Rows.{SameRows};
 ghost use Rattle.cedr_base.specs.Changes.{puts, takes};
 ghost use Rattle.cedr_table.specs.Operators.{table_at, with_table};
-ghost use Rattle.pat_rows.specs.Starts.{all_endless, HasRow};
+ghost use Rattle.pat_state.specs.Starts.{all_endless, HasRow};
 ghost use Rattle.cedr_stream.specs.Times.{IsWhile};
 ghost use Rattle.pat_seq.specs.Keeping.{rows_in, AreKept};
 ghost use Rattle.pat_seq.specs.Sequences.{sequence_of};
@@ -14,7 +14,7 @@ use crate::matches::find_matches;
 use cedr_base::{Change, OutOfMemory, Row, Time};
 use cedr_expr::Tests;
 use cedr_table::{Operator, least_mark};
-use pat_rows::{Way, push_answers};
+use pat_state::{Way, push_answers};
 use std::alloc::Global;
 
 /// One row for each choice of one row of each port, where they begin one after the other within the scope of the
@@ -82,14 +82,14 @@ impl Sequence {
 }
 
 impl Operator for Sequence {
-    ghost use Rattle.pat_seq.specs.Keeping.{SequenceStands};
+    ghost use Rattle.pat_seq.specs.Readings.{sequence_reading};
     ghost use Rattle.pat_seq.specs.SequenceLaws.{sequence_laws};
 
-    ghost meaning = { λ s. sequence_of (length (rows_in s.kept)) s.scope s.tests };
+    ghost meaning = { sequence_reading.meaning };
 
-    ghost stands = { λ s tables marks. SequenceStands s.scope s.tests s.kept tables marks };
+    ghost stands = { sequence_reading.stands };
 
-    ghost held = { λ s. rows_in s.kept };
+    ghost held = { sequence_reading.held };
 
     fn ports(&self) -> usize {
         self.kept.len()

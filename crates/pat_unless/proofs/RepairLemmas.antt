@@ -23,12 +23,13 @@ use Rattle.cedr_table.specs.Operators.{Tables, Gains, CanTake, table_at, mark_at
 use Rattle.cedr_table.specs.PortLaws.{least_below, table_at-with, table_at-with_other}
 use Rattle.cedr_expr.specs.declared.test.Test.{Test}
 use Rattle.cedr_expr.specs.Tests.{passes}
-use Rattle.pat_rows.specs.declared.answer.Way.TheVariants.{Comes, Goes}
-use Rattle.pat_rows.specs.Starts.{endless, all_endless, endless_tables, reaches, HasRow}
-use Rattle.pat_rows.specs.Answers.{answered, StandsByBegin}
-use Rattle.pat_rows.proofs.FlatLemmas.{flat_map-like, flat_map-map}
-use Rattle.pat_rows.proofs.AnswerLemmas.{AllLate, late-flat_map, late_same, come_turns, go_turns, same_turns}
-use Rattle.pat_rows.proofs.EndlessLemmas.{kept_at, left_at, kept_moved, stands_after, stands_has, left_withdraws, reaches_itself, tables_ends, endless_at}
+use Rattle.pat_state.specs.declared.answer.Way.{Way}
+use Rattle.pat_state.specs.declared.answer.Way.TheVariants.{Comes, Goes}
+use Rattle.pat_state.specs.Starts.{endless, all_endless, endless_tables, reaches, HasRow}
+use Rattle.pat_state.specs.Answers.{answered, StandsByBegin}
+use Rattle.pat_state.proofs.FlatLemmas.{flat_map-like, flat_map-map}
+use Rattle.pat_state.proofs.AnswerLemmas.{AllLate, ahead-flat_map, ahead_same, come_turns, go_turns, same_turns}
+use Rattle.pat_state.proofs.EndlessLemmas.{kept_at, left_at, kept_moved, stands_after, stands_has, left_withdraws, reaches_itself, tables_ends, endless_at}
 use Rattle.pat_unless.specs.declared.terms.Terms.{Terms}
 use Rattle.pat_unless.specs.Blocking.{blocks, is_blocked, waited, unblocked, all_unblocked, AreWhiles}
 use Rattle.pat_unless.specs.BlockingLaws.{any_is, any_same, unblocked_same, same_unblocked}
@@ -77,30 +78,30 @@ with_rows scope hold tests tables after two = λ i. flat_map (unblocked scope ho
 with_blockers : (scope hold : ℕ) (tests : List Test) (tables : Tables) (after : List Row) → length tables ≡ 2 → all_unblocked scope hold tests (with_table tables 1 after) ≡ flat_map (unblocked scope hold tests after) (table_at tables 0)
 with_blockers scope hold tests tables after two = λ i. flat_map (unblocked scope hold tests (table_at-with tables 1 after (omega arith) i)) (table_at-with_other tables 1 0 after (λ same. omega arith) i)
 
-late_life : (t begin end : ℕ) (a : Row) (b : Bool) → nat_lt begin end ≡ b → end ≤ FOREVER → t ≤ begin → AllLate t (cond b (record { end = end; begin = begin; payload = a.payload } ∷ []) [])
-late_life t begin end a true h time from = let lives = ltb-true begin end h in ((record { lives = lives; begins = omega arith; ends = time }, from), tt)
-late_life t begin end a false h time from = tt
+ahead_life : (t begin end : ℕ) (a : Row) (b : Bool) → nat_lt begin end ≡ b → end ≤ FOREVER → t ≤ begin → AllLate t (cond b (record { end = end; begin = begin; payload = a.payload } ∷ []) [])
+ahead_life t begin end a true h time from = let lives = ltb-true begin end h in ((record { lives = lives; begins = omega arith; ends = time }, from), tt)
+ahead_life t begin end a false h time from = tt
 
-late_waited : (t scope hold : ℕ) (a : Row) → t ≤ later a.begin scope → AllLate t (waited scope hold a)
-late_waited t scope hold a from = late_life t (later a.begin scope) (later (later a.begin scope) hold) a (nat_lt (later a.begin scope) (later (later a.begin scope) hold)) refl (omega arith) from
+ahead_waited : (t scope hold : ℕ) (a : Row) → t ≤ later a.begin scope → AllLate t (waited scope hold a)
+ahead_waited t scope hold a from = ahead_life t (later a.begin scope) (later (later a.begin scope) hold) a (nat_lt (later a.begin scope) (later (later a.begin scope) hold)) refl (omega arith) from
 
-late_at : (t : ℕ) (b : Bool) (rows : List Row) → AllLate t rows → AllLate t (cond b [] rows)
-late_at t true rows late = tt
-late_at t false rows late = late
+ahead_at : (t : ℕ) (b : Bool) (rows : List Row) → AllLate t rows → AllLate t (cond b [] rows)
+ahead_at t true rows late = tt
+ahead_at t false rows late = late
 
-late_unblocked : (t scope hold : ℕ) (tests : List Test) (blockers : List Row) (a : Row) → t ≤ later a.begin scope → AllLate t (unblocked scope hold tests blockers a)
-late_unblocked t scope hold tests blockers a from = late_at t (is_blocked scope tests blockers a) (waited scope hold a) (late_waited t scope hold a from)
+ahead_unblocked : (t scope hold : ℕ) (tests : List Test) (blockers : List Row) (a : Row) → t ≤ later a.begin scope → AllLate t (unblocked scope hold tests blockers a)
+ahead_unblocked t scope hold tests blockers a from = ahead_at t (is_blocked scope tests blockers a) (waited scope hold a) (ahead_waited t scope hold a from)
 
-late_only : (t scope hold : ℕ) (tests : List Test) (others : List Row) (b a : Row) (blocking : Bool) → blocks scope tests a b ≡ blocking → t ≤ b.begin → AllLate t (cond blocking (unblocked scope hold tests others a) [])
-late_only t scope hold tests others b a true h from =
+ahead_only : (t scope hold : ℕ) (tests : List Test) (others : List Row) (b a : Row) (blocking : Bool) → blocks scope tests a b ≡ blocking → t ≤ b.begin → AllLate t (cond blocking (unblocked scope hold tests others a) [])
+ahead_only t scope hold tests others b a true h from =
     let both = and_parts (nat_lt a.begin b.begin) (nat_lt b.begin (later a.begin scope) && passes tests a.payload b.payload) h in
     let within = ltb-true b.begin (later a.begin scope) (and_parts (nat_lt b.begin (later a.begin scope)) (passes tests a.payload b.payload) both.1).0 in
-    late_unblocked t scope hold tests others a (omega arith)
-late_only t scope hold tests others b a false h from = tt
+    ahead_unblocked t scope hold tests others a (omega arith)
+ahead_only t scope hold tests others b a false h from = tt
 
 -- the rows of which a blocker decides don't begin before it
-late_decided : (t scope hold : ℕ) (tests : List Test) (others : List Row) (b : Row) (rows : List Row) → t ≤ b.begin → AllLate t (decided scope hold tests others b rows)
-late_decided t scope hold tests others b rows from = late-flat_map t (only_blocked scope hold tests others b) rows (λ a. late_only t scope hold tests others b a (blocks scope tests a b) refl from)
+ahead_decided : (t scope hold : ℕ) (tests : List Test) (others : List Row) (b : Row) (rows : List Row) → t ≤ b.begin → AllLate t (decided scope hold tests others b rows)
+ahead_decided t scope hold tests others b rows from = ahead-flat_map t (only_blocked scope hold tests others b) rows (λ a. ahead_only t scope hold tests others b a (blocks scope tests a b) refl from)
 
 -- a row that is blocked by a late one has a scope that ends after it
 blocked_reaches : (scope time : ℕ) (tests : List Test) (a b : Row) → time ≤ b.begin → blocks scope tests a b ≡ true → reaches scope time a ≡ true
@@ -168,74 +169,53 @@ rows_repair f c old after t cs may moved turns = repair_by_turns (flat_map f old
     ))
     (λ r. omega (arith, sum_by-flat_map (one_if_same r) f old, sum_by-flat_map (one_if_same r) f (takes c), sum_by-there (λ x. count_of r (f x)) c old may))
 
--- a row that comes on port 0 adds the row that it gives
-comes_at : (scope hold : ℕ) (tests : List Test) (kept_rows kept_blockers : List Row) (tables : Tables) (marks : List ℕ) (c : Change) (x : Row) (after : List Row) (given gained : List Change)
-    → c ≡ Add x → StandsByBegin (AreWhiles scope hold) scope (kept_rows ∷ kept_blockers ∷ []) tables marks → Appends Comes (unblocked scope hold tests kept_blockers x) given gained → CanTake tables marks 0 c → IsMoved c (table_at tables 0) after
-    → Gains (all_unblocked scope hold tests tables) (all_unblocked scope hold tests (with_table tables 0 after)) (least_of marks) given gained
-comes_at scope hold tests kept_rows kept_blockers tables marks c x after given gained is stands appends can moved =
-    let two = stands.table in
-    let lengths = stands.mark in
+-- where a row comes on port 0 or goes from it, what turns the row that it gives repairs the result
+row_at : (scope hold : ℕ) (tests : List Test) (kept_rows kept_blockers : List Row) (tables : Tables) (marks : List ℕ) (c : Change) (x : Row) (way : Way) (after : List Row) (given gained : List Change)
+    → IsRow x → least_of marks ≤ x.begin → StandsByBegin (AreWhiles scope hold) scope (kept_rows ∷ kept_blockers ∷ []) tables marks → Appends way (unblocked scope hold tests kept_blockers x) given gained
+    → ((f : Row → List Row) (found : List Row) → AllLate (least_of marks) found → SameRows found (f x ++ []) → Turns (least_of marks) (flat_map f (takes c)) (flat_map f (puts c)) (map (answered way) found))
+    → CanTake tables marks 0 c → IsMoved c (table_at tables 0) after → Gains (all_unblocked scope hold tests tables) (all_unblocked scope hold tests (with_table tables 0 after)) (least_of marks) given gained
+row_at scope hold tests kept_rows kept_blockers tables marks c x way after given gained row from stands appends turns can moved =
     let f = unblocked scope hold tests (table_at tables 1) in
     let given_by_it = unblocked scope hold tests kept_blockers x in
-    let row : IsRow x = subst IsChange is (may_is (table_at tables 0) [] c can.legal) in
-    let from : mark_at marks 0 ≤ x.begin = subst (λ (d : Change). mark_at marks 0 ≤ sync_of d) is can.from in
-    let least = least_below 0 marks (omega arith) in
     let finite = row.begins in
-    let late : AllLate (least_of marks) given_by_it = late_unblocked (least_of marks) scope hold tests kept_blockers x (omega arith) in
+    let late : AllLate (least_of marks) given_by_it = ahead_unblocked (least_of marks) scope hold tests kept_blockers x (omega arith) in
     let same : given_by_it ≡ f x =
     kept_unblocked scope hold (least_of marks) tests kept_blockers (table_at tables 1) x (leaves_at scope (kept_rows ∷ kept_blockers ∷ []) tables marks 1 stands) (reaches_itself scope (least_of marks) x stands.range.scope_is.least finite (omega arith)) in
     record {
-      changes = map (answered Comes) appends.found;
+      changes = map (answered way) appends.found;
       appended = appends.answers;
       repair =
-          subst (λ (new : List Row). Repair (all_unblocked scope hold tests tables) new (least_of marks) (map (answered Comes) appends.found)) (sym (with_rows scope hold tests tables after two))
-          (rows_repair f c (table_at tables 0) after (least_of marks) (map (answered Comes) appends.found) can.legal moved
-          (subst (λ (d : Change). Turns (least_of marks) (flat_map f (takes d)) (flat_map f (puts d)) (map (answered Comes) appends.found)) (sym is)
-          (come_turns (least_of marks) appends.found (f x ++ []) (late_same (least_of marks) appends.found given_by_it appends.same late) (record { each = λ r. appends.same.each r ∙ ap (count_of r) (same ∙ sym (append-nil (f x))) }))));
+          subst (λ (new : List Row). Repair (all_unblocked scope hold tests tables) new (least_of marks) (map (answered way) appends.found)) (sym (with_rows scope hold tests tables after stands.table))
+          (rows_repair f c (table_at tables 0) after (least_of marks) (map (answered way) appends.found) can.legal moved
+          (turns f appends.found (ahead_same (least_of marks) appends.found given_by_it appends.same late) (record { each = λ r. appends.same.each r ∙ ap (count_of r) (same ∙ sym (append-nil (f x))) })));
     }
 
 -- where a row comes on port 0, the addition of the row that it gives repairs the result
 pub row_comes : (scope hold : ℕ) (tests : List Test) (kept_rows kept_blockers : List Row) (tables : Tables) (marks : List ℕ) (port : ℕ) (c : Change) (x : Row) (after : List Row) (given gained : List Change)
     → port ≡ 0 → c ≡ Add x → StandsByBegin (AreWhiles scope hold) scope (kept_rows ∷ kept_blockers ∷ []) tables marks → Appends Comes (unblocked scope hold tests kept_blockers x) given gained → CanTake tables marks port c → IsMoved c (table_at tables port) after
     → Gains (all_unblocked scope hold tests tables) (all_unblocked scope hold tests (with_table tables port after)) (least_of marks) given gained
-row_comes scope hold tests kept_rows kept_blockers tables marks port c x after given gained at is stands appends =
-    subst (λ (port : ℕ). CanTake tables marks port c → IsMoved c (table_at tables port) after → Gains (all_unblocked scope hold tests tables) (all_unblocked scope hold tests (with_table tables port after)) (least_of marks) given gained) (sym at)
-    (comes_at scope hold tests kept_rows kept_blockers tables marks c x after given gained is stands appends)
-
--- a row that goes from port 0 takes away the row that it gives
-goes_at : (scope hold : ℕ) (tests : List Test) (kept_rows kept_blockers : List Row) (tables : Tables) (marks : List ℕ) (c : Change) (x : Row) (end : ℕ) (after : List Row) (given gained : List Change)
-    → c ≡ Cut x end → end ≤ x.begin → StandsByBegin (AreWhiles scope hold) scope (kept_rows ∷ kept_blockers ∷ []) tables marks → Appends Goes (unblocked scope hold tests kept_blockers x) given gained → CanTake tables marks 0 c → IsMoved c (table_at tables 0) after
-    → Gains (all_unblocked scope hold tests tables) (all_unblocked scope hold tests (with_table tables 0 after)) (least_of marks) given gained
-goes_at scope hold tests kept_rows kept_blockers tables marks c x end after given gained is gone stands appends can moved =
-    let two = stands.table in
+row_comes scope hold tests kept_rows kept_blockers tables marks port c x after given gained at is stands appends can moved =
     let lengths = stands.mark in
-    let f = unblocked scope hold tests (table_at tables 1) in
-    let given_by_it = unblocked scope hold tests kept_blockers x in
-    let row : IsRow x = (subst IsChange is (may_is (table_at tables 0) [] c can.legal)).0 in
-    let from : mark_at marks 0 ≤ end = subst (λ (d : Change). mark_at marks 0 ≤ sync_of d) is can.from in
-    let least = least_below 0 marks (omega arith) in
-    let finite = row.begins in
-    let late : AllLate (least_of marks) given_by_it = late_unblocked (least_of marks) scope hold tests kept_blockers x (omega arith) in
-    let same : given_by_it ≡ f x =
-    kept_unblocked scope hold (least_of marks) tests kept_blockers (table_at tables 1) x (leaves_at scope (kept_rows ∷ kept_blockers ∷ []) tables marks 1 stands) (reaches_itself scope (least_of marks) x stands.range.scope_is.least finite (omega arith)) in
-    record {
-      changes = map (answered Goes) appends.found;
-      appended = appends.answers;
-      repair =
-          subst (λ (new : List Row). Repair (all_unblocked scope hold tests tables) new (least_of marks) (map (answered Goes) appends.found)) (sym (with_rows scope hold tests tables after two))
-          (rows_repair f c (table_at tables 0) after (least_of marks) (map (answered Goes) appends.found) can.legal moved
-          (subst (λ (d : Change). Turns (least_of marks) (flat_map f (takes d)) (flat_map f (puts d)) (map (answered Goes) appends.found)) (sym is)
-          (subst (λ (left : List Row). Turns (least_of marks) (f x ++ []) (flat_map f left) (map (answered Goes) appends.found)) (sym (remnant_none x end gone))
-          (go_turns (least_of marks) appends.found (f x ++ []) (late_same (least_of marks) appends.found given_by_it appends.same late) (record { each = λ r. appends.same.each r ∙ ap (count_of r) (same ∙ sym (append-nil (f x))) })))));
-    }
+    let row : IsRow x = subst IsChange is (may_is (table_at tables port) [] c can.legal) in
+    let from : mark_at marks port ≤ x.begin = subst (λ (d : Change). mark_at marks port ≤ sync_of d) is can.from in
+    let least = least_below port marks (omega arith) in
+    subst (λ (port : ℕ). CanTake tables marks port c → IsMoved c (table_at tables port) after → Gains (all_unblocked scope hold tests tables) (all_unblocked scope hold tests (with_table tables port after)) (least_of marks) given gained) (sym at)
+    (row_at scope hold tests kept_rows kept_blockers tables marks c x Comes after given gained row (omega arith) stands appends
+    (λ f found late same. subst (λ (d : Change). Turns (least_of marks) (flat_map f (takes d)) (flat_map f (puts d)) (map (answered Comes) found)) (sym is) (come_turns (least_of marks) found (f x ++ []) late same))) can moved
 
 -- where a row of port 0 is withdrawn, the withdrawal of the row that it gives repairs the result
 pub row_goes : (scope hold : ℕ) (tests : List Test) (kept_rows kept_blockers : List Row) (tables : Tables) (marks : List ℕ) (port : ℕ) (c : Change) (x : Row) (end : ℕ) (after : List Row) (given gained : List Change)
     → port ≡ 0 → c ≡ Cut x end → end ≤ x.begin → StandsByBegin (AreWhiles scope hold) scope (kept_rows ∷ kept_blockers ∷ []) tables marks → Appends Goes (unblocked scope hold tests kept_blockers x) given gained → CanTake tables marks port c → IsMoved c (table_at tables port) after
     → Gains (all_unblocked scope hold tests tables) (all_unblocked scope hold tests (with_table tables port after)) (least_of marks) given gained
-row_goes scope hold tests kept_rows kept_blockers tables marks port c x end after given gained at is gone stands appends =
+row_goes scope hold tests kept_rows kept_blockers tables marks port c x end after given gained at is gone stands appends can moved =
+    let lengths = stands.mark in
+    let row : IsRow x = (subst IsChange is (may_is (table_at tables port) [] c can.legal)).0 in
+    let from : mark_at marks port ≤ end = subst (λ (d : Change). mark_at marks port ≤ sync_of d) is can.from in
+    let least = least_below port marks (omega arith) in
     subst (λ (port : ℕ). CanTake tables marks port c → IsMoved c (table_at tables port) after → Gains (all_unblocked scope hold tests tables) (all_unblocked scope hold tests (with_table tables port after)) (least_of marks) given gained) (sym at)
-    (goes_at scope hold tests kept_rows kept_blockers tables marks c x end after given gained is gone stands appends)
+    (row_at scope hold tests kept_rows kept_blockers tables marks c x Goes after given gained row (omega arith) stands appends
+    (λ f found late same. subst (λ (d : Change). Turns (least_of marks) (flat_map f (takes d)) (flat_map f (puts d)) (map (answered Goes) found)) (sym is)
+    (subst (λ (left : List Row). Turns (least_of marks) (f x ++ []) (flat_map f left) (map (answered Goes) found)) (sym (remnant_none x end gone)) (go_turns (least_of marks) found (f x ++ []) late same)))) can moved
 
 -- a blocker that comes takes the rows that it alone blocks
 blocks_at : (scope hold : ℕ) (tests : List Test) (kept_rows kept_blockers : List Row) (tables : Tables) (marks : List ℕ) (c : Change) (b : Row) (after : List Row) (given gained : List Change)
@@ -259,7 +239,7 @@ blocks_at scope hold tests kept_rows kept_blockers tables marks c b after given 
       repair =
           subst (λ (new : List Row). Repair (all_unblocked scope hold tests tables) new (least_of marks) (map (answered Goes) appends.found)) (sym (with_blockers scope hold tests tables after two))
           (repair_by_turns (flat_map (unblocked scope hold tests others) rows) (flat_map (unblocked scope hold tests after) rows) (decided scope hold tests others b rows) [] (least_of marks) (map (answered Goes) appends.found)
-          (go_turns (least_of marks) appends.found (decided scope hold tests others b rows) (late_same (least_of marks) appends.found found appends.same (late_decided (least_of marks) scope hold tests kept_blockers b kept_rows (omega arith))) (same_along appends.found found (decided scope hold tests others b rows) appends.same same))
+          (go_turns (least_of marks) appends.found (decided scope hold tests others b rows) (ahead_same (least_of marks) appends.found found appends.same (ahead_decided (least_of marks) scope hold tests kept_blockers b kept_rows (omega arith))) (same_along appends.found found (decided scope hold tests others b rows) appends.same same))
           (λ r. omega (arith, decided_counts scope hold tests after others b r rows all))
           (λ r. omega (arith, decided_counts scope hold tests after others b r rows all)));
     }
@@ -307,7 +287,7 @@ frees_at scope hold tests kept_rows kept_blockers kept_others tables marks c b e
       repair =
           subst (λ (new : List Row). Repair (all_unblocked scope hold tests tables) new (least_of marks) (map (answered Comes) appends.found)) (sym (with_blockers scope hold tests tables after two))
           (repair_by_turns (flat_map (unblocked scope hold tests blockers) rows) (flat_map (unblocked scope hold tests after) rows) [] (decided scope hold tests after b rows) (least_of marks) (map (answered Comes) appends.found)
-          (come_turns (least_of marks) appends.found (decided scope hold tests after b rows) (late_same (least_of marks) appends.found found appends.same (late_decided (least_of marks) scope hold tests kept_others b kept_rows (omega arith))) (same_along appends.found found (decided scope hold tests after b rows) appends.same same))
+          (come_turns (least_of marks) appends.found (decided scope hold tests after b rows) (ahead_same (least_of marks) appends.found found appends.same (ahead_decided (least_of marks) scope hold tests kept_others b kept_rows (omega arith))) (same_along appends.found found (decided scope hold tests after b rows) appends.same same))
           (λ r. omega (arith, decided_counts scope hold tests blockers after b r rows all))
           (λ r. omega arith));
     }

@@ -13,9 +13,9 @@ use Rattle.cedr_stream.specs.Times.{later}
 use Rattle.cedr_table.specs.Counted.{spread}
 use Rattle.cedr_expr.specs.declared.test.Test.{Test}
 use Rattle.cedr_expr.specs.Tests.{passes}
-use Rattle.pat_rows.specs.Starts.{begins_within, AreWithin}
-use Rattle.pat_rows.specs.Tags.{IsSought}
-use Rattle.pat_rows.proofs.FlatLemmas.{flat_map-filter, same_copies, no_copies}
+use Rattle.pat_state.specs.Starts.{begins_within, AreWithin}
+use Rattle.pat_state.specs.Tags.{IsSought}
+use Rattle.pat_state.proofs.FlatLemmas.{flat_map-filter, same_copies, no_copies}
 use Rattle.pat_unless.specs.Blocking.{blocks, is_blocked, waited, unblocked}
 use Rattle.pat_unless.specs.BlockingLaws.{any_is}
 use Rattle.pat_unless.specs.Steps.{only_blocked, freed, decided}

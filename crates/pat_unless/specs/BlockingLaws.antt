@@ -10,10 +10,10 @@ use Rattle.cedr_stream.proofs.BagSums.{sum_by-same, same_flat_map}
 use Rattle.cedr_table.specs.Operators.{Tables, table_at, SameTables}
 use Rattle.cedr_table.specs.PortLaws.{same_at, least_rises, least_is_time}
 use Rattle.cedr_table.specs.OperatorLaws.{OperatorLaws}
-use Rattle.pat_rows.specs.declared.tied.Tied.{Tied}
-use Rattle.pat_rows.proofs.EndlessLemmas.{stands_later, stands_alike}
+use Rattle.pat_state.specs.declared.tied.Tied.{Tied}
+use Rattle.pat_state.proofs.EndlessLemmas.{stands_later, stands_alike}
 use Rattle.cedr_expr.specs.declared.test.Test.{Test}
-use Rattle.pat_rows.proofs.FlatLemmas.{flat_map-like}
+use Rattle.pat_state.proofs.FlatLemmas.{flat_map-like}
 use Rattle.pat_unless.specs.declared.terms.Terms.{Terms}
 use Rattle.pat_unless.specs.Blocking.{blocks, waited, unblocked, all_unblocked, unless_of}
 use Rattle.pat_unless.specs.Standing.{UnlessStands}

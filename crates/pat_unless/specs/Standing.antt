@@ -1,9 +1,9 @@
 -- What the state of an unless stands for.
 use Rattle.std.specs.Prelude.{ℕ, List, [], ◌∷◌}
 use Rattle.cedr_table.specs.Operators.{Tables}
-use Rattle.pat_rows.specs.Answers.{StandsByBegin}
-use Rattle.pat_rows.specs.Tied.{AreTied}
-use Rattle.pat_rows.specs.declared.tied.Tied.{Tied}
+use Rattle.pat_state.specs.Answers.{StandsByBegin}
+use Rattle.pat_state.specs.Tied.{AreTied}
+use Rattle.pat_state.specs.declared.tied.Tied.{Tied}
 use Rattle.pat_unless.specs.declared.terms.Terms.{Terms}
 use Rattle.pat_unless.specs.Blocking.{AreWhiles}
 

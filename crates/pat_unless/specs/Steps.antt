@@ -7,9 +7,9 @@ use Rattle.cedr_base.specs.Rows.{SameRows}
 use Rattle.cedr_base.specs.Changes.{puts, takes}
 use Rattle.cedr_expr.specs.declared.test.Test.{Test}
 use Rattle.cedr_expr.specs.Tests.{passes}
-use Rattle.pat_rows.specs.declared.answer.Way.{Way}
-use Rattle.pat_rows.specs.Answers.{answered}
-use Rattle.pat_rows.specs.Starts.{all_endless}
+use Rattle.pat_state.specs.declared.answer.Way.{Way}
+use Rattle.pat_state.specs.Answers.{answered}
+use Rattle.pat_state.specs.Starts.{all_endless}
 use Rattle.pat_unless.specs.Blocking.{blocks, is_blocked, waited, unblocked}
 
 -- the row that a gives where b blocks it and no other row does

@@ -3,61 +3,38 @@
 ghost use Rattle.cedr_stream.specs.Times.{IsWhile};
 
 use crate::Unless;
-use crate::tests::no_tests;
-use cedr_base::{FOREVER, Time};
-use cedr_table::{Table, least_mark, no_marks};
-use op_feed::{Random, go_on, no_tables};
+use cedr_base::{OutOfMemory, Time};
+use cedr_table::Table;
+use cedr_testing::{count_reaching, first_unheld, no_tests};
 use std::alloc::Global;
 use std::test::Fail;
 
-/// How many rows of a table have a scope that ends after a time.
-fn count_reaching(full: &Table, scope: u64, time: Time) -> Result<usize, Fail> {
-    let mut count = 0usize;
-    for row in &full.canonical()? {
-        let last = row.begin.saturating_add(scope).min(FOREVER);
-        if last > time {
-            count = count.saturating_add(1);
-        }
-    }
-    Ok(count)
-}
-
-/// Whether an unless holds what it may after each step of a made history.
-fn holds_throughout(alloc: Global, scope: u64, seed: u64) -> Result<bool, Fail>
-    requires { IsWhile scope }
-{
-    let mut op = Unless::new(alloc, scope, 3, no_tests(alloc)?);
-    let mut tables = no_tables(alloc, 2)?;
-    let mut marks = no_marks(alloc, 2)?;
-    let mut random = Random::new(seed);
-    let mut out = Vec::new(alloc);
-    for _ in 0..50 {
-        if !go_on(
-            alloc,
-            &mut op,
-            &mut tables,
-            &mut marks,
-            1,
-            &mut random,
-            &mut out,
-        )? {
+/// Whether each port holds as many rows as it may.
+fn hold(op: &Unless, tables: &[Table], scope: u64, time: Time) -> Result<bool, OutOfMemory> {
+    for (rows, full) in [op.tied.left(), op.tied.right()].iter().zip(tables) {
+        if rows.len() != count_reaching(full, scope, time)? {
             return Ok(false);
-        }
-        let least = least_mark(marks.as_slice());
-        for (rows, full) in [op.tied.left(), op.tied.right()].iter().zip(&tables) {
-            if rows.len() != count_reaching(full, scope, least)? {
-                return Ok(false);
-            }
         }
     }
     Ok(true)
 }
 
+/// The first step of a made history after which an unless doesn't hold what it may.
+fn first_misheld(alloc: Global, scope: u64, seed: u64) -> Result<Option<usize>, Fail>
+    requires { IsWhile scope }
+{
+    let mut op = Unless::new(alloc, scope, 3, no_tests(alloc)?);
+    Ok(first_unheld(alloc, &mut op, 2, seed, |op, tables, least| {
+        hold(op, tables, scope, least)
+    })?)
+}
+
 #[test]
 fn made_histories_leave_the_rows_whose_scope_lasts(rt: HostRuntime) -> Result<(), Fail> {
+    let alloc = rt.alloc();
     for seed in 0..200 {
-        assert!(rt; holds_throughout(rt.alloc(), 1, seed)?);
-        assert!(rt; holds_throughout(rt.alloc(), 7, seed)?);
+        assert_eq!(rt; first_misheld(alloc, 1, seed)?, None, "seed {seed}");
+        assert_eq!(rt; first_misheld(alloc, 7, seed)?, None, "seed {seed}");
     }
     Ok(())
 }

@@ -3,14 +3,14 @@ ghost use Rattle.std.specs.List.{flat_map};
 ghost use Rattle.cedr_base.specs.declared.time.TheConstants.{FOREVER};
 ghost use Rattle.cedr_base.specs.Rows.{SameRows};
 ghost use Rattle.cedr_table.specs.Counted.{spread};
-ghost use Rattle.pat_rows.specs.Tied.{AreTied};
-ghost use Rattle.pat_rows.specs.Starts.{AreWithin};
+ghost use Rattle.pat_state.specs.Tied.{AreTied};
+ghost use Rattle.pat_state.specs.Starts.{AreWithin};
 ghost use Rattle.pat_unless.specs.Blocking.{is_blocked, waited, unblocked, AreWhiles};
 ghost use Rattle.pat_unless.specs.Steps.{freed, decided};
 
 use cedr_base::{OutOfMemory, Payload, Row, Time, later};
 use cedr_expr::Tests;
-use pat_rows::Tied;
+use pat_state::Tied;
 use std::alloc::Global;
 use std::collections::btree_map::Range;
 

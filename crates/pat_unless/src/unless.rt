@@ -1,9 +1,9 @@
 ghost use Rattle.std.specs.Prelude.{◌≡◌, ◌<◌, ◌∷◌, [], OnOk, OnErr};
 ghost use Rattle.cedr_base.specs.declared.time.TheConstants.{FOREVER};
-ghost use Rattle.pat_rows.specs.Starts.{HasRow};
-ghost use Rattle.pat_rows.specs.Tied.{AreTied};
+ghost use Rattle.pat_state.specs.Starts.{HasRow};
+ghost use Rattle.pat_state.specs.Tied.{AreTied};
 ghost use Rattle.cedr_stream.specs.Times.{IsWhile};
-ghost use Rattle.pat_rows.specs.declared.answer.Way.TheVariants.{Comes, Goes};
+ghost use Rattle.pat_state.specs.declared.answer.Way.TheVariants.{Comes, Goes};
 ghost use Rattle.pat_unless.specs.Blocking.{unless_of, unblocked, AreWhiles};
 ghost use Rattle.pat_unless.specs.Steps.{decided, IsStep, Appends};
 
@@ -11,7 +11,7 @@ use crate::terms::Terms;
 use cedr_base::{Change, OutOfMemory, Row, Time};
 use cedr_expr::Tests;
 use cedr_table::{Operator, least_mark};
-use pat_rows::{Tied, Way, push_answers};
+use pat_state::{Tied, Way, push_answers};
 use std::alloc::Global;
 
 /// For each row a of port 0 such that no row b of port 1 has `a.begin < b.begin < later(a.begin, scope)` and passes
@@ -111,14 +111,14 @@ impl Unless {
 }
 
 impl Operator for Unless {
+    ghost use Rattle.pat_unless.specs.Readings.{unless_reading};
     ghost use Rattle.pat_unless.specs.BlockingLaws.{unless_laws};
-    ghost use Rattle.pat_unless.specs.Standing.{UnlessStands};
 
-    ghost meaning = { λ s. unless_of s.terms.scope s.terms.hold s.terms.tests };
+    ghost meaning = { unless_reading.meaning };
 
-    ghost stands = { λ s tables marks. UnlessStands s.terms s.tied tables marks };
+    ghost stands = { unless_reading.stands };
 
-    ghost held = { λ s. s.tied.left ∷ s.tied.right ∷ [] };
+    ghost held = { unless_reading.held };
 
     fn ports(&self) -> usize {
         2

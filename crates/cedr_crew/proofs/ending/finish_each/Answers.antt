@@ -1,4 +1,4 @@
-use Rattle.std.proofs.Common.{◌∷◌, [], List, arith, length, length-append, rules, subst, sym}
+use Rattle.std.proofs.Common.{◌∷◌, [], List, ap, arith, length, length-append, rules, subst, sym}
 use Rattle.std.proofs.lemmas.Iterator.Adapters.{YieldsList-from_vec}
 use Rattle.std.proofs.lemmas.Iterator.Consumers.{YieldsList-turn}
 use Rattle.cedr_crew.specs.declared.worker.Worker.{Worker}
@@ -37,4 +37,7 @@ returns g c =
     let l = c.loop-worker in
     let yields = YieldsList-from_vec {s = c.into_iter-worker-iterator.result} c.args.workers.items (search rules) (search rules) in
     let whole = all_yielded yields l.yielded l.worker-iterator l.yielded_by c.next.result c.next.new.self c.in-None.is c.next.ensures.steps in
-    subst (λ (ws : List (Worker g.row.S.Denot g.row.R.Denot)). AllEndSo g.S.Source.rest g.S.Source.faults ws l.ends.items) whole l.invariant.0
+    record {
+      left = subst (λ (ws : List (Worker g.row.S.Denot g.row.R.Denot)). AllEndSo g.S.Source.rest g.S.Source.faults ws l.ends.items) whole l.invariant.0;
+      count = omega (arith, l.ends.ok.0, l.invariant.1, ap (λ (ws : List (Worker g.row.S.Denot g.row.R.Denot)). length ws) whole);
+    }

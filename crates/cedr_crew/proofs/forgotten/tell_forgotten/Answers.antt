@@ -4,8 +4,9 @@ use Rattle.cedr_laws.specs.declared.forgotten.Forgotten.{Forgotten}
 use Rattle.cedr_runs.specs.Runs.{lists_at}
 use Rattle.cedr_runs.specs.Without.{forgot_in, forgot_on}
 use Rattle.cedr_crew.specs.Forgettings.{nodes_told, told}
-use Rattle.cedr_crew.proofs.ForgottenLemmas.{forgot_at, forgot_count, node_told, parts_count, took_here}
+use Rattle.cedr_crew.proofs.ForgottenLemmas.{forgot_at, node_told, parts_count, took_here}
 use Rattle.cedr_crew.proofs.forgotten.tell_forgotten.Goals as goal
+use Rattle.cedr_serial.proofs.TextLemmas.{forgot_length}
 
 pub offset_bounds-parts-place : goal.offset_bounds-parts-place
 offset_bounds-parts-place g c = let took = c.requires in omega (arith, parts_count c.args.nodes.now took.0 c.args.parts.now took.1, c.loop-place-test.true)
@@ -26,9 +27,9 @@ loop-place-preserved g c = λ ports took.
     let n = c.index-nodes-place.result in
     let here = took_here nodes ports c.args.parts.now place n c.index-parts-place.result took c.loop-place-test.true c.index-nodes-place.is c.index-parts-place.is in
     node_told place (forgot_in nodes ports) (forgot_on n (lists_at ports place)) (map told c.loop-place.all.items) (map told c.tell_part.new.all.items) (c.loop-place.invariant ports took)
-    (forgot_at nodes ports place n c.loop-place-test.true c.index-nodes-place.is) (c.in_ok-tell_part.ensures (lists_at ports place) here) (omega (arith, forgot_count nodes ports, c.loop-place-test.true))
+    (forgot_at nodes ports place n c.loop-place-test.true c.index-nodes-place.is) (c.in_ok-tell_part.ensures (lists_at ports place) here) (omega (arith, forgot_length nodes ports, c.loop-place-test.true))
 
 pub returns : goal.returns
 returns g c = λ ports took.
-    let all = take_all c.loop-place.place (forgot_in c.args.nodes.now ports) (omega (arith, forgot_count c.args.nodes.now ports, c.loop-place-test.false)) in
+    let all = take_all c.loop-place.place (forgot_in c.args.nodes.now ports) (omega (arith, forgot_length c.args.nodes.now ports, c.loop-place-test.false)) in
     c.loop-place.invariant ports took ∙ ap (λ (xs : List (List (List Forgotten))). nodes_told 0 xs) all

@@ -2,7 +2,7 @@ use Rattle.std.proofs.Common.{rules, ◌≡◌, [], true, false, None, refl, map
 use Rattle.cedr_query.specs.Queries.{is_output}
 use Rattle.cedr_text.specs.declared.event_line.Shape.TheVariants.{AnyText}
 use Rattle.cedr_wires.specs.Wires.{in_edge, out_edge}
-use Rattle.op_planned.specs.Ready.{is_source}
+use Rattle.op_node.specs.Ready.{is_source}
 use Rattle.cedr_crew.specs.Crews.{content_in, count_in}
 use Rattle.cedr_crew.specs.Making.{HasWriter, role_for}
 use Rattle.cedr_crew.proofs.MakeLemmas.{source_told, other_told, output_no_source}

@@ -8,7 +8,7 @@ use Rattle.cedr_stream.proofs.Legal.{mark-wrapped}
 use Rattle.cedr_stream.proofs.Moves.{applied, applied_moves}
 use Rattle.cedr_table.specs.Operators.{table_at}
 use Rattle.cedr_drive.specs.Driving.{MayTake, IsFed}
-use Rattle.cedr_drive.proofs.DriveLemmas.{can_take, feed_change, feed_mark, feed_close}
+use Rattle.cedr_drive.proofs.DriveLemmas.{can_take, feed_change, feed_mark, fed_close}
 use Rattle.cedr_drive.proofs.driver.feed_one.Goals as goal
 
 pub apply-requires : goal.apply-requires
@@ -64,22 +64,12 @@ pub returns-in-End-clause-fed : goal.returns-in-End-clause-fed
 returns-in-End-clause-fed g c = λ lists given w may0.
     let op = g.O.Operator in
     let old = c.args.op.now in
-    subst (λ (m : Message). IsFed (op.meaning old) (op.stands old) c.args.marks.now.items lists c.args.port (m ∷ []) given c.args.out.now.items c.args.out.now.items) (sym c.in-End.is) (record {
-      gained = [];
-      appended = sym (append-nil c.args.out.now.items);
-      works = feed_close (op.meaning old) (op.stands old) (op.stands old) c.args.marks.now.items lists given c.args.port w message.End refl refl w.op;
-      no_mark = refl;
-      echo = λ e. refl;
-    })
+    subst (λ (m : Message). IsFed (op.meaning old) (op.stands old) c.args.marks.now.items lists c.args.port (m ∷ []) given c.args.out.now.items c.args.out.now.items) (sym c.in-End.is)
+    (fed_close (op.meaning old) (op.stands old) (op.stands old) c.args.marks.now.items lists given c.args.port w message.End c.args.out.now.items refl refl w.op)
 
 pub returns-in-Broken-clause-fed : goal.returns-in-Broken-clause-fed
 returns-in-Broken-clause-fed g c = λ lists given w may0.
     let op = g.O.Operator in
     let old = c.args.op.now in
-    subst (λ (m : Message). IsFed (op.meaning old) (op.stands old) c.args.marks.now.items lists c.args.port (m ∷ []) given c.args.out.now.items c.args.out.now.items) (sym c.in-Broken.is) (record {
-      gained = [];
-      appended = sym (append-nil c.args.out.now.items);
-      works = feed_close (op.meaning old) (op.stands old) (op.stands old) c.args.marks.now.items lists given c.args.port w message.Broken refl refl w.op;
-      no_mark = refl;
-      echo = λ e. refl;
-    })
+    subst (λ (m : Message). IsFed (op.meaning old) (op.stands old) c.args.marks.now.items lists c.args.port (m ∷ []) given c.args.out.now.items c.args.out.now.items) (sym c.in-Broken.is)
+    (fed_close (op.meaning old) (op.stands old) (op.stands old) c.args.marks.now.items lists given c.args.port w message.Broken c.args.out.now.items refl refl w.op)

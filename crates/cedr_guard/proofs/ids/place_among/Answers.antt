@@ -1,4 +1,4 @@
-use Rattle.std.proofs.Common.{length, Option, Some, ap, sym, ◌∙◌}
+use Rattle.std.proofs.Common.{length, Some, ap, sym, ◌∙◌}
 use Rattle.std.proofs.lemmas.Bool.{ltb-true}
 use Rattle.cedr_guard.specs.declared.ids.IdPlace.{IdPlace}
 use Rattle.cedr_guard.proofs.IdLemmas.{place_found}

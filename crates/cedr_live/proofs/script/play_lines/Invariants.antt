@@ -1,6 +1,7 @@
 use Rattle.std.proofs.Common.{◌≡◌, ◌≢◌, ◌≤◌, ◌+◌, true, [], length}
 use Rattle.cedr_guard.specs.declared.refusal.TheConstants.{FILE_LIMIT}
-use Rattle.cedr_text.specs.Parts.{parts_of, line_feed}
+use Rattle.cedr_base.specs.Bytes.{line_feed}
+use Rattle.cedr_text.specs.Parts.{parts_of}
 use Rattle.cedr_live.specs.Scripts.{no_lines}
 use Rattle.cedr_live.specs.Playing.{parts_played}
 use Rattle.cedr_live.proofs.ScriptLemmas.{IsPlayedTo}

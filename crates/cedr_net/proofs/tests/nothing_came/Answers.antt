@@ -1,7 +1,7 @@
 use Rattle.std.proofs.Common.{◌<◌, ◌∷◌, ℕ, [], List, length, get_or, sym, subst, ap, arith}
 use Rattle.std.proofs.lemmas.List.{length-append}
-use Rattle.msg_feed.specs.Came.{StandsFor}
-use Rattle.msg_feed.specs.declared.came.Came.{Came}
+use Rattle.cedr_testing.specs.Came.{StandsFor}
+use Rattle.cedr_testing.specs.declared.came.Came.{Came}
 use Rattle.cedr_net.proofs.FedLemmas.{came_push}
 use Rattle.cedr_net.proofs.tests.nothing_came.Goals as goal
 

@@ -1,6 +1,6 @@
 use Rattle.std.proofs.Common.{◌≡◌, ◌<◌, ℕ, [], length, get_or}
-use Rattle.msg_feed.specs.Came.{StandsFor}
-use Rattle.msg_feed.specs.declared.came.Came.{Came}
+use Rattle.cedr_testing.specs.Came.{StandsFor}
+use Rattle.cedr_testing.specs.declared.came.Came.{Came}
 use Rattle.cedr_net.proofs.tests.nothing_came.Given as goal
 
 abbrev pub invariant-loop : goal.invariant-loop

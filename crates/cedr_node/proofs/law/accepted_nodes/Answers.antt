@@ -1,4 +1,4 @@
-use Rattle.op_planned.specs.ReadyLaws.{node_ready}
+use Rattle.op_node.specs.ReadyLaws.{node_ready}
 use Rattle.cedr_node.proofs.LevelLemmas.{within_memory}
 use Rattle.cedr_node.proofs.law.accepted_nodes.Goals as goal
 

@@ -1,7 +1,7 @@
 use Rattle.std.proofs.Common.{◌++◌, ◌∷◌, [], sym, subst, arith}
 use Rattle.cedr_laws.specs.Lists.{list_at, with_more}
-use Rattle.msg_feed.specs.Came.{StandsFor}
-use Rattle.msg_feed.specs.declared.came.Came.{Came}
+use Rattle.cedr_testing.specs.Came.{StandsFor}
+use Rattle.cedr_testing.specs.declared.came.Came.{Came}
 use Rattle.cedr_node.proofs.FedLemmas.{came_at, came_set, may_take}
 use Rattle.cedr_node.proofs.tests.feed.Goals as goal
 

@@ -1,7 +1,7 @@
 use Rattle.std.proofs.Common.{◌++◌, ◌∷◌, [], sym, subst, List, replicate}
 use Rattle.cedr_base.specs.declared.change.Message.{Message}
 use Rattle.cedr_laws.specs.Lists.{Lists}
-use Rattle.msg_feed.specs.declared.came.Came.{Came}
+use Rattle.cedr_testing.specs.declared.came.Came.{Came}
 use Rattle.cedr_node.specs.Fed.{AllCame}
 use Rattle.cedr_node.proofs.First.{replicate-push}
 use Rattle.cedr_node.proofs.FedLemmas.{came_push}

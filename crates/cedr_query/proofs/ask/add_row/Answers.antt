@@ -10,5 +10,5 @@ apply_all-requires g c =
 pub returns-clause-works : goal.returns-clause-works
 returns-clause-works g c = on_ok_weaker c.apply_all.result (λ leads tables works.
     add_works (g.O.Operator.meaning c.args.op.now) (g.O.Operator.stands c.args.op.now) (g.met.O.Operator.lawful c.args.op.now) tables c.args.made.now works c.args.port c.requires.port c.args.row.now c.in_ok-copy.field-0 c.requires.row c.in_ok-copy.ensures
-    (g.O.Operator.meaning c.apply.new.self) (g.O.Operator.stands c.apply.new.self) c.apply_all.new.made
+    (g.O.Operator.meaning c.apply.new.self) (g.O.Operator.stands c.apply.new.self) c.apply_all.new.table
     c.new-answers.result.items c.apply.new.out.items c.as_slice.result.now c.new-answers.ensures.items c.as_slice.ensures.value c.in_ok-apply.ensures.repairs c.in_ok-apply.ensures.stands c.in_ok-apply.ensures.meaning leads) c.apply_all.ensures

@@ -4,7 +4,7 @@ use Rattle.std.proofs.lemmas.List.{take_all}
 use Rattle.cedr_table.specs.Operators.{AreTimes, mark_at}
 use Rattle.cedr_table.specs.PortLaws.{time_at}
 use Rattle.cedr_query.specs.Queries.{source_count, input_tables, input_marks}
-use Rattle.op_planned.specs.Meanings.{meaning_of}
+use Rattle.op_node.specs.Meanings.{meaning_of}
 use Rattle.cedr_query.proofs.Feeding.{same_tables_itself}
 use Rattle.cedr_query.proofs.QueryLemmas.{same_inputs, are_times_at}
 use Rattle.cedr_query.proofs.query.find_mark.Goals as goal

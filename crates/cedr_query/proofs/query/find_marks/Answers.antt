@@ -1,41 +1,28 @@
 use Rattle.std.proofs.Common.{◌≡◌, ◌<◌, ◌+◌, ◌++◌, ◌∷◌, ◌∙◌, [], sym, ap, subst, ℕ, List, arith, length, take}
 use Rattle.cedr_plan.specs.declared.plan.PlanNode.{PlanNode}
-use Rattle.cedr_plan.specs.Drawn.{node_of}
 use Rattle.cedr_table.specs.Operators.{Tables, AreTimes}
-use Rattle.std.specs.Prelude.{map}
 use Rattle.cedr_query.specs.Queries.{each_node, node_mark}
 use Rattle.cedr_query.proofs.NodeLemmas.{one_node_more}
-use Rattle.op_planned.specs.ReadyLaws.{node_ready}
-use Rattle.cedr_query.proofs.QueryLemmas.{plan_node, reads_earlier, times_push}
+use Rattle.cedr_query.proofs.QueryLemmas.{plan_ready, plan_reads, times_push}
 use Rattle.cedr_query.proofs.query.find_marks.Goals as goal
 
 pub find_mark-requires-clause-ready : goal.find_mark-requires-clause-ready
-find_mark-requires-clause-ready c =
-    let nodes = c.as_slice-nodes.result.now in
-    let i = c.loop-place.place in
-    let node = c.index-nodes-place.result in
-    node_ready (map node_of (take i nodes)) node (plan_node c.args.plan.now.nodes.items nodes i node c.as_slice-nodes.ensures.value c.requires.plan.nodes (omega arith) c.index-nodes-place.is)
+find_mark-requires-clause-ready c = plan_ready c.args.plan.now.nodes.items c.as_slice-nodes.result.now c.loop-place.place c.index-nodes-place.result c.as_slice-nodes.ensures.value c.requires.plan.nodes (omega arith) c.index-nodes-place.is
 
 pub find_mark-requires-clause-inputs : goal.find_mark-requires-clause-inputs
-find_mark-requires-clause-inputs c =
-    let nodes = c.as_slice-nodes.result.now in
-    let i = c.loop-place.place in
-    let node = c.index-nodes-place.result in
-    λ k d there. omega (
+find_mark-requires-clause-inputs c = λ k d there.
+    omega (
       arith,
-      reads_earlier nodes i node (omega arith) (plan_node c.args.plan.now.nodes.items nodes i node c.as_slice-nodes.ensures.value c.requires.plan.nodes (omega arith) c.index-nodes-place.is) k d there,
+      plan_reads c.args.plan.now.nodes.items c.as_slice-nodes.result.now c.loop-place.place c.index-nodes-place.result c.as_slice-nodes.ensures.value c.requires.plan.nodes (omega arith) c.index-nodes-place.is k d there,
       ap (λ (ns : List PlanNode). length ns) c.as_slice-nodes.ensures.value,
       c.requires.tables,
     )
 
 pub find_mark-requires-clause-earlier : goal.find_mark-requires-clause-earlier
-find_mark-requires-clause-earlier c =
-    let nodes = c.as_slice-nodes.result.now in
-    let i = c.loop-place.place in
-    let node = c.index-nodes-place.result in
-    λ k d there. omega (
+find_mark-requires-clause-earlier c = λ k d there.
+    omega (
       arith,
-      reads_earlier nodes i node (omega arith) (plan_node c.args.plan.now.nodes.items nodes i node c.as_slice-nodes.ensures.value c.requires.plan.nodes (omega arith) c.index-nodes-place.is) k d there,
+      plan_reads c.args.plan.now.nodes.items c.as_slice-nodes.result.now c.loop-place.place c.index-nodes-place.result c.as_slice-nodes.ensures.value c.requires.plan.nodes (omega arith) c.index-nodes-place.is k d there,
       ap (λ (ms : List ℕ). length ms) c.as_slice.ensures.value,
       c.loop-place.invariant.len,
     )

@@ -4,7 +4,7 @@ use Rattle.cedr_base.specs.Rows.{AreRows, SameRows}
 use Rattle.cedr_table.specs.Operators.{AreTimes, table_at}
 use Rattle.cedr_table.proofs.RowsLemmas.{same_are}
 use Rattle.cedr_query.specs.Queries.{source_count, input_tables}
-use Rattle.op_planned.specs.Meanings.{meaning_of}
+use Rattle.op_node.specs.Meanings.{meaning_of}
 use Rattle.cedr_query.proofs.Feeding.{read_is, same_tables_itself}
 use Rattle.cedr_query.proofs.QueryLemmas.{zeros_are_times, same_inputs}
 use Rattle.cedr_query.proofs.query.find_table.Goals as goal

@@ -1,29 +1,19 @@
 use Rattle.std.proofs.Common.{◌≡◌, ◌<◌, ◌+◌, ◌++◌, ◌∷◌, ◌∙◌, [], sym, ap, subst, arith, length, take}
 use Rattle.cedr_plan.specs.declared.plan.PlanNode.{PlanNode}
-use Rattle.cedr_plan.specs.Drawn.{node_of}
 use Rattle.cedr_table.specs.Operators.{Tables, SameTables, HaveRows}
-use Rattle.std.specs.Prelude.{map}
 use Rattle.cedr_query.specs.Queries.{each_node, node_table}
 use Rattle.cedr_query.proofs.NodeLemmas.{one_node_more, same_tables_push, are_rows_push}
-use Rattle.op_planned.specs.ReadyLaws.{node_ready}
-use Rattle.cedr_query.proofs.QueryLemmas.{plan_node, reads_earlier}
+use Rattle.cedr_query.proofs.QueryLemmas.{plan_ready, plan_reads}
 use Rattle.cedr_query.proofs.query.find_tables.Goals as goal
 
 pub find_table-requires-clause-ready : goal.find_table-requires-clause-ready
-find_table-requires-clause-ready c =
-    let nodes = c.as_slice-nodes.result.now in
-    let i = c.loop-place.place in
-    let node = c.index-nodes-place.result in
-    node_ready (map node_of (take i nodes)) node (plan_node c.args.plan.now.nodes.items nodes i node c.as_slice-nodes.ensures.value c.requires.plan.nodes (omega arith) c.index-nodes-place.is)
+find_table-requires-clause-ready c = plan_ready c.args.plan.now.nodes.items c.as_slice-nodes.result.now c.loop-place.place c.index-nodes-place.result c.as_slice-nodes.ensures.value c.requires.plan.nodes (omega arith) c.index-nodes-place.is
 
 pub find_table-requires-clause-inputs : goal.find_table-requires-clause-inputs
-find_table-requires-clause-inputs c =
-    let nodes = c.as_slice-nodes.result.now in
-    let i = c.loop-place.place in
-    let node = c.index-nodes-place.result in
-    λ k d there. omega (
+find_table-requires-clause-inputs c = λ k d there.
+    omega (
       arith,
-      reads_earlier nodes i node (omega arith) (plan_node c.args.plan.now.nodes.items nodes i node c.as_slice-nodes.ensures.value c.requires.plan.nodes (omega arith) c.index-nodes-place.is) k d there,
+      plan_reads c.args.plan.now.nodes.items c.as_slice-nodes.result.now c.loop-place.place c.index-nodes-place.result c.as_slice-nodes.ensures.value c.requires.plan.nodes (omega arith) c.index-nodes-place.is k d there,
       ap (λ (ts : Tables). length ts) c.as_slice.ensures.value,
       c.loop-place.invariant.len,
     )

@@ -1,7 +1,7 @@
 use Rattle.std.proofs.Common.{◌≡◌, ◌≢◌, ◌==◌, ◌+◌, true, [], ◌∷◌, List, ℕ, length, Ok, Err, Some, Option, ap, sym, ◌∙◌, subst, arith}
 use Rattle.std.proofs.lemmas.List.Splits.{length-slice_split}
 use Rattle.std.proofs.lemmas.List.Sums.{count_by-le-length}
-use Rattle.cedr_text.specs.Parts.{line_feed}
+use Rattle.cedr_base.specs.Bytes.{line_feed}
 use Rattle.cedr_guard.specs.declared.refusal.Refusal.{Refusal}
 use Rattle.cedr_guard.specs.Sources.{Judged}
 use Rattle.cedr_run.specs.Refusals.{fault_at}

@@ -1,6 +1,7 @@
 use Rattle.std.proofs.Common.{◌≡◌, ◌≢◌, ◌≤◌, ◌+◌, true, [], List, length}
 use Rattle.cedr_text.specs.declared.event_line.EventLine.{EventLine}
-use Rattle.cedr_text.specs.Parts.{parts_of, line_feed}
+use Rattle.cedr_base.specs.Bytes.{line_feed}
+use Rattle.cedr_text.specs.Parts.{parts_of}
 use Rattle.cedr_guard.specs.declared.refusal.TheConstants.{FILE_LIMIT}
 use Rattle.cedr_run.specs.Events.{AreEventsOf, parts_behind}
 use Rattle.cedr_run.proofs.history.judge_lines.Given as goal

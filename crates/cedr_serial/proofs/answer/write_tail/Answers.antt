@@ -5,7 +5,7 @@ use Rattle.cedr_plan.specs.declared.plan.PlanNode.{PlanNode}
 use Rattle.cedr_net.proofs.FlowLemmas.{split}
 use Rattle.cedr_runs.specs.Runs.{lists_at}
 use Rattle.cedr_runs.specs.Without.{forgot_in, forgot_on}
-use Rattle.cedr_text.specs.Parts.{line_feed}
+use Rattle.cedr_base.specs.Bytes.{line_feed}
 use Rattle.cedr_serial.specs.Answers.{ports_text, nodes_text}
 use Rattle.cedr_serial.proofs.TextLemmas.{place_more}
 use Rattle.cedr_serial.proofs.answer.write_tail.Goals as goal

@@ -3,7 +3,7 @@ use Rattle.std.specs.Prelude.{codes}
 use Rattle.cedr_laws.specs.Lists.{Lists}
 use Rattle.cedr_net.specs.Networks.{NetStands}
 use Rattle.cedr_runs.specs.Without.{forgot_in}
-use Rattle.cedr_text.specs.Parts.{line_feed}
+use Rattle.cedr_base.specs.Bytes.{line_feed}
 use Rattle.cedr_serial.specs.Answers.{nodes_text}
 use Rattle.cedr_serial.proofs.answer.write_tail.Given as goal
 

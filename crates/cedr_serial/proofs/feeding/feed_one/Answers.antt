@@ -1,8 +1,8 @@
 use Rattle.std.proofs.Common.{[], ◌∷◌, sym, subst, arith}
 use Rattle.cedr_laws.specs.Lists.{Lists, with_more}
-use Rattle.cedr_net.proofs.SettleLemmas.{grow_none}
+use Rattle.cedr_net.proofs.SettleLemmas.{grow_none, grow_more}
 use Rattle.cedr_serial.specs.Feeding.{FeedsOn}
-use Rattle.cedr_serial.proofs.FeedLemmas.{next_source, next_may_come, fed_on, grow_more, one_behind, none_behind}
+use Rattle.cedr_serial.proofs.FeedLemmas.{next_source, next_may_come, fed_on, one_behind, none_behind}
 use Rattle.cedr_serial.proofs.feeding.feed_one.Goals as goal
 
 pub feed-requires : goal.feed-requires

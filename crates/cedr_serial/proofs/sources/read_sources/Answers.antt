@@ -4,9 +4,10 @@ use Rattle.std.proofs.lemmas.List.{take_more, length-take}
 use Rattle.cedr_plan.specs.declared.plan.PlanNode.{PlanNode}
 use Rattle.cedr_net.proofs.FlowLemmas.{split}
 use Rattle.cedr_serial.specs.Sources.{AreTold, AreRead, AsksFirst, AnswersFile, file_of, files_of, source_files}
-use Rattle.cedr_serial.proofs.TextLemmas.{node_there, take_before}
+use Rattle.cedr_serial.proofs.TextLemmas.{node_there}
 use Rattle.cedr_serial.proofs.SourceLemmas.{told_at, read_more, asked_on, counted_on, sources_on, files_more, asks_on, asked_whole}
 use Rattle.cedr_serial.proofs.sources.read_sources.Goals as goal
+use Rattle.std.proofs.Math.Seq.{take-append_seam}
 
 pub loop-place-preserved : goal.loop-place-preserved
 loop-place-preserved g c =
@@ -46,7 +47,7 @@ returns-in_err-note-clause-asked g c =
     let within : place < length nodes = search rules in
     let s = split nodes place within in
     let same : s.node ≡ n = sym (node_there nodes s.before s.after s.node n place s.whole s.place) ∙ sym c.index-nodes-place.is in
-    let front : take place nodes ≡ s.before = ap (λ (k : ℕ). take k nodes) (sym s.place) ∙ (ap (λ (ns : List PlanNode). take (length s.before) ns) s.whole ∙ take_before s.before (s.node ∷ s.after)) in
+    let front : take place nodes ≡ s.before = ap (λ (k : ℕ). take k nodes) (sym s.place) ∙ (ap (λ (ns : List PlanNode). take (length s.before) ns) s.whole ∙ take-append_seam s.before (s.node ∷ s.after)) in
     subst (λ (ns : List PlanNode). AsksFirst (g.F.Files.asked c.args.files.now) (g.F.Files.asked c.read_node-read.new.files) (source_files ns)) (ap (λ (m : PlanNode). s.before ++ m ∷ s.after) (sym same) ∙ sym s.whole)
     (asks_on (g.F.Files.asked c.args.files.now) (g.F.Files.asked loop.files) (g.F.Files.asked c.read_node-read.new.files) s.before s.after n c.read_node-read.result
     (loop.invariant.asked ∙ ap (λ (ns : List PlanNode). g.F.Files.asked c.args.files.now ++ source_files ns) front) c.read_node-read.ensures.asked)

@@ -3,7 +3,8 @@ use Rattle.cedr_text.specs.declared.event_line.EventLine.{EventLine}
 use Rattle.cedr_text.specs.declared.event_line.Shape.TheVariants.{AnyText}
 use Rattle.cedr_text.specs.declared.fault.LineFault.{LineFault}
 use Rattle.cedr_text.specs.declared.lines.TheConstants.{LINE_LIMIT}
-use Rattle.cedr_text.specs.Parts.{comma, parts_of}
+use Rattle.cedr_base.specs.Bytes.{comma}
+use Rattle.cedr_text.specs.Parts.{parts_of}
 use Rattle.cedr_text.specs.Quoting.{has_quote}
 use Rattle.cedr_text.specs.Reading.{is_broken, event_of, event_from, as_some, reading}
 use Rattle.cedr_text.proofs.LineLemmas.{some_left}

@@ -1,4 +1,4 @@
-use Rattle.msg_feed.specs.Came.{StandsFor}
+use Rattle.cedr_testing.specs.Came.{StandsFor}
 use Rattle.cedr_worker.specs.Workers.{IsWorking}
 use Rattle.cedr_worker.proofs.operator_tests.play.Given as goal
 

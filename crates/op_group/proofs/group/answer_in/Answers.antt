@@ -22,7 +22,7 @@ returns-clause-answers c = on_ok_weaker c.push_differences.result
     let olds_are = c.as_slice.ensures.value ∙ c.in_ok-olds.ensures.made in
     let news_are = c.as_slice-2.ensures.value ∙ c.in_ok-news.ensures.made in
     let first = subst (λ (t : ℕ). IsLastCut c.args.cuts.now.entries t c.cut_before-from.result) c.sync.ensures c.cut_before-from.ensures in
-    let end = ap (λ (r : Row). r.end) c.row_in.ensures ∙ last_row c.args.change.now in
+    let end = ap (λ (r : Row). r.end) c.row.ensures ∙ last_row c.args.change.now in
     let last = subst (λ (t : ℕ). IsNextCut c.args.cuts.now.entries (t + 1) c.cut_from-to.result) end c.cut_from-to.ensures in
     record {
       olds = rows_in c.args.count c.args.key.now (entries_between nat_cmp (Included c.cut_before-from.result) (Included c.cut_from-to.result) c.args.cuts.now.entries);

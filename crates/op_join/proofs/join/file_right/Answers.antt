@@ -1,6 +1,6 @@
 use Rattle.std.proofs.Common.{◌++◌, ◌∷◌, []}
 use Rattle.cedr_base.specs.declared.change.Change.TheVariants.{Add}
-use Rattle.op_join.specs.Tags.{right_tag}
+use Rattle.cedr_expr.specs.Tags.{right_tag}
 use Rattle.op_join.proofs.KeepLemmas.{files_after, none_filed}
 use Rattle.op_join.proofs.PortLemmas.{pushed_moves}
 use Rattle.op_join.proofs.join.file_right.Goals as goal

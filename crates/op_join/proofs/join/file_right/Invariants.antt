@@ -1,6 +1,6 @@
 use Rattle.std.specs.BTreeMap.{IsOrdered}
 use Rattle.std.specs.Ordering.{nat_cmp}
-use Rattle.op_join.specs.Tags.{right_tag}
+use Rattle.cedr_expr.specs.Tags.{right_tag}
 use Rattle.op_join.specs.Filed.{Files}
 use Rattle.op_join.specs.Ends.{AreEnds}
 use Rattle.op_join.proofs.join.file_right.Given as goal

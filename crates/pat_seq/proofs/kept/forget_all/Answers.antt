@@ -7,8 +7,8 @@ use Rattle.cedr_base.specs.declared.row.Row.{Row}
 use Rattle.cedr_base.specs.Rows.{SameRows}
 use Rattle.cedr_table.specs.Operators.{table_at}
 use Rattle.cedr_table.specs.PortLaws.{table_at-with, table_at-with_other}
-use Rattle.pat_rows.specs.Starts.{reaches}
-use Rattle.pat_rows.proofs.ForgetLemmas.{all_forgotten}
+use Rattle.pat_state.specs.Starts.{reaches}
+use Rattle.pat_state.proofs.ForgetLemmas.{all_forgotten}
 use Rattle.pat_seq.proofs.kept.forget_all.Goals as goal
 
 pub loop-port-preserved : goal.loop-port-preserved

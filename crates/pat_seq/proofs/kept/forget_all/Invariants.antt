@@ -2,7 +2,7 @@ use Rattle.std.proofs.Common.{◌≡◌, ℕ, ◌<◌, ◌≤◌, length}
 use Rattle.std.specs.List.{filter}
 use Rattle.cedr_base.specs.Rows.{SameRows}
 use Rattle.cedr_table.specs.Operators.{table_at}
-use Rattle.pat_rows.specs.Starts.{reaches}
+use Rattle.pat_state.specs.Starts.{reaches}
 use Rattle.pat_seq.proofs.kept.forget_all.Given as goal
 
 abbrev pub invariant-loop-port : goal.invariant-loop-port

@@ -1,7 +1,7 @@
 use Rattle.std.proofs.Common.{◌≡◌, ◌∷◌, subst}
 use Rattle.std.specs.Map.Iter.{deref_pair}
 use Rattle.std.proofs.lemmas.Map.Iter.{rest_more}
-use Rattle.pat_rows.specs.Starts.{AreWithin}
+use Rattle.pat_state.specs.Starts.{AreWithin}
 use Rattle.pat_seq.proofs.FindLemmas.{begun_step}
 use Rattle.pat_seq.proofs.matches.begun_within.Goals as goal
 

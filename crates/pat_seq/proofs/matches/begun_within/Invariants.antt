@@ -1,7 +1,7 @@
 use Rattle.std.proofs.Common.{◌≡◌, ◌++◌, map}
 use Rattle.std.specs.List.{filter}
 use Rattle.cedr_table.specs.Counted.{spread}
-use Rattle.pat_rows.specs.Starts.{begins_within, AreWithin}
+use Rattle.pat_state.specs.Starts.{begins_within, AreWithin}
 use Rattle.pat_seq.specs.Steps.{begun}
 use Rattle.pat_seq.proofs.matches.begun_within.Given as goal
 

@@ -1,7 +1,7 @@
 use Rattle.std.proofs.Common.{◌≡◌, ◌++◌}
 use Rattle.std.specs.List.{flat_map, filter}
 use Rattle.cedr_table.specs.Counted.{spread}
-use Rattle.pat_rows.specs.Starts.{begins_within}
+use Rattle.pat_state.specs.Starts.{begins_within}
 use Rattle.pat_seq.specs.Steps.{tests_in, next_passing}
 use Rattle.pat_seq.proofs.matches.push_before.Given as goal
 

@@ -4,8 +4,8 @@ use Rattle.std.specs.Map.Iter.{deref_pair}
 use Rattle.std.proofs.lemmas.Map.Iter.{rest_more}
 use Rattle.cedr_base.specs.declared.row.Row.{Row}
 use Rattle.cedr_table.specs.Counted.{spread}
-use Rattle.pat_rows.specs.Starts.{AreWithin}
-use Rattle.pat_rows.proofs.FlatLemmas.{spread_more}
+use Rattle.pat_state.specs.Starts.{AreWithin}
+use Rattle.pat_state.proofs.FlatLemmas.{spread_more}
 use Rattle.pat_seq.specs.Steps.{begun, next_passing}
 use Rattle.pat_seq.proofs.PairLemmas.{first_copies}
 use Rattle.pat_seq.proofs.pairs.push_firsts.Goals as goal

@@ -2,7 +2,7 @@ use Rattle.std.proofs.Common.{ℕ, ◌≡◌, ◌≤◌, ◌++◌}
 use Rattle.std.specs.List.{flat_map}
 use Rattle.cedr_base.specs.declared.time.TheConstants.{FOREVER}
 use Rattle.cedr_table.specs.Counted.{spread}
-use Rattle.pat_rows.specs.Starts.{AreWithin}
+use Rattle.pat_state.specs.Starts.{AreWithin}
 use Rattle.pat_seq.specs.Steps.{begun, next_passing}
 use Rattle.pat_seq.proofs.pairs.push_firsts.Given as goal
 

@@ -3,7 +3,7 @@ use Rattle.std.specs.List.{flat_map}
 use Rattle.std.specs.Map.Iter.{deref_pair}
 use Rattle.std.proofs.lemmas.Map.Iter.{rest_more}
 use Rattle.cedr_table.specs.Counted.{spread}
-use Rattle.pat_rows.proofs.FlatLemmas.{spread_more}
+use Rattle.pat_state.proofs.FlatLemmas.{spread_more}
 use Rattle.pat_seq.specs.Steps.{next_passing}
 use Rattle.pat_seq.proofs.pairs.push_seconds.Goals as goal
 

@@ -1,6 +1,6 @@
 use Rattle.std.proofs.Common.{[], get_or, set, refl, ap, sym, ◌∙◌, arith}
 use Rattle.cedr_base.specs.declared.row.Row.{Row}
-use Rattle.cedr_guard.specs.declared.judge.Interval.{Interval}
+use Rattle.cedr_base.specs.declared.interval.Interval.{Interval}
 use Rattle.cedr_guard.specs.Judging.{guarantee_of, retraction_fault}
 use Rattle.cedr_guard.specs.History.{rows_among}
 use Rattle.cedr_guard.proofs.StandingLemmas.{stands-retract, event_here, interval_here, shorter}

@@ -5,7 +5,7 @@ use Rattle.std.proofs.lemmas.Bool.{ltb-true, ltb-false}
 use Rattle.std.proofs.lemmas.List.{length-map}
 use Rattle.cedr_base.specs.declared.row.Row.{Row}
 use Rattle.cedr_text.specs.declared.event_line.EventLine.{EventLine}
-use Rattle.cedr_guard.specs.declared.judge.Interval.{Interval}
+use Rattle.cedr_base.specs.declared.interval.Interval.{Interval}
 use Rattle.cedr_guard.specs.declared.judge.Judge.{Judge}
 use Rattle.cedr_guard.specs.Judging.{guarantee_of, event_of, retraction_fault}
 use Rattle.cedr_guard.specs.History.{rows_among}

@@ -1,10 +1,10 @@
 use Rattle.std.proofs.Common.{true≢false, refl, sym, ◌∙◌}
+use Rattle.std.proofs.lemmas.Bool.{or_parts}
 use Rattle.std.specs.Prelude.{is_none}
-use Rattle.cedr_outlet.proofs.RoundLemmas.{or_left, or_right}
-use Rattle.cedr_worker.proofs.SourceOutlets.{bare_edges, put_edges}
 use Rattle.cedr_worker.proofs.SourceLemmas.{put_works, moved_seen, seen_moved, stepped_sent, rests, stays_stopped, over_told, not_over, stopped_over, broken_only}
 use Rattle.cedr_worker.proofs.TryLemmas.{all_tried}
 use Rattle.cedr_worker.proofs.source.SourceWorker.turn.Goals as goal
+use Rattle.cedr_worker.proofs.TurnLemmas.{bare_edges, puts_edges}
 
 pub step_where-stepped-requires : goal.step_where-stepped-requires
 step_where-stepped-requires g c =
@@ -18,7 +18,7 @@ returns-clause-works g c = λ shape content count works.
 pub returns-clause-same : goal.returns-clause-same
 returns-clause-same g c = record {
   number = c.step_where-stepped.ensures.number;
-  edges = bare_edges _ _ c.step_where-stepped.ensures.bare ∙ put_edges _ _ _ c.put_each-puts.ensures.put;
+  edges = bare_edges _ _ c.step_where-stepped.ensures.bare ∙ puts_edges _ _ _ c.put_each-puts.ensures.put;
 }
 
 pub returns-clause-ended : goal.returns-clause-ended
@@ -57,7 +57,7 @@ returns-clause-idle g c = λ is.
     let none = c.turn_of.ensures.idle is in
     let w = c.requires in
     let works = put_works g.S.Source.rest g.S.Source.faults w.0 w.1 w.2 old mid moved puts.put w.3 in
-    rests g.S.Source.rest old now mid moved pending stepped puts.put does.bare does.stepped does.rested pending refl (or_left moved stepped none.1) (or_right moved stepped none.1) puts.none puts.some does.free
+    rests g.S.Source.rest old now mid moved pending stepped puts.put does.bare does.stepped does.rested pending refl (or_parts moved stepped none.1).0 (or_parts moved stepped none.1).1 puts.none puts.some does.free
     (stopped_over g.S.Source.rest g.S.Source.faults w.0 w.1 w.2 (record old { outlets = mid }) works) (c.all_over.ensures.open none.0)
 
 pub returns-clause-steps : goal.returns-clause-steps

@@ -1,6 +1,6 @@
 use Rattle.std.proofs.Common.{List, sym, subst}
 use Rattle.std.proofs.lemmas.Result.{on_ok_weaker}
-use Rattle.pat_rows.proofs.EndlessLemmas.{stands_still, stands_has, left_adds, left_withdraws}
+use Rattle.pat_state.proofs.EndlessLemmas.{stands_still, stands_has, left_adds, left_withdraws}
 use Rattle.cedr_expr.specs.declared.test.Test.{Test}
 use Rattle.pat_seq.specs.Keeping.{rows_in, AreKept}
 use Rattle.pat_seq.proofs.RepairLemmas.{answered_stands, row_comes, row_goes, row_stays}

@@ -1,7 +1,7 @@
 use Rattle.std.proofs.Common.{ℕ, ap, sym, subst}
 use Rattle.cedr_table.specs.Operators.{least_of}
-use Rattle.pat_rows.specs.Answers.{AreForgotten, StandsByBegin}
-use Rattle.pat_rows.proofs.ForgetLemmas.{stands_forgotten, forgotten_reach, forgotten_length}
+use Rattle.pat_state.specs.Answers.{AreForgotten, StandsByBegin}
+use Rattle.pat_state.proofs.ForgetLemmas.{stands_forgotten, forgotten_reach, forgotten_length}
 use Rattle.pat_seq.specs.Keeping.{rows_in}
 use Rattle.pat_seq.specs.Sequences.{sequence_of, IsSequence}
 use Rattle.pat_seq.proofs.sequence.SequenceOperator.trim.Goals as goal

@@ -5,7 +5,7 @@ use Rattle.std.proofs.lemmas.Map.Iter.{rest_more}
 use Rattle.cedr_table.specs.Counted.{spread}
 use Rattle.cedr_base.specs.declared.row.Row.{Row}
 use Rattle.cedr_expr.specs.Tests.{passes}
-use Rattle.pat_rows.specs.Starts.{AreWithin}
+use Rattle.pat_state.specs.Starts.{AreWithin}
 use Rattle.pat_unless.proofs.ScanLemmas.{blocked_beside, scan_goes_on}
 use Rattle.pat_unless.proofs.terms.Terms.is_blocked.Goals as goal
 

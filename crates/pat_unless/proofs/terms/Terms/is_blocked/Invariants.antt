@@ -2,7 +2,7 @@ use Rattle.std.proofs.Common.{◌≡◌, ◌+◌}
 use Rattle.std.specs.List.{list_any}
 use Rattle.cedr_table.specs.Counted.{spread}
 use Rattle.cedr_expr.specs.Tests.{passes}
-use Rattle.pat_rows.specs.Starts.{AreWithin}
+use Rattle.pat_state.specs.Starts.{AreWithin}
 use Rattle.pat_unless.specs.Blocking.{is_blocked}
 use Rattle.pat_unless.proofs.terms.Terms.is_blocked.Given as goal
 

@@ -4,9 +4,9 @@ use Rattle.std.specs.List.{flat_map}
 use Rattle.std.specs.Map.Iter.{deref_pair}
 use Rattle.std.proofs.lemmas.Map.Iter.{rest_more}
 use Rattle.cedr_table.specs.Counted.{spread}
-use Rattle.pat_rows.specs.Starts.{AreWithin}
+use Rattle.pat_state.specs.Starts.{AreWithin}
 use Rattle.pat_unless.specs.Steps.{freed}
-use Rattle.pat_rows.proofs.FlatLemmas.{spread_more}
+use Rattle.pat_state.proofs.FlatLemmas.{spread_more}
 use Rattle.pat_unless.proofs.terms.Terms.push_all_freed.Goals as goal
 
 pub loop-row-preserved : goal.loop-row-preserved

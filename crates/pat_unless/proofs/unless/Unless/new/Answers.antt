@@ -1,7 +1,7 @@
 use Rattle.std.proofs.Common.{List, [], ◌∷◌, sym, subst}
 use Rattle.cedr_base.specs.declared.row.Row.{Row}
-use Rattle.pat_rows.specs.Answers.{StandsByBegin}
-use Rattle.pat_rows.proofs.EndlessLemmas.{stands_new}
+use Rattle.pat_state.specs.Answers.{StandsByBegin}
+use Rattle.pat_state.proofs.EndlessLemmas.{stands_new}
 use Rattle.pat_unless.specs.Blocking.{AreWhiles}
 use Rattle.pat_unless.proofs.unless.Unless.new.Goals as goal
 

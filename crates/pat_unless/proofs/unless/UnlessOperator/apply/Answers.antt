@@ -1,6 +1,6 @@
 use Rattle.std.proofs.Common.{◌∷◌, []}
 use Rattle.std.proofs.lemmas.Result.{on_ok_weaker}
-use Rattle.pat_rows.proofs.EndlessLemmas.{stands_still, left_adds, left_withdraws}
+use Rattle.pat_state.proofs.EndlessLemmas.{stands_still, left_adds, left_withdraws}
 use Rattle.pat_unless.proofs.RepairLemmas.{row_comes, row_goes, row_blocks, row_frees, row_stays, rows_stand, blockers_stand, has_rows, has_blockers}
 use Rattle.pat_unless.proofs.unless.UnlessOperator.apply.Goals as goal
 

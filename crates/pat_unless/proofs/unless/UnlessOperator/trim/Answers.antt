@@ -1,7 +1,7 @@
 use Rattle.std.proofs.Common.{◌∷◌, [], ℕ, subst}
 use Rattle.cedr_table.specs.Operators.{least_of}
-use Rattle.pat_rows.specs.Answers.{AreForgotten}
-use Rattle.pat_rows.proofs.ForgetLemmas.{stands_forgotten, forgotten_reach}
+use Rattle.pat_state.specs.Answers.{AreForgotten}
+use Rattle.pat_state.proofs.ForgetLemmas.{stands_forgotten, forgotten_reach}
 use Rattle.pat_unless.proofs.unless.UnlessOperator.trim.Goals as goal
 
 pub returns-clause-stands : goal.returns-clause-stands

@@ -1,4 +1,0 @@
-use Rattle.op_feed.proofs.leading.leads.Given as goal
-
-abbrev pub invariant-loop-port : goal.invariant-loop-port
-invariant-loop-port g l = g.O.Operator.stands l.op l.tables.items l.marks.items

@@ -1,0 +1,27 @@
+-- Rows that end and rows without end, apart.
+use Rattle.std.specs.Prelude.{ℕ, ◌≡◌, ◌≢◌, ◌<◌, ◌≤◌, ◌+◌, List, Bool, ◌&&◌, nat_lt}
+use Rattle.cedr_base.specs.declared.time.TheConstants.{FOREVER}
+use Rattle.cedr_base.specs.declared.row.Row.{Row}
+use Rattle.cedr_base.specs.Rows.{count_of}
+
+-- no row is valid for longer
+abbrev pub AreShort : ℕ → List Row → Type 0
+AreShort longest rows = (r : Row) → 0 < count_of r rows → r.end ≤ r.begin + longest
+
+-- no row ends
+abbrev pub AreOpen : List Row → Type 0
+AreOpen rows = (r : Row) → 0 < count_of r rows → r.end ≡ FOREVER
+
+-- rows that end, none of which is valid for longer, and rows without end
+pub record AreSpans (longest : ℕ) (ending unended : List Row) : Type 0 where
+  pub short : AreShort longest ending
+  pub end : (r : Row) → 0 < count_of r ending → r.end ≢ FOREVER
+  pub never : AreOpen unended
+
+-- a row ends after a time and before another one
+abbrev pub ends_within : ℕ → ℕ → Row → Bool
+ends_within time last r = nat_lt time r.end && nat_lt r.end last
+
+-- a row begins before a time
+abbrev pub begins_before : ℕ → Row → Bool
+begins_before time r = nat_lt r.begin time

@@ -1,0 +1,155 @@
+-- What a node means that is as an accepted plan has it keeps the laws of meanings.
+use Rattle.std.proofs.Common.{◌≡◌, ℕ, zero, suc, ◌<◌, ◌≤◌, List, length, replicate, ap, refl, subst, sym, arith}
+use Rattle.cedr_base.specs.declared.time.TheConstants.{FOREVER}
+use Rattle.cedr_base.specs.declared.row.Row.{Row}
+use Rattle.cedr_expr.specs.declared.test.Test.{Test}
+use Rattle.cedr_expr.specs.Tests.{passes}
+use Rattle.cedr_plan.specs.declared.plan.NodeKind.{NodeKind}
+use Rattle.cedr_plan.specs.declared.plan.NodeKind.TheVariants as kind
+use Rattle.cedr_plan.specs.declared.plan.PlanNode.{PlanNode}
+use Rattle.cedr_plan.specs.Drawn.{Node, node_of}
+use Rattle.cedr_stream.proofs.BagSums.{same_flat_map}
+use Rattle.cedr_table.specs.Operators.{table_at, mark_at, least_of}
+use Rattle.cedr_table.specs.PortLaws.{same_at, rise_at, time_at, least_rises, least_is_time}
+use Rattle.cedr_table.specs.RowWise.{row_wise}
+use Rattle.op_row.specs.Rows.{selected, projected}
+use Rattle.op_row.specs.Unions.{union_of}
+use Rattle.op_row.specs.UnionLaws.{same_united, nothing_united}
+use Rattle.op_join.specs.Joins.{join_of, joined_rows}
+use Rattle.op_life.specs.Lifetimes.{with_life, windowed, shifted, shifted_mark, hopped, hopped_mark, started, ended}
+use Rattle.op_life.specs.LifetimeLaws.{multiple_least, shifted_rises, shifted_is_time, hopped_rises, hopped_is_time}
+use Rattle.op_group.specs.Groups.{Grouping, grouping_by, group_of, grouped}
+use Rattle.op_group.specs.GroupLaws.{same_grouped}
+use Rattle.op_group.specs.BoundLaws.{open_rises, same_open}
+use Rattle.op_group.specs.StateLaws.{open_is_time}
+use Rattle.pat_seq.specs.Sequences.{sequence, sequence_of}
+use Rattle.pat_seq.specs.SequenceLaws.{no_sequence}
+use Rattle.cedr_table.proofs.ChoiceLemmas.{same_chosen, nothing_chosen}
+use Rattle.pat_unless.specs.Blocking.{unless_of}
+use Rattle.pat_unless.specs.BlockingLaws.{same_unblocked}
+use Rattle.op_node.specs.Outputs.{handed_on}
+use Rattle.op_node.specs.Meanings.{node_meaning, meaning_of}
+use Rattle.op_node.specs.MeaningLaws.{MeaningLaws}
+use Rattle.op_node.specs.Ready.{IsReady}
+
+-- a mark is handed on as it is, or as a time that rises with it and is 0 at 0
+row_wise_meaning : (image : Row → List Row) (guarantee : ℕ → ℕ) → guarantee 0 ≡ 0 → ((mark higher : ℕ) → mark ≤ higher → guarantee mark ≤ guarantee higher) → ((mark : ℕ) → mark ≤ FOREVER → guarantee mark ≤ FOREVER)
+    → MeaningLaws (row_wise image guarantee) 1
+row_wise_meaning image guarantee first rises is_time = record {
+  ports = (refl, omega arith);
+  same_result = λ tables others k. same_flat_map image (table_at tables 0) (table_at others 0) (same_at 0 tables others k);
+  same_bound = λ tables others marks k. refl;
+  bound_is_time = λ tables marks table mark k. is_time (mark_at marks 0) (time_at 0 marks k);
+  bound_rises = λ tables marks later k. rises (mark_at marks 0) (mark_at later 0) (rise_at 0 marks later k);
+  nothing = record { each = λ r. refl };
+  first_bound = first;
+  echo = λ e. cc;
+}
+
+-- the mark is the bound
+plain_meaning : (image : Row → List Row) → MeaningLaws (row_wise image (λ mark. mark)) 1
+plain_meaning image = row_wise_meaning image (λ mark. mark) refl (λ mark higher rise. rise) (λ mark h. h)
+
+-- the least of marks of 0
+least_zeros : (n : ℕ) → 0 < n → least_of (replicate n 0) ≡ 0
+least_zeros zero h = absurd (omega arith)
+least_zeros (suc n) h = omega arith
+
+union_meaning : (n : ℕ) → 2 ≤ n → MeaningLaws (union_of n) n
+union_meaning n many = record {
+  ports = (refl, omega arith);
+  same_result = same_united;
+  same_bound = λ tables others marks k. refl;
+  bound_is_time = λ tables marks table mark k. least_is_time marks;
+  bound_rises = λ tables marks later k. least_rises marks later k;
+  nothing = nothing_united n;
+  first_bound = least_zeros n (omega arith);
+  echo = λ e. cc;
+}
+
+join_meaning : (tests : List Test) → MeaningLaws (join_of tests) 2
+join_meaning tests = record {
+  ports = (refl, omega arith);
+  same_result = λ tables others k. same_chosen (joined_rows (passes tests)) tables others k;
+  same_bound = λ tables others marks k. refl;
+  bound_is_time = λ tables marks table mark k. least_is_time marks;
+  bound_rises = λ tables marks later k. least_rises marks later k;
+  nothing = nothing_chosen (joined_rows (passes tests)) 1;
+  first_bound = refl;
+  echo = λ e. cc;
+}
+
+sequence_meaning : (n scope : ℕ) (tests : List Test) → 2 ≤ n → MeaningLaws (sequence_of n scope tests) n
+sequence_meaning n scope tests many = record {
+  ports = (refl, omega arith);
+  same_result = λ tables others k. same_chosen (sequence scope tests) tables others k;
+  same_bound = λ tables others marks k. refl;
+  bound_is_time = λ tables marks table mark k. least_is_time marks;
+  bound_rises = λ tables marks later k. least_rises marks later k;
+  nothing = no_sequence scope tests n;
+  first_bound = least_zeros n (omega arith);
+  echo = λ e. cc;
+}
+
+unless_meaning : (scope hold : ℕ) (tests : List Test) → MeaningLaws (unless_of scope hold tests) 2
+unless_meaning scope hold tests = record {
+  ports = (refl, omega arith);
+  same_result = λ tables others k. same_unblocked scope hold tests tables others k;
+  same_bound = λ tables others marks k. refl;
+  bound_is_time = λ tables marks table mark k. least_is_time marks;
+  bound_rises = λ tables marks later k. least_rises marks later k;
+  nothing = record { each = λ r. refl };
+  first_bound = refl;
+  echo = λ e. cc;
+}
+
+group_meaning : (g : Grouping) → MeaningLaws (group_of g) 1
+group_meaning g = record {
+  ports = (refl, omega arith);
+  same_result = λ tables others k. same_grouped g (table_at tables 0) (table_at others 0) (same_at 0 tables others k);
+  same_bound = λ tables others marks k. same_open (mark_at marks 0) (grouped g (table_at tables 0)) (grouped g (table_at others 0)) (same_grouped g (table_at tables 0) (table_at others 0) (same_at 0 tables others k));
+  bound_is_time = λ tables marks table mark k. open_is_time (mark_at marks 0) (grouped g (table_at tables 0)) (time_at 0 marks k);
+  bound_rises = λ tables marks later k. open_rises (mark_at marks 0) (mark_at later 0) (grouped g (table_at tables 0)) (rise_at 0 marks later k);
+  nothing = record { each = λ r. refl };
+  first_bound = refl;
+  echo = λ e. cc;
+}
+
+output_meaning : MeaningLaws handed_on 1
+output_meaning = record {
+  ports = (refl, omega arith);
+  same_result = λ tables others k. same_at 0 tables others k;
+  same_bound = λ tables others marks k. refl;
+  bound_is_time = λ tables marks table mark k. time_at 0 marks k;
+  bound_rises = λ tables marks later k. rise_at 0 marks later k;
+  nothing = record { each = λ r. refl };
+  first_bound = refl;
+  echo = λ e. (refl, λ tables mark. refl);
+}
+
+at_count : (k : NodeKind) (count ports : ℕ) → ports ≡ count → MeaningLaws (node_meaning k count) count → MeaningLaws (node_meaning k ports) ports
+at_count k count ports is laws = subst (λ (n : ℕ). MeaningLaws (node_meaning k n) n) (sym is) laws
+
+-- a node that is ready keeps the laws
+pub ready_meaning : (k : NodeKind) (ports : ℕ) → IsReady k ports → MeaningLaws (node_meaning k ports) ports
+ready_meaning (kind.Source file) ports ready = absurd ready
+ready_meaning (kind.Select tests) ports ready = at_count (kind.Select tests) 1 ports ready (plain_meaning (selected tests))
+ready_meaning (kind.Project keep) ports ready = at_count (kind.Project keep) 1 ports ready (plain_meaning (projected keep))
+ready_meaning kind.Union ports ready = union_meaning ports ready.0
+ready_meaning (kind.Join tests) ports ready = at_count (kind.Join tests) 2 ports ready (join_meaning tests)
+ready_meaning (kind.Window width) ports ready = at_count (kind.Window width) 1 ports ready.0 (plain_meaning (with_life (windowed width)))
+ready_meaning (kind.Shift by) ports ready =
+    at_count (kind.Shift by) 1 ports ready.0 (row_wise_meaning (with_life (shifted by)) (shifted_mark by) refl (shifted_rises by) (λ mark h. shifted_is_time by mark))
+ready_meaning (kind.Hop every width) ports ready =
+    at_count (kind.Hop every width) 1 ports ready.0
+    (row_wise_meaning (with_life (hopped every width)) (hopped_mark every) (let h = multiple_least every 0 in omega arith) (λ mark higher rise. hopped_rises every mark higher ready.1.least rise) (λ mark h. hopped_is_time every mark))
+ready_meaning kind.Starts ports ready = at_count kind.Starts 1 ports ready (plain_meaning (with_life started))
+ready_meaning kind.Ends ports ready = at_count kind.Ends 1 ports ready (plain_meaning (with_life ended))
+ready_meaning (kind.Group keys count sums) ports ready = at_count (kind.Group keys count sums) 1 ports ready (group_meaning (grouping_by keys count sums))
+ready_meaning (kind.Sequence scope tests) ports ready = sequence_meaning ports scope tests ready.0
+ready_meaning (kind.Unless scope hold tests) ports ready = at_count (kind.Unless scope hold tests) 2 ports ready.0 (unless_meaning scope hold tests)
+ready_meaning kind.Output ports ready = at_count kind.Output 1 ports ready output_meaning
+
+-- nodes that are the same as parts of a plan mean the same
+pub alike : (a b : PlanNode) → node_of a ≡ node_of b → meaning_of a ≡ meaning_of b
+alike a b same = ap (λ (node : Node). node_meaning node.kind (length node.inputs)) same

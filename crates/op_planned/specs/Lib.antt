@@ -1,8 +1,0 @@
-pub mod Outputs
-pub mod OutputLaws
-pub mod Meanings
-pub mod MeaningLaws
-pub mod Ready
-pub mod ReadyLaws
-pub mod Chosen
-pub mod ChosenLaws

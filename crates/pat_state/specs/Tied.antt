@@ -1,0 +1,11 @@
+-- Rows of two ports with their tags.
+use Rattle.std.specs.Prelude.{List}
+use Rattle.cedr_expr.specs.declared.test.Test.{Test}
+use Rattle.pat_state.specs.declared.tied.Tied.{Tied}
+use Rattle.cedr_expr.specs.Tags.{left_tag, right_tag}
+use Rattle.pat_state.specs.Tags.{IsTagged}
+
+-- each row of both ports has its tag beside left payloads of the width
+pub record AreTied (tests : List Test) (tied : Tied) : Type 0 where
+  pub left_are : IsTagged (left_tag tied.width tests) tied.left tied.left_tags
+  pub right_are : IsTagged (right_tag tied.width tests) tied.right tied.right_tags

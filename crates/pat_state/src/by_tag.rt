@@ -1,0 +1,116 @@
+ghost use Rattle.std.specs.Prelude.{◌≡◌, ◌<◌, ◌∷◌, ◌++◌, [], List, replicate, OnOk, IfOk};
+ghost use Rattle.std.specs.List.{filter};
+ghost use Rattle.cedr_base.specs.declared.row.Row.{Row as RowValue};
+ghost use Rattle.cedr_base.specs.Rows.{count_of, SameRows};
+ghost use Rattle.cedr_table.specs.Counted.{spread};
+ghost use Rattle.pat_state.specs.Starts.{AreWithin};
+ghost use Rattle.pat_state.specs.Tags.{marked, has_tag_within};
+
+use cedr_base::{OutOfMemory, Payload, Row, Time};
+use cedr_table::Table;
+use std::alloc::Global;
+use std::collections::btree_map::Range;
+use std::marker::Model;
+
+/// A bag of rows, each with a number, its tag, by which it is found: of rows with one tag those that begin within some
+/// times. Contracts see a list of the rows, each with its tag as its end.
+///
+/// It is a table of these rows, whose canonical order is that of the tags, and of one tag that of the begins.
+#[derive(Drop)]
+pub(crate) struct ByTag {
+    rows: Table,
+}
+
+impl Model for ByTag {
+    ghost use Rattle.std.specs.Prelude.{List};
+    ghost use Rattle.cedr_base.specs.declared.row.Row.{Row};
+
+    ghost Value = { List Row };
+
+    ghost view = { λ t. t.rows };
+}
+
+/// A copy of a row with a tag in place of its end.
+fn marked(alloc: Global, tag: u64, row: &Row) -> Result<Row, OutOfMemory>
+    ensures { IfOk result (λ r. r ≡ marked tag row.now) }
+{
+    let payload = row.payload.copy(alloc)?;
+    Ok(Row {
+        end: tag,
+        begin: row.begin,
+        payload,
+    })
+}
+
+/// What comes before each row of a tag that begins at a time.
+fn first_of(alloc: Global, tag: u64, begin: Time) -> Row
+    ensures { result ≡ record { end = tag; begin = begin; payload = [] } }
+{
+    Row {
+        end: tag,
+        begin,
+        payload: Payload::new(alloc),
+    }
+}
+
+impl ByTag {
+    /// A bag with no row. It takes no memory.
+    pub(crate) fn new(alloc: Global) -> ByTag
+        ensures { result ≡ [] }
+    {
+        ByTag {
+            rows: Table::new(alloc),
+        }
+    }
+
+    /// Adds a row with a tag. O(log n) comparisons in the different rows.
+    pub(crate) fn insert(&mut self, alloc: Global, tag: u64, row: &Row) -> Result<(), OutOfMemory>
+        ensures { OnOk result (SameRows self.new (marked tag row.now ∷ self.old)) }
+    {
+        let marked = marked(alloc, tag, row)?;
+        self.rows.insert(marked)?;
+        Ok(())
+    }
+
+    /// Takes a copy of a row with a tag away. O(log n) comparisons in the different rows.
+    pub(crate) fn take(&mut self, alloc: Global, tag: u64, row: &Row) -> Result<(), OutOfMemory>
+        requires { 0 < count_of (marked tag row.now) self.old }
+        ensures { OnOk result (SameRows (marked tag row.now ∷ self.new) self.old) }
+    {
+        let marked = marked(alloc, tag, row)?;
+        self.rows.take(&marked);
+        Ok(())
+    }
+
+    /// Takes so many copies of a row with a tag away. It takes no memory. O(log n) comparisons in the different rows for
+    /// each.
+    pub(crate) fn take_copies(&mut self, tag: u64, row: Row, count: usize)
+        ensures { (rest : List RowValue) → SameRows self.old (replicate count (marked tag row) ++ rest) → SameRows self.new rest }
+    {
+        let marked = Row {
+            end: tag,
+            begin: row.begin,
+            payload: row.payload,
+        };
+        for _ in 0..count {
+            self.rows.take(&marked);
+        }
+    }
+
+    /// The rows of a tag that begin at a time or later, and before another one, with the number of their copies: in
+    /// order of begin. It takes no memory. O(log n) comparisons, and O(1) for each row that is taken from it.
+    pub(crate) fn within(
+        &self,
+        alloc: Global,
+        tag: u64,
+        from: Time,
+        before: Time,
+    ) -> Range<'_, Row, usize>
+        ensures rows { spread result ≡ filter (has_tag_within tag from before) self.now }
+        ensures within { AreWithin from before result }
+    {
+        let low = first_of(alloc, tag, from);
+        let high = first_of(alloc, tag, from.max(before));
+        self.rows.range(low..high)
+    }
+}
