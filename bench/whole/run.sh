@@ -4,7 +4,7 @@
 # written by hand and proves nothing. What is compared writes the same bytes, or this ends with status 1. Each figure is
 # of the quickest of RUNS runs.
 #
-#   history         an event file of 2^26 bytes; beside `sort` and `wc -l` of the same file
+#   history         an event file of 2^26 bytes; beside `sort`, by keys and of whole lines, and `wc -l`
 #   join            two sources of SIZE events each, of 100 machines, joined by machine; beside Python over SQLite
 #   join_group      the same join, and then counts and sums by machine
 #   sequence        an event of the one and within 100 an event of the other source of the same machine
@@ -51,7 +51,7 @@ show() {
   read -r wall processor peak < "$2.time"
   awk -v workload="$1" -v name="$2" -v wall="$wall" -v processor="$processor" -v peak="$peak" \
     -v base="$( [ -f baseline_ran.time ] && cut -d' ' -f1 baseline_ran.time || echo 0)" 'BEGIN {
-      printf "%-11s %-9s %8.2f %9.2f %8.0f", workload, name, wall, processor, peak
+      printf "%-11s %-10s %8.2f %9.2f %8.0f", workload, name, wall, processor, peak
       if (base > 0) printf " %7.1f", wall / base
       print ""
     }'
@@ -79,7 +79,7 @@ two_sources() {
 }
 
 python3 "$here/plans.py" .
-printf "%-11s %-9s %8s %9s %8s %7s\n" workload program wall processor MB "x hand"
+printf "%-11s %-10s %8s %9s %8s %7s\n" workload program wall processor MB "x hand"
 for workload in "${workloads[@]}"; do
   rm -f ./*.time
   case $workload in
@@ -88,9 +88,11 @@ for workload in "${workloads[@]}"; do
       by_hand history events.csv
       timed history "$program" history events.csv
       timed sort env LC_ALL=C sort -t, -k4,4n -k3,3n events.csv
+      timed sort_lines env LC_ALL=C sort events.csv
       timed wc wc -l events.csv
       beside history history baseline_ran
       show history sort
+      show history sort_lines
       show history wc
       ;;
     make)

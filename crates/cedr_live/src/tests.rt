@@ -91,8 +91,15 @@ fn a_source_is_judged_by_its_own_lines(rt: HostRuntime) -> Result<(), Fail> {
         at(7, LineFault::KnownId),
         written,
     )?;
-    let late = LineFault::BeforeGuarantee { sync: 3, mark: 4 };
-    check(&rt, alloc, UNION, b"s,=,4\n\ns,+,1,3,9,a", at(3, late), b"")
+    let below = LineFault::BeforeGuarantee { sync: 3, mark: 4 };
+    check(
+        &rt,
+        alloc,
+        UNION,
+        b"s,=,4\n\ns,+,1,3,9,a",
+        at(3, below),
+        b"",
+    )
 }
 
 #[test]

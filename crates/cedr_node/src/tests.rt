@@ -331,7 +331,7 @@ fn no_message_may_come_before_its_time(rt: HostRuntime) -> Result<(), Fail> {
     assert!(rt; early.is_none());
     let end: [Step; 1] = [(0, Told::End, &[Told::Mark(FOREVER), Told::End])];
     check(&rt, alloc, &mut fed, &end)?;
-    let late = feed(alloc, &mut fed, 0, message_of(alloc, Told::Mark(7))?)?;
-    assert!(rt; late.is_none());
+    let after = feed(alloc, &mut fed, 0, message_of(alloc, Told::Mark(7))?)?;
+    assert!(rt; after.is_none());
     Ok(())
 }

@@ -1,6 +1,7 @@
 use crate::tests::words;
 use crate::{Status, run};
 use cedr_io::{Gate, MemFiles, MemSink, OutsideFault, Sink};
+use cedr_testing::await_flag;
 use std::alloc::Global;
 use std::sync::Arc;
 use std::sync::atomic::{AtomicU64, Ordering};
@@ -29,23 +30,13 @@ impl Sink for Telling {
     }
 }
 
-/// Spins until a flag is set, or for so many turns. Whether it was set.
-fn await_flag(flag: &AtomicU64) -> bool {
-    for _ in 0..100_000_000u64 {
-        if flag.load(Ordering::SeqCst) == 1 {
-            return true;
-        }
-    }
-    false
-}
-
 /// Holds the source from its eighth turn on until something was written.
 #[derive(Drop)]
 struct WriteFirst {
     turns: AtomicU64,
     written: Arc<AtomicU64, Global>,
     /// The source went on without it.
-    late: AtomicU64,
+    alone: AtomicU64,
 }
 
 impl Gate for WriteFirst {
@@ -54,7 +45,7 @@ impl Gate for WriteFirst {
             && self.turns.fetch_add(1, Ordering::SeqCst) > 8
             && !await_flag(&self.written)
         {
-            self.late.store(1, Ordering::SeqCst);
+            self.alone.store(1, Ordering::SeqCst);
         }
     }
 }
@@ -75,7 +66,7 @@ fn a_stream_writes_before_its_source_ended(rt: HostRuntime) -> Result<(), Fail> 
         WriteFirst {
             turns: AtomicU64::new(0),
             written: Arc::try_clone(&written)?,
-            late: AtomicU64::new(0),
+            alone: AtomicU64::new(0),
         },
     )?;
     let mut out = Telling { some: written };
@@ -83,6 +74,6 @@ fn a_stream_writes_before_its_source_ended(rt: HostRuntime) -> Result<(), Fail> 
     let words = words(alloc, &["stream", "p.json"])?;
     let status = run(rt, alloc, &words, &mut files, &mut out, &mut err, &gate).status;
     assert_eq!(rt; status, Status::Done);
-    assert_eq!(rt; gate.late.load(Ordering::SeqCst), 0);
+    assert_eq!(rt; gate.alone.load(Ordering::SeqCst), 0);
     Ok(())
 }

@@ -8,6 +8,7 @@ use cedr_base::{Change, OutOfMemory};
 use cedr_history::Reader;
 use cedr_io::{Files, Gate, ListSource, MemFiles, OpenGate};
 use cedr_plan::{Plan, read_plan};
+use cedr_testing::await_flag;
 use cedr_text::{LineFault, write_change};
 use std::alloc::Global;
 use std::sync::atomic::{AtomicU64, Ordering};
@@ -279,22 +280,12 @@ fn each_faulty_source_is_told(rt: HostRuntime) -> Result<(), Fail> {
     Ok(())
 }
 
-/// Spins until a flag is set, or for so many turns. Whether it was set.
-fn await_flag(flag: &AtomicU64) -> bool {
-    for _ in 0..100_000_000u64 {
-        if flag.load(Ordering::SeqCst) == 1 {
-            return true;
-        }
-    }
-    false
-}
-
 /// Holds the first worker until the second one has turned.
 #[derive(Drop)]
 struct SecondFirst {
     turned: AtomicU64,
     /// The first one turned without it.
-    late: AtomicU64,
+    alone: AtomicU64,
 }
 
 impl Gate for SecondFirst {
@@ -302,7 +293,7 @@ impl Gate for SecondFirst {
         match node {
             0 => {
                 if !await_flag(&self.turned) {
-                    self.late.store(1, Ordering::SeqCst);
+                    self.alone.store(1, Ordering::SeqCst);
                 }
             }
             1 => self.turned.store(1, Ordering::SeqCst),
@@ -321,14 +312,14 @@ fn workers_run_beside_each_other(rt: HostRuntime) -> Result<(), Fail> {
         alloc,
         SecondFirst {
             turned: AtomicU64::new(0),
-            late: AtomicU64::new(0),
+            alone: AtomicU64::new(0),
         },
     )?;
     let some = Arc::new(alloc, AtomicU64::new(0))?;
     let report = run_by(rt, alloc, UNION.as_bytes(), &mut files, &some, &gate)?;
     let text = lines(alloc, report.changes.as_slice())?;
     assert_eq!(rt; text.as_slice(), b"+,1,2,a\n+,1,3,b\n".as_slice());
-    assert_eq!(rt; gate.late.load(Ordering::SeqCst), 0);
+    assert_eq!(rt; gate.alone.load(Ordering::SeqCst), 0);
     Ok(())
 }
 
@@ -338,13 +329,13 @@ struct WatcherFirst {
     turns: AtomicU64,
     seen: Arc<AtomicU64, Global>,
     /// The source went on without it.
-    late: AtomicU64,
+    alone: AtomicU64,
 }
 
 impl Gate for WatcherFirst {
     fn pass(&self, node: usize) {
         if node == 0 && self.turns.fetch_add(1, Ordering::SeqCst) > 8 && !await_flag(&self.seen) {
-            self.late.store(1, Ordering::SeqCst);
+            self.alone.store(1, Ordering::SeqCst);
         }
     }
 }
@@ -364,11 +355,11 @@ fn changes_are_read_before_their_source_ended(rt: HostRuntime) -> Result<(), Fai
         WatcherFirst {
             turns: AtomicU64::new(0),
             seen: Arc::try_clone(&seen)?,
-            late: AtomicU64::new(0),
+            alone: AtomicU64::new(0),
         },
     )?;
     let report = run_by(rt, alloc, MIDDLE.as_bytes(), &mut files, &seen, &gate)?;
     assert_eq!(rt; report.changes.len(), 6);
-    assert_eq!(rt; gate.late.load(Ordering::SeqCst), 0);
+    assert_eq!(rt; gate.alone.load(Ordering::SeqCst), 0);
     Ok(())
 }

@@ -4,12 +4,12 @@ ghost use Rattle.cedr_worker.specs.Sources.{SourceWorks};
 ghost use Rattle.cedr_worker.specs.Workers.{IsWorking};
 
 use crate::operator_tests::select_worker;
-use crate::source_tests::{one_edge, source_of, take_all, turn_once};
+use crate::source_tests::{one_edge, one_number, source_of, take_all, turn_once};
 use crate::{OperatorWorker, SourceWorker, Turn};
-use cedr_base::{FieldType, OutOfMemory};
+use cedr_base::{FOREVER, OutOfMemory};
 use cedr_edge::EdgeIn;
 use cedr_io::{ListSource, OpenGate, Source};
-use cedr_text::Shape;
+use cedr_testing::Told;
 use std::alloc::Global;
 use std::sync::Wait;
 use std::test::*;
@@ -17,7 +17,14 @@ use std::test::*;
 /// Numbers, of which the select takes those from 5 on.
 const EVENTS: &[u8] = b"+,1,1,10,3\n+,2,2,20,5\n=,4\n+,3,4,9,7\n-,2,5\n";
 
-const SELECTED: &[u8] = b"+,2,20,5\n=4\n+,4,9,7\n-,5,2,20,5\n=inf\n.\n";
+const SELECTED: [Told; 6] = [
+    Told::Add(5, 2, 20),
+    Told::Mark(4),
+    Told::Add(7, 4, 9),
+    Told::Cut(5, 2, 20, 5),
+    Told::Mark(FOREVER),
+    Told::End,
+];
 
 /// A source, a select after it, and the end of the edge that the select puts on.
 #[derive(Drop)]
@@ -34,10 +41,9 @@ fn chain_of(alloc: Global, piece: usize, room: usize) -> Result<Chain, Fail>
     ensures select { IfOk result (λ chain. IsWorking chain.select) }
 {
     let source = source_of(alloc, EVENTS, piece, 1000)?;
-    let types = vec![in alloc; FieldType::Number]?;
     let (first, input) = one_edge(alloc, room)?;
     let (second, last) = one_edge(alloc, room)?;
-    let Ok(source) = SourceWorker::new(alloc, 0, source, Shape::Fields(types), first) else {
+    let Ok(source) = SourceWorker::new(alloc, 0, source, one_number(alloc)?, first) else {
         return Err("there is memory")?;
     };
     let select = select_worker(alloc, input, second)?;
@@ -54,7 +60,7 @@ fn turn_all<S: Source + Drop, R: Wait>(
     source: &mut SourceWorker<S>,
     select: &mut OperatorWorker,
     last: &mut EdgeIn,
-    text: &mut Vec<u8>,
+    said: &mut Vec<Told>,
 ) -> Result<bool, OutOfMemory>
     requires source { (shape : Lined) × (content : Option (List ℕ)) × (count : ℕ) × SourceWorks S.rest S.faults shape content count source.old }
     requires select { IsWorking select.old }
@@ -62,7 +68,7 @@ fn turn_all<S: Source + Drop, R: Wait>(
     for _ in 0..1000u16 {
         turn_once(rt, source, &OpenGate);
         let turn = select.turn(rt, &OpenGate);
-        take_all(rt, last, text)?;
+        take_all(rt, last, said)?;
         if turn == Turn::Ended {
             return Ok(true);
         }
@@ -79,10 +85,14 @@ fn a_select_behind_a_source_gives_the_rows_of_the_file(rt: HostRuntime) -> Resul
                 mut select,
                 mut last,
             } = chain_of(rt.alloc(), piece.max(1), room.clamp(1, 1024))?;
-            let mut text = Vec::new(rt.alloc());
-            let ended = turn_all(&rt, &mut source, &mut select, &mut last, &mut text)?;
+            let mut said = Vec::new(rt.alloc());
+            let ended = turn_all(&rt, &mut source, &mut select, &mut last, &mut said)?;
             assert!(rt; ended, "pieces of {piece}, room {room}");
-            assert_eq!(rt; text.as_slice(), SELECTED, "pieces of {piece}, room {room}");
+            assert_eq!(rt;
+                said.as_slice(),
+                SELECTED.as_slice(),
+                "pieces of {piece}, room {room}"
+            );
         }
     }
     Ok(())

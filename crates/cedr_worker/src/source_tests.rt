@@ -7,34 +7,25 @@ ghost use Rattle.cedr_worker.specs.declared.turn.Turn.TheVariants.{Ended};
 ghost use Rattle.cedr_worker.specs.Sources.{SourceWorks};
 
 use crate::{Ran, SourceStop, SourceWorker, Turn};
-use cedr_base::{Message, OutOfMemory};
+use cedr_base::{FieldType, OutOfMemory};
 use cedr_edge::{EdgeIn, EdgeOut, new_edge};
 use cedr_io::{Files, Gate, ListSource, MemFiles, OpenGate, Source};
-use cedr_text::{LineFault, Shape, write_change, write_time};
+use cedr_testing::{Told, tell};
+use cedr_text::{LineFault, Shape};
 use crossbeam_utils::atomic::AtomicCell;
 use std::alloc::Global;
 use std::sync::Wait;
 use std::test::*;
 
 /// Its last line has no line feed.
-const EVENTS: &[u8] = b"+,1,1,10,a\n=,4\n-,1,5";
+const EVENTS: &[u8] = b"+,1,1,10,7\n=,4\n-,1,5";
 
-const MESSAGES: &[u8] = b"+,1,10,a\n=4\n-,5,1,10,a\n.\n";
-
-/// Appends a change as its line, a guarantee as `=` and its time, and the end as a dot.
-fn write_message(message: &Message, text: &mut Vec<u8>) -> Result<(), OutOfMemory> {
-    match message {
-        Message::Change(change) => write_change(change, text)?,
-        Message::Mark(time) => {
-            text.push(b'=')?;
-            write_time(*time, text)?;
-            text.push(b'\n')?;
-        }
-        Message::End => text.extend_from_slice(b".\n")?,
-        Message::Broken => text.extend_from_slice(b"broken\n")?,
-    }
-    Ok(())
-}
+const MESSAGES: [Told; 4] = [
+    Told::Add(7, 1, 10),
+    Told::Mark(4),
+    Told::Cut(7, 1, 10, 5),
+    Told::End,
+];
 
 /// A source that gives at most so many bytes at a time, whose read of this number is refused.
 pub(crate) fn source_of(
@@ -55,17 +46,23 @@ pub(crate) fn source_of(
     Ok(source)
 }
 
-/// Appends what there is on an edge.
+/// An event has one number.
+pub(crate) fn one_number(alloc: Global) -> Result<Shape, OutOfMemory> {
+    let types = vec![in alloc; FieldType::Number]?;
+    Ok(Shape::Fields(types))
+}
+
+/// Appends what the messages on an edge say.
 pub(crate) fn take_all<R: Wait>(
     rt: &R,
     input: &mut EdgeIn,
-    text: &mut Vec<u8>,
+    said: &mut Vec<Told>,
 ) -> Result<(), OutOfMemory> {
     for _ in 0..100u8 {
         let Some(message) = input.take(rt) else {
             return Ok(());
         };
-        write_message(&message, text)?;
+        said.push(tell(&message))?;
     }
     Ok(())
 }
@@ -105,7 +102,7 @@ fn turn_out<S: Source + Drop, R: Wait>(
     rt: &R,
     worker: &mut SourceWorker<S>,
     input: &mut EdgeIn,
-    text: &mut Vec<u8>,
+    said: &mut Vec<Told>,
 ) -> Result<bool, OutOfMemory>
     requires { (shape : Lined) × (content : Option (List ℕ)) × (count : ℕ) × SourceWorks S.rest S.faults shape content count worker.old }
     ensures works { (shape : Lined) × (content : Option (List ℕ)) × (count : ℕ) × SourceWorks S.rest S.faults shape content count worker.new }
@@ -116,7 +113,7 @@ fn turn_out<S: Source + Drop, R: Wait>(
             Turn::Ended => return Ok(true),
             Turn::Moved | Turn::Idle => {}
         }
-        take_all(rt, input, text)?;
+        take_all(rt, input, said)?;
     }
     Ok(false)
 }
@@ -136,7 +133,7 @@ pub(crate) fn one_edge(alloc: Global, room: usize) -> Result<(Vec<EdgeOut>, Edge
 
 #[derive(Drop)]
 struct Sent {
-    text: Vec<u8>,
+    said: Vec<Told>,
     stop: SourceStop,
     ran: Ran,
 }
@@ -154,17 +151,17 @@ fn sent_of<R: Wait>(
 {
     let source = source_of(alloc, bytes, piece, refused)?;
     let (outputs, mut input) = one_edge(alloc, room)?;
-    let Ok(mut worker) = SourceWorker::new(alloc, 3, source, Shape::AnyText, outputs) else {
+    let Ok(mut worker) = SourceWorker::new(alloc, 3, source, one_number(alloc)?, outputs) else {
         return Err("there is memory")?;
     };
-    let mut text = Vec::new(alloc);
-    if !turn_out(rt, &mut worker, &mut input, &mut text)? {
+    let mut said = Vec::new(alloc);
+    if !turn_out(rt, &mut worker, &mut input, &mut said)? {
         return Err("the worker ends")?;
     }
     let end = worker.finish();
-    take_all(rt, &mut input, &mut text)?;
+    take_all(rt, &mut input, &mut said)?;
     Ok(Sent {
-        text,
+        said,
         stop: end.stop,
         ran: end.ran,
     })
@@ -183,8 +180,8 @@ fn a_source_sends_the_messages_of_its_lines_and_the_end(rt: HostRuntime) -> Resu
                 room.clamp(1, 1024),
             )?;
             assert_eq!(rt;
-                sent.text.as_slice(),
-                MESSAGES,
+                sent.said.as_slice(),
+                MESSAGES.as_slice(),
                 "pieces of {piece}, room {room}"
             );
             assert_eq!(rt;
@@ -201,9 +198,12 @@ fn a_source_sends_the_messages_of_its_lines_and_the_end(rt: HostRuntime) -> Resu
 
 #[test]
 fn a_source_whose_read_is_refused_is_broken(rt: HostRuntime) -> Result<(), Fail> {
-    // The first two reads give `+,1,1,10,a\n=,4`.
+    // The first two reads give `+,1,1,10,7\n=,4`.
     let sent = sent_of(&rt, rt.alloc(), EVENTS, 7, 3, 64)?;
-    assert_eq!(rt; sent.text.as_slice(), b"+,1,10,a\nbroken\n".as_slice());
+    assert_eq!(rt;
+        sent.said.as_slice(),
+        [Told::Add(7, 1, 10), Told::Broken].as_slice()
+    );
     assert_eq!(rt; sent.stop, SourceStop::ReadFault);
     Ok(())
 }
@@ -214,14 +214,14 @@ fn a_source_with_a_faulty_line_is_broken_there(rt: HostRuntime) -> Result<(), Fa
         let sent = sent_of(
             &rt,
             rt.alloc(),
-            b"+,1,1,10,a\n\n-,2,5\n=,9",
+            b"+,1,1,10,7\n\n-,2,5\n=,9",
             piece.max(1),
             1000,
             1,
         )?;
         assert_eq!(rt;
-            sent.text.as_slice(),
-            b"+,1,10,a\nbroken\n".as_slice(),
+            sent.said.as_slice(),
+            [Told::Add(7, 1, 10), Told::Broken].as_slice(),
             "pieces of {piece}"
         );
         assert_eq!(rt;
@@ -243,18 +243,18 @@ fn two_out_edges_get_the_same(rt: HostRuntime) -> Result<(), Fail> {
     let (mut outputs, mut first) = one_edge(alloc, 64)?;
     let (output, mut second) = new_edge(alloc, 64)?;
     outputs.push(output)?;
-    let Ok(mut worker) = SourceWorker::new(alloc, 0, source, Shape::AnyText, outputs) else {
+    let Ok(mut worker) = SourceWorker::new(alloc, 0, source, one_number(alloc)?, outputs) else {
         return Err("there is memory")?;
     };
     worker.run(&rt, &OpenGate);
     let end = worker.finish();
     assert_eq!(rt; end.ran.put(), 8);
-    let mut text = Vec::new(alloc);
-    take_all(&rt, &mut first, &mut text)?;
-    assert_eq!(rt; text.as_slice(), MESSAGES);
-    let mut text = Vec::new(alloc);
-    take_all(&rt, &mut second, &mut text)?;
-    assert_eq!(rt; text.as_slice(), MESSAGES);
+    let mut said = Vec::new(alloc);
+    take_all(&rt, &mut first, &mut said)?;
+    assert_eq!(rt; said.as_slice(), MESSAGES.as_slice());
+    let mut said = Vec::new(alloc);
+    take_all(&rt, &mut second, &mut said)?;
+    assert_eq!(rt; said.as_slice(), MESSAGES.as_slice());
     Ok(())
 }
 

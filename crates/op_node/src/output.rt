@@ -1,8 +1,9 @@
-ghost use Rattle.std.specs.Prelude.{◌≡◌, ◌++◌, ◌∷◌, [], OnOk, OnErr};
+ghost use Rattle.std.specs.Prelude.{◌≡◌, ◌∷◌, []};
 ghost use Rattle.op_node.specs.Outputs.{handed_on};
 
 use cedr_base::{Change, OutOfMemory, Time};
 use cedr_table::Operator;
+use op_row::hand_on;
 use std::alloc::Global;
 
 /// All rows, as they are. It answers each change by that change alone, whatever came before, and the bound is the mark.
@@ -17,15 +18,6 @@ impl Output {
     {
         Output
     }
-}
-
-/// Hands a change on.
-fn hand_on(change: Change, out: &mut Vec<Change>) -> Result<(), OutOfMemory>
-    ensures ok { OnOk result (out.new.items ≡ out.old.items ++ change ∷ []) }
-    ensures err { OnErr result (out.new.items ≡ out.old.items) }
-{
-    out.push(change)?;
-    Ok(())
 }
 
 impl Operator for Output {

@@ -10,7 +10,7 @@ mod union;
 
 pub use project::Project;
 pub use select::Select;
-pub use union::Union;
+pub use union::{Union, hand_on};
 
 #[cfg(test)]
 mod tests;

@@ -22,8 +22,8 @@ impl Union {
     }
 }
 
-/// Hands a change on.
-fn hand_on(change: Change, out: &mut Vec<Change>) -> Result<(), OutOfMemory>
+/// Hands a change on, as an operator does that takes every row as it is. An error leaves `out` as it was.
+pub fn hand_on(change: Change, out: &mut Vec<Change>) -> Result<(), OutOfMemory>
     ensures ok { OnOk result (out.new.items ≡ out.old.items ++ change ∷ []) }
     ensures err { OnErr result (out.new.items ≡ out.old.items) }
 {
