@@ -16,11 +16,11 @@ USAGE = (b"usage: cedr history FILE | check PLAN | serial PLAN | run PLAN | stre
 ROOT = Path(__file__).resolve().parent.parent
 
 
-def built_program() -> Path:
-    """The program that the command line names, or the built one. Ends with 2 where it isn't there."""
-    program = Path(sys.argv[1] if len(sys.argv) > 1 else ROOT / "crates/cedr/out/cedr").resolve()
+def built_program(name: str = "cedr", words: str = " -- --version") -> Path:
+    """The program that the command line names, or the built one of this name. Ends with 2 where it isn't there."""
+    program = Path(sys.argv[1] if len(sys.argv) > 1 else ROOT / f"crates/{name}/out/{name}").resolve()
     if not program.is_file():
-        print(f"{program} isn't there; it is built by: (cd crates/cedr && rt run -- --version)", file=sys.stderr)
+        print(f"{program} isn't there; it is built by: (cd crates/{name} && rt run{words})", file=sys.stderr)
         sys.exit(2)
     return program
 

@@ -12,10 +12,3 @@ mod settle;
 
 pub use aligner::Aligner;
 pub use fate::Fate;
-
-#[cfg(test)]
-mod made_tests;
-#[cfg(test)]
-mod reference;
-#[cfg(test)]
-mod tests;

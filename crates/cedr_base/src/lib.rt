@@ -23,6 +23,3 @@ pub use payload::Payload;
 pub use row::{Row, RowFault, canonical_order, sort_rows};
 pub use text::Text;
 pub use time::{FOREVER, Time, finite_times, later};
-
-#[cfg(test)]
-mod tests;

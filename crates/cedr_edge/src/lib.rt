@@ -9,6 +9,3 @@ mod ends;
 mod line;
 
 pub use ends::{EdgeIn, EdgeOut, EdgeRecord, Full, close_edge, new_edge};
-
-#[cfg(test)]
-mod tests;

@@ -24,6 +24,3 @@ pub use side::Side;
 pub use test::{Op, Operand, Test};
 pub use test_list::Tests;
 pub use tie::tied_field;
-
-#[cfg(test)]
-mod tests;

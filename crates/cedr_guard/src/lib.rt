@@ -19,6 +19,3 @@ pub use guard::Guard;
 pub use judge::Judge;
 pub use law::{message_laws, source_limits};
 pub use refusal::{FILE_LIMIT, Refusal, limit_fault};
-
-#[cfg(test)]
-mod tests;

@@ -25,6 +25,3 @@ pub use note::Note;
 pub use reader::Reader;
 pub use seen::Seen;
 pub use writer::{Writer, new_history};
-
-#[cfg(test)]
-mod tests;

@@ -26,6 +26,3 @@ pub use mem_source::MemSource;
 pub use sink::{Sink, write_all};
 pub use source::Source;
 pub use standard::StdSink;
-
-#[cfg(test)]
-mod tests;

@@ -9,7 +9,7 @@ use Rattle.std.proofs.lemmas.List.Sums.{passes_at_first, fails_before_first}
 use Rattle.cedr_guard.specs.Sources.{with_reading}
 use Rattle.cedr_net.specs.Flows.{IsSourceAt}
 use Rattle.cedr_net.proofs.EdgeLemmas.{any_default}
-use Rattle.cedr_net.proofs.FedLemmas.{source_here}
+use Rattle.cedr_net.proofs.PlaceLemmas.{source_here}
 use Rattle.cedr_plan.specs.declared.plan.PlanNode.{PlanNode}
 use Rattle.cedr_serial.specs.Sources.{HasTypes}
 use Rattle.cedr_base.specs.Bytes.{comma}

@@ -10,7 +10,7 @@ use Rattle.cedr_io.specs.declared.fault.OutsideFault.{OutsideFault}
 use Rattle.cedr_laws.specs.Lists.{Lists, list_at}
 use Rattle.cedr_net.specs.Flows.{reads_of}
 use Rattle.cedr_net.proofs.EdgeLemmas.{any_default}
-use Rattle.cedr_net.proofs.FedLemmas.{source_here}
+use Rattle.cedr_net.proofs.PlaceLemmas.{source_here}
 use Rattle.cedr_net.proofs.RunLemmas.{settled_run}
 use Rattle.cedr_net.proofs.SettleLemmas.{grow_none}
 use Rattle.cedr_plan.specs.declared.plan.PlanNode.{PlanNode}

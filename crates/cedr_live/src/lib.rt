@@ -13,6 +13,3 @@ mod script;
 
 pub use law::shown_rows;
 pub use script::play;
-
-#[cfg(test)]
-mod tests;

@@ -13,6 +13,3 @@ pub use generator::made_bytes;
 pub use law::made_sources;
 pub use plan::made_plan;
 pub use summary::write_summary;
-
-#[cfg(test)]
-mod tests;

@@ -7,4 +7,4 @@ pub mod AnswerLemmas
 pub mod NetLemmas
 pub mod PortLemmas
 pub mod ScheduleLemmas
-pub mod FedLemmas
+pub mod PlaceLemmas

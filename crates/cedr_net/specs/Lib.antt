@@ -1,4 +1,3 @@
 pub mod Edges
 pub mod Flows
 pub mod Networks
-pub mod Fed

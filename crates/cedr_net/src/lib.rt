@@ -14,6 +14,3 @@ mod work;
 
 pub use law::network_runs;
 pub use net::{NetFault, SerialNet};
-
-#[cfg(test)]
-mod tests;

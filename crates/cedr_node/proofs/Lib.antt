@@ -4,6 +4,5 @@ pub mod Goes
 pub mod Echo
 pub mod First
 pub mod Takes
-pub mod FedLemmas
 pub mod LevelLemmas
 pub mod NodeLemmas

@@ -14,6 +14,3 @@ mod port;
 pub use fault::NodeFault;
 pub use law::{accepted_nodes, standing_nodes};
 pub use node::Node;
-
-#[cfg(test)]
-mod tests;

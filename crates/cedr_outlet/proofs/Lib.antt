@@ -2,4 +2,3 @@ pub mod FanLemmas
 pub mod OpenLemmas
 pub mod Pending
 pub mod RoundLemmas
-pub mod TestLemmas

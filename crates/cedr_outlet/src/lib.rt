@@ -13,6 +13,3 @@ pub use fan::Puts;
 pub use last::Last;
 pub use outlet::Outlet;
 pub use outlets::Outlets;
-
-#[cfg(test)]
-mod tests;

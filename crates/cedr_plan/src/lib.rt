@@ -32,8 +32,3 @@ pub use fault::{PlanFault, PlanKind};
 pub use law::{operator_words, plan_limit};
 pub use plan::{NodeKind, Plan, PlanNode};
 pub use reader::{PLAN_LIMIT, read_plan};
-
-#[cfg(test)]
-mod copy_tests;
-#[cfg(test)]
-mod tests;

@@ -14,8 +14,3 @@ mod query;
 pub use applying::{apply_all, apply_change};
 pub use law::plan_places;
 pub use query::{evaluate, find_output, reach};
-
-#[cfg(test)]
-mod history_tests;
-#[cfg(test)]
-mod tests;

@@ -32,12 +32,3 @@ mod top;
 pub use ending::Ending;
 pub use status::Status;
 pub use top::{run, run_alone};
-
-#[cfg(test)]
-mod check_tests;
-#[cfg(test)]
-mod plan_tests;
-#[cfg(test)]
-mod stream_tests;
-#[cfg(test)]
-mod tests;

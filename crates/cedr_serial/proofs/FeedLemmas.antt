@@ -13,7 +13,7 @@ use Rattle.cedr_net.specs.Networks.{AllGrow, IsSettled}
 use Rattle.cedr_laws.proofs.ListLemmas.{at_more_other, at_more}
 use Rattle.cedr_net.proofs.FlowLemmas.{same_or_not, beyond}
 use Rattle.cedr_net.proofs.SettleLemmas.{fewer, grow_along}
-use Rattle.cedr_net.proofs.FedLemmas.{source_here}
+use Rattle.cedr_net.proofs.PlaceLemmas.{source_here}
 use Rattle.cedr_stream.proofs.Legal.{may_come_in}
 use Rattle.op_node.specs.Ready.{is_source}
 use Rattle.cedr_serial.specs.Feeding.{AreFed, FeedsOn, behind_first, left_count}

@@ -5,7 +5,7 @@ use Rattle.cedr_base.specs.declared.change.Message.{Message}
 use Rattle.cedr_laws.specs.Lists.{Lists, list_at}
 use Rattle.cedr_plan.specs.declared.plan.PlanNode.{PlanNode}
 use Rattle.cedr_net.proofs.EdgeLemmas.{any_default}
-use Rattle.cedr_net.proofs.FedLemmas.{source_here}
+use Rattle.cedr_net.proofs.PlaceLemmas.{source_here}
 use Rattle.cedr_runs.specs.Runs.{sources_in, IsRun}
 use Rattle.op_node.specs.Ready.{is_source}
 use Rattle.cedr_net.specs.declared.net.SerialNet.{SerialNet}

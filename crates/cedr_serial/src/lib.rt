@@ -17,6 +17,3 @@ pub use feeding::{Remaining, feed_all, feed_round};
 pub use law::{accepted_sources, fed_sources, streamed_changes};
 pub use query::{answer_rows, answer_sources};
 pub use sources::{FaultySource, SourcesFault, read_sources};
-
-#[cfg(test)]
-mod tests;

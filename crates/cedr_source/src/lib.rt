@@ -17,8 +17,3 @@ pub use law::read_laws;
 pub use lines::{SourceLines, judge_line};
 pub use read::read_messages;
 pub use step::SourceStep;
-
-#[cfg(test)]
-mod limit_tests;
-#[cfg(test)]
-mod tests;

@@ -20,6 +20,3 @@ pub use marks::{least_mark, no_marks};
 pub use operator::Operator;
 pub use row_wise::RowWise;
 pub use table::Table;
-
-#[cfg(test)]
-mod tests;

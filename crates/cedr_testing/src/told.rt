@@ -64,21 +64,3 @@ pub fn tell(message: &Message) -> Told {
         Message::Broken => Told::Broken,
     }
 }
-
-/// What changes say, in their order.
-pub fn tell_changes(alloc: Global, changes: &[Change]) -> Result<Vec<Told>, OutOfMemory> {
-    let mut told = Vec::new(alloc);
-    for change in changes {
-        told.push(tell_change(change))?;
-    }
-    Ok(told)
-}
-
-/// What messages say, in their order.
-pub fn tell_messages(alloc: Global, messages: &[Message]) -> Result<Vec<Told>, OutOfMemory> {
-    let mut told = Vec::new(alloc);
-    for message in messages {
-        told.push(tell(message))?;
-    }
-    Ok(told)
-}

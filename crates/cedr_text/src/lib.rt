@@ -34,12 +34,3 @@ pub use quoting::quoting_rule;
 pub use read::{line_limit, read_line, read_text_line, reading_law};
 pub use text_row::{TextRow, sort_text_rows, write_text_rows};
 pub use write::{write_number, write_row, write_rows, write_time};
-
-#[cfg(test)]
-mod change_tests;
-#[cfg(test)]
-mod quoting_tests;
-#[cfg(test)]
-mod tests;
-#[cfg(test)]
-mod text_row_tests;

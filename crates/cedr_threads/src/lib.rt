@@ -23,6 +23,3 @@ pub use report::{Outcome, Report, SourceFault};
 pub use run::run_threads;
 pub use seat::Started;
 pub use watcher::Watcher;
-
-#[cfg(test)]
-mod tests;

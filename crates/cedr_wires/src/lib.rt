@@ -11,6 +11,3 @@ pub use closing::close_wires;
 pub use ends::{Putters, Takers};
 pub use law::closed_edges;
 pub use making::{Wires, new_wires};
-
-#[cfg(test)]
-mod tests;

@@ -1,5 +1,4 @@
 pub mod EndLemmas
-pub mod FedLemmas
 pub mod OutputLemmas
 pub mod OutputLists
 pub mod ReadingLemmas

@@ -28,12 +28,3 @@ pub use ran::Ran;
 pub use source::{NoSource, SourceEnd, SourceWorker};
 pub use stop::SourceStop;
 pub use turn::Turn;
-
-#[cfg(test)]
-mod chain_tests;
-#[cfg(test)]
-mod operator_tests;
-#[cfg(test)]
-mod output_tests;
-#[cfg(test)]
-mod source_tests;

@@ -16,12 +16,3 @@ mod segment;
 
 pub use group::Group;
 pub use law::{held_groups, open_groups};
-
-#[cfg(test)]
-mod history_tests;
-#[cfg(test)]
-mod operator_tests;
-#[cfg(test)]
-mod plain;
-#[cfg(test)]
-mod tests;

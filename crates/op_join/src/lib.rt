@@ -11,10 +11,3 @@ mod partners;
 mod spans;
 
 pub use join::Join;
-
-#[cfg(test)]
-mod fed_tests;
-#[cfg(test)]
-mod held_tests;
-#[cfg(test)]
-mod tests;

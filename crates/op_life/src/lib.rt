@@ -16,6 +16,3 @@ pub use law::multiples;
 pub use shift::Shift;
 pub use starts::Starts;
 pub use window::Window;
-
-#[cfg(test)]
-mod tests;

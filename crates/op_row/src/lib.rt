@@ -11,6 +11,3 @@ mod union;
 pub use project::Project;
 pub use select::Select;
 pub use union::{Union, hand_on};
-
-#[cfg(test)]
-mod tests;

@@ -7,10 +7,3 @@ mod pairs;
 mod sequence;
 
 pub use sequence::Sequence;
-
-#[cfg(test)]
-mod held_tests;
-#[cfg(test)]
-mod tests;
-#[cfg(test)]
-mod worked;

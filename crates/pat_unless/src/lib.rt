@@ -5,10 +5,3 @@ mod terms;
 mod unless;
 
 pub use unless::Unless;
-
-#[cfg(test)]
-mod held_tests;
-#[cfg(test)]
-mod tests;
-#[cfg(test)]
-mod worked;

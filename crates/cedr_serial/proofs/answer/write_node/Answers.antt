@@ -3,7 +3,7 @@ use Rattle.cedr_laws.specs.declared.forgotten.Forgotten.{Forgotten}
 use Rattle.cedr_laws.specs.Kept.{forgot}
 use Rattle.cedr_laws.specs.Lists.{list_at}
 use Rattle.cedr_plan.specs.declared.plan.PlanNode.{PlanNode}
-use Rattle.cedr_net.proofs.FedLemmas.{port_here}
+use Rattle.cedr_net.proofs.PlaceLemmas.{port_here}
 use Rattle.cedr_net.proofs.PortLemmas.{port_width}
 use Rattle.cedr_runs.specs.Runs.{lists_at}
 use Rattle.cedr_runs.specs.Without.{forgot_on}

@@ -1,0 +1,49 @@
+//! Writes values, each after a blank.
+
+use anyhow::Result;
+use cedr_base::{FOREVER, Field, Row, Time};
+use percent_encoding::{CONTROLS, PercentEncode, percent_encode};
+use std::fmt;
+
+/// A time as it is read.
+#[derive(Drop)]
+pub(crate) struct At(pub Time);
+
+impl fmt::Display for At {
+    fn fmt<W: fmt::Write>(&self, f: &mut fmt::Formatter<W>) -> fmt::Result {
+        if self.0 == FOREVER {
+            return f.write_str("inf");
+        }
+        write!(f, "{}", self.0)
+    }
+}
+
+/// Bytes as they are read, so that none of them ends a word.
+pub(crate) fn encoded(bytes: &[u8]) -> PercentEncode<'_> {
+    percent_encode(bytes, CONTROLS.add(b' ').add(b'%'))
+}
+
+/// Writes fields, texts in quotes.
+pub(crate) fn write_fields(rt: &impl Print, fields: &[Field]) -> Result<()> {
+    for field in fields {
+        match field {
+            Field::Number(number) => print!(rt; " {number}")?,
+            Field::Bytes(text) => print!(rt; " '{}'", encoded(text.bytes()))?,
+        }
+    }
+    Ok(())
+}
+
+pub(crate) fn write_row(rt: &impl Print, row: &Row) -> Result<()> {
+    print!(rt; " ({} {}", At(row.begin), At(row.end))?;
+    write_fields(rt, row.payload.fields())?;
+    print!(rt; ")")?;
+    Ok(())
+}
+
+pub(crate) fn write_rows(rt: &impl Print, rows: &[Row]) -> Result<()> {
+    for row in rows {
+        write_row(rt, row)?;
+    }
+    Ok(())
+}

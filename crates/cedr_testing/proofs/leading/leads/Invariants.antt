@@ -1,4 +1,0 @@
-use Rattle.cedr_testing.proofs.leading.leads.Given as goal
-
-abbrev pub invariant-loop-i : goal.invariant-loop-i
-invariant-loop-i g l = g.O.Operator.stands l.op l.tables.items l.marks.items

@@ -1,5 +1,0 @@
-use Rattle.std.proofs.Common.{◌≡◌}
-use Rattle.cedr_text.proofs.tests.take_lines.Given as goal
-
-abbrev pub invariant-loop : goal.invariant-loop
-invariant-loop l = l.lines.finished ≡ l.fn.lines.finished

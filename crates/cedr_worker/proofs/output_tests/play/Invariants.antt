@@ -1,6 +1,0 @@
-use Rattle.cedr_testing.specs.Came.{StandsFor}
-use Rattle.cedr_worker.specs.OutputTurns.{OutputWorks}
-use Rattle.cedr_worker.proofs.output_tests.play.Given as goal
-
-abbrev pub invariant-loop-i : goal.invariant-loop-i
-invariant-loop-i g l = OutputWorks l.made.worker × StandsFor l.made.one.came l.made.one.out.sent

@@ -1,0 +1,5 @@
+use Rattle.std.proofs.Common.{◌≡◌, false}
+use Rattle.format_cases.proofs.lines.cut.Given as goal
+
+abbrev pub invariant-loop-piece : goal.invariant-loop-piece
+invariant-loop-piece g l = l.lines.finished ≡ false

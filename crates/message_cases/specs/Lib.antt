@@ -1,0 +1,2 @@
+pub mod FedNodes
+pub mod FedNets

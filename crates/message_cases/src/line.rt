@@ -1,0 +1,105 @@
+ghost use Rattle.std.specs.Prelude.{◌≡◌, ◌≤◌, true, IfOk};
+ghost use Rattle.cedr_base.specs.Rows.{IsRow};
+ghost use Rattle.cedr_base.specs.declared.time.TheConstants.{FOREVER};
+ghost use Rattle.cedr_laws.specs.Pass.{IsLevel};
+
+use anyhow::{Result, bail};
+use cedr_base::{FOREVER, Field, Level, OutOfMemory, Payload, Row, Text, Time};
+use cedr_testing::{MIDDLE, STRONG, Told};
+use std::alloc::Global;
+
+/// A time, which may be `inf`.
+pub(crate) fn time(word: &str) -> Result<Time>
+    ensures { IfOk result (λ time. time ≤ FOREVER) }
+{
+    if word == "inf" {
+        return Ok(FOREVER);
+    }
+    let time = word.parse::<u64>()?;
+    if time > FOREVER {
+        bail!("no such time: {word}");
+    }
+    Ok(time)
+}
+
+/// A block or a memory, which may be `inf`: then it is without limit.
+fn bound(word: &str) -> Result<Option<u64>> {
+    if word == "inf" {
+        return Ok(None);
+    }
+    Ok(Some(word.parse::<u64>()?))
+}
+
+/// Whether the block isn't over the memory.
+fn is_level(level: Level) -> bool
+    ensures { result ≡ true → IsLevel level }
+{
+    match (level.block, level.memory) {
+        (_, None) => true,
+        (None, Some(_)) => false,
+        (Some(block), Some(memory)) => block <= memory,
+    }
+}
+
+/// A port's level: `strong`, `middle`, or `block BOUND memory BOUND`.
+pub(crate) fn level(words: &[&str]) -> Result<Level>
+    ensures { IfOk result IsLevel }
+{
+    let level = match words {
+        ["strong"] => STRONG,
+        ["middle"] => MIDDLE,
+        ["block", block, "memory", memory] => Level {
+            block: bound(block)?,
+            memory: bound(memory)?,
+        },
+        _ => bail!("no such level"),
+    };
+    if !is_level(level) {
+        bail!("the block is over the memory");
+    }
+    Ok(level)
+}
+
+/// An addition of a row of one number.
+fn addition(number: &str, begin: &str, end: &str) -> Result<Told> {
+    Ok(Told::Add(number.parse::<i128>()?, time(begin)?, time(end)?))
+}
+
+/// A retraction of a row that was added.
+fn retraction(added: Told, to: &str) -> Result<Told> {
+    match added {
+        Told::Add(number, begin, end) => Ok(Told::Cut(number, begin, end, time(to)?)),
+        _ => bail!("only a row is retracted"),
+    }
+}
+
+/// A message: `+ NUMBER BEGIN END`, `- NUMBER BEGIN END TO`, `= MARK`, `end` or `broken`.
+pub(crate) fn message(words: &[&str]) -> Result<Told> {
+    match words {
+        ["+", number, begin, end] => addition(number, begin, end),
+        ["-", number, begin, end, to] => retraction(addition(number, begin, end)?, to),
+        ["=", mark] => Ok(Told::Mark(time(mark)?)),
+        ["end"] => Ok(Told::End),
+        ["broken"] => Ok(Told::Broken),
+        _ => bail!("no such message"),
+    }
+}
+
+/// A field: a number where the word is one, else a text.
+fn field(alloc: Global, word: &str) -> Result<Field, OutOfMemory> {
+    match word.parse::<i128>() {
+        Ok(number) => Ok(Field::Number(number)),
+        Err(_) => Ok(Field::Bytes(Text::from_slice(alloc, word.as_bytes())?)),
+    }
+}
+
+/// A row with these fields.
+pub(crate) fn row(alloc: Global, begin: &str, end: &str, fields: &[&str]) -> Result<Row>
+    ensures { IfOk result IsRow }
+{
+    let mut payload = Payload::new(alloc);
+    for word in fields {
+        payload.push(field(alloc, word)?)?;
+    }
+    Ok(Row::new(time(begin)?, time(end)?, payload)?)
+}

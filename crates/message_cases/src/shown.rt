@@ -1,0 +1,102 @@
+use anyhow::Result;
+use cedr_base::{Change, FOREVER, Field, Message, Row, Time};
+use cedr_laws::{Cause, Forgotten};
+use cedr_testing::{Told, tell, tell_change};
+use std::fmt;
+
+/// A time as lines have it: `inf` where it is `FOREVER`.
+#[derive(Clone, Copy)]
+pub(crate) struct Moment(pub(crate) Time);
+
+impl fmt::Display for Moment {
+    fn fmt<W: fmt::Write>(&self, f: &mut fmt::Formatter<W>) -> fmt::Result {
+        if self.0 == FOREVER {
+            return write!(f, "inf");
+        }
+        write!(f, "{}", self.0)
+    }
+}
+
+/// A message as lines have it.
+#[derive(Clone, Copy)]
+struct Words(Told);
+
+impl fmt::Display for Words {
+    fn fmt<W: fmt::Write>(&self, f: &mut fmt::Formatter<W>) -> fmt::Result {
+        match self.0 {
+            Told::Add(number, begin, end) => write!(f, "+ {number} {begin} {}", Moment(end)),
+            Told::Cut(number, begin, end, to) => {
+                write!(f, "- {number} {begin} {} {to}", Moment(end))
+            }
+            Told::Mark(time) => write!(f, "= {}", Moment(time)),
+            Told::End => write!(f, "end"),
+            Told::Broken => write!(f, "broken"),
+        }
+    }
+}
+
+/// A row as lines have it: its begin, its end and its fields.
+#[derive(Clone, Copy)]
+struct Valid<'a>(&'a Row);
+
+impl fmt::Display for Valid<'_> {
+    fn fmt<W: fmt::Write>(&self, f: &mut fmt::Formatter<W>) -> fmt::Result {
+        write!(f, "{} {}", self.0.begin, Moment(self.0.end))?;
+        for field in self.0.payload.fields() {
+            write_field(f, field)?;
+        }
+        Ok(())
+    }
+}
+
+/// A field behind a blank. A text that isn't UTF-8 is refused, since no line could bring it.
+fn write_field<W: fmt::Write>(f: &mut fmt::Formatter<W>, field: &Field) -> fmt::Result {
+    match field {
+        Field::Number(number) => write!(f, " {number}"),
+        Field::Bytes(text) => match std::str::from_utf8(text.bytes()) {
+            Ok(text) => write!(f, " {text}"),
+            Err(_) => Err(fmt::Error),
+        },
+    }
+}
+
+/// Writes messages, each in a line.
+pub(crate) fn write_messages(rt: &impl Print, messages: &[Message]) -> Result<()> {
+    for message in messages {
+        println!(rt; "  {}", Words(tell(message)))?;
+    }
+    Ok(())
+}
+
+/// Writes changes, each in a line.
+pub(crate) fn write_changes(rt: &impl Print, changes: &[Change]) -> Result<()> {
+    for change in changes {
+        println!(rt; "  {}", Words(tell_change(change)))?;
+    }
+    Ok(())
+}
+
+/// Writes rows, each in a line.
+pub(crate) fn write_rows(rt: &impl Print, rows: &[Row]) -> Result<()> {
+    for row in rows {
+        println!(rt; "  {}", Valid(row))?;
+    }
+    Ok(())
+}
+
+/// Why a change was forgotten, as lines have it.
+pub(crate) fn word_of(cause: Cause) -> &'static str {
+    match cause {
+        Cause::Late => "late",
+        Cause::Orphan => "orphan",
+    }
+}
+
+/// Writes what was forgotten, each change in a line, with the cause and the greatest time before it.
+pub(crate) fn write_forgotten(rt: &impl Print, forgotten: &[Forgotten]) -> Result<()> {
+    for one in forgotten {
+        let change = Words(tell_change(&one.change));
+        println!(rt; "  {change}: {} {}", word_of(one.cause), Moment(one.high))?;
+    }
+    Ok(())
+}

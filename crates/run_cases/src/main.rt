@@ -1,0 +1,106 @@
+//! Worked cases of the program's commands, over files and streams in memory. The cases are text: what a command finds, and
+//! then its words. What each leads to is written, and the file stdout says what that must be.
+//!
+//! Each line of the input is written again, unless it is of a file's bytes:
+//!
+//! - `case TITLE`: a new case. Of the files so far it has those that stand before the first case.
+//! - `file NAME`: a file, in place of any that had this name. The lines behind it are its bytes:
+//!   - `|TEXT`: this text and a line feed,
+//!   - `=TEXT`: what this text spells, and no line feed,
+//!   - `*COUNT TEXT`: the one byte that this text spells, as often as makes the file COUNT bytes long.
+//! - `pieces read COUNT`: a read of a file gives at most so many bytes. `pieces out COUNT`, `pieces err COUNT`: a write to
+//!   the output, or to the error stream, takes at most so many.
+//! - `refuse find CALL`: of the searches for a file the one of this number, from 1 on, is refused. `refuse read NAME CALL`: of
+//!   the reads of a file. `refuse out CALL`, `refuse err CALL`: of the writes to the output, or to the error stream.
+//! - `front TEXT`: how much is written to the output depends on the schedule. It is some front of what this text spells.
+//! - `run WORD ..`: the top call carries out the words that these spell. Its exit status is written, the files that it asked
+//!   for, and what it wrote to the output and to the error stream, with the escapes of a byte string; of over 1,000 bytes only
+//!   how many there are.
+//! - `alone WORD ..`: the same by the call that starts no thread.
+//! - `edges WORD ..`: as `run`, and then how many edges and workers there were, and whether each worker took and put what its
+//!   edges carried. The nodes of the plan are a chain.
+//! - `source NAME COUNT`: the lines of the source `a` or `b` of the workload of so many events a source.
+//! - `workload`: the plan of the workload: what `check` says of it, how many messages an edge holds, and each node.
+//! - `plan NAME`: the same of the plan that this file describes.
+//! - `summary BEGIN-END ..`: the summary of rows that are valid so long.
+//!
+//! Pieces, refusals and a front are those of the next `run`, `alone` or `edges` only. An empty line says nothing.
+//!
+//! Where a text spells, `\n` stands for a line feed, `\r` for a carriage return, `\s` for a space, `\\` for a backslash, `\e`
+//! for nothing and `\x` with two digits for the byte of this hexadecimal number.
+#![tactic(auto)]
+
+mod case;
+mod made;
+mod outside;
+mod play;
+mod spelling;
+mod telling;
+
+use anyhow::{Result, bail};
+use case::Case;
+use made::{tell_made_plan, tell_read_plan, tell_source, tell_summary};
+use play::{play_alone, play_on_threads};
+use std::alloc::Global;
+use std::sync::Wait;
+use std::thread::Threads;
+use std::time::Clock;
+use telling::{tell, tell_edges};
+
+fn main(rt: HostRuntime) -> Result<()> {
+    let alloc = rt.alloc();
+    let mut case = Case::new(alloc);
+    for line in rt.lines(alloc) {
+        let line = line?;
+        step(rt, alloc, &mut case, line.as_str())?;
+    }
+    Ok(())
+}
+
+/// Does what a line says.
+fn step<R: Threads + Wait + Clock + Print + Copy + Drop + Send + 'static>(
+    rt: R,
+    alloc: Global,
+    case: &mut Case,
+    line: &str,
+) -> Result<()> {
+    if case.takes_bytes(line)? {
+        return Ok(());
+    }
+    println!(rt; "{line}")?;
+    let words: Vec<&str> = line.split_whitespace().collect(alloc)?;
+    if case.is_arranged(words.as_slice())? {
+        return Ok(());
+    }
+    carry_out(rt, alloc, case, words.as_slice())
+}
+
+/// Carries out a command, and writes what it led to.
+fn carry_out<R: Threads + Wait + Clock + Print + Copy + Drop + Send + 'static>(
+    rt: R,
+    alloc: Global,
+    case: &mut Case,
+    words: &[&str],
+) -> Result<()> {
+    match words {
+        ["run", words @ ..] => tell(&rt, &play_on_threads(rt, alloc, case, words)?),
+        ["edges", words @ ..] => {
+            let played = play_on_threads(rt, alloc, case, words)?;
+            tell(&rt, &played)?;
+            tell_edges(&rt, &played.ending)
+        }
+        ["alone", words @ ..] => tell(&rt, &play_alone(alloc, case, words)?),
+        _ => show(&rt, alloc, case, words),
+    }
+}
+
+/// Writes of the workload what is asked for, or a plan.
+fn show(rt: &impl Print, alloc: Global, case: &Case, words: &[&str]) -> Result<()> {
+    match words {
+        ["source", name, count] => tell_source(rt, alloc, name, count),
+        ["workload"] => tell_made_plan(rt, alloc),
+        ["plan", name] => tell_read_plan(rt, alloc, case.bytes_of(name)?),
+        ["summary", spans @ ..] => tell_summary(rt, alloc, spans),
+        _ => bail!("no such line: {words:?}"),
+    }
+}

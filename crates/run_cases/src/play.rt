@@ -1,0 +1,86 @@
+ghost use Rattle.std.specs.Prelude.{◌≡◌, true, map};
+ghost use Rattle.std.specs.String.{string_bytes};
+ghost use Rattle.cedr_run.specs.Commands.{IsAlone};
+
+use crate::case::Case;
+use crate::outside::Outside;
+use crate::spelling::spelled_words;
+use anyhow::{Result, bail};
+use cedr_io::{MemFiles, MemSink, OpenGate};
+use cedr_run::{Ending, run, run_alone};
+use std::alloc::Global;
+use std::sync::{Arc, Wait};
+use std::thread::Threads;
+use std::time::Clock;
+
+/// How a command ended, and what it left outside.
+#[derive(Drop)]
+pub(crate) struct Played {
+    pub(crate) ending: Ending,
+    pub(crate) files: MemFiles,
+    pub(crate) out: MemSink,
+    pub(crate) err: MemSink,
+    pub(crate) longest: Option<Vec<u8>>,
+}
+
+/// Carries out the words by the top call.
+pub(crate) fn play_on_threads<R: Threads + Wait + Clock + Copy + Drop + Send + 'static>(
+    rt: R,
+    alloc: Global,
+    case: &mut Case,
+    words: &[&str],
+) -> Result<Played> {
+    let words = spelled_words(alloc, words)?;
+    let gate = Arc::new(alloc, OpenGate)?;
+    let Outside {
+        mut files,
+        mut out,
+        mut err,
+        longest,
+    } = case.prepared()?;
+    let ending = run(rt, alloc, &words, &mut files, &mut out, &mut err, &gate);
+    Ok(Played {
+        ending,
+        files,
+        out,
+        err,
+        longest,
+    })
+}
+
+/// Carries out the words by the call that starts no thread.
+pub(crate) fn play_alone(alloc: Global, case: &mut Case, words: &[&str]) -> Result<Played> {
+    let words = spelled_words(alloc, words)?;
+    if !is_alone(&words) {
+        bail!("a command on threads");
+    }
+    let Outside {
+        mut files,
+        mut out,
+        mut err,
+        longest,
+    } = case.prepared()?;
+    let status = run_alone(alloc, &words, &mut files, &mut out, &mut err);
+    let ending = Ending {
+        status,
+        edges: Vec::new(alloc),
+        ran: Vec::new(alloc),
+    };
+    Ok(Played {
+        ending,
+        files,
+        out,
+        err,
+        longest,
+    })
+}
+
+/// Whether the words match neither `run PLAN` nor `stream PLAN`.
+fn is_alone(words: &[String]) -> bool
+    ensures { result ≡ true → IsAlone (map string_bytes words.now) }
+{
+    match words {
+        [command, _] => command.as_str() != "run" && command.as_str() != "stream",
+        _ => true,
+    }
+}

@@ -1,0 +1,59 @@
+//! The command `stream`, whose workers pass a gate.
+ghost use Rattle.std.specs.Prelude.{◌≡◌, IfOk};
+
+use crate::gate::Holding;
+use crate::runs::{MIDDLE, SIX};
+use cedr_base::OutOfMemory;
+use cedr_io::{Files, MemFiles, MemSink, OutsideFault, Sink};
+use cedr_run::{Status, run};
+use std::alloc::Global;
+use std::sync::Arc;
+use std::sync::atomic::{AtomicU64, Ordering};
+use std::test::Fail;
+
+/// Takes all, and sets a flag once it was given some.
+#[derive(Drop)]
+struct Telling {
+    some: Arc<AtomicU64, Global>,
+}
+
+impl Sink for Telling {
+    ghost use Rattle.std.specs.Prelude.{None};
+
+    ghost written = { λ _. None };
+
+    ghost faults = { λ _. 0 };
+
+    fn write(&mut self, piece: &[u8]) -> Result<usize, OutsideFault> {
+        self.some.store(1, Ordering::SeqCst);
+        Ok(piece.len())
+    }
+}
+
+/// A plan and its events.
+fn files(alloc: Global) -> Result<MemFiles, OutOfMemory>
+    ensures { IfOk result (λ files. ⟦<MemFiles as Files>⟧.faults files ≡ 0) }
+{
+    let mut files = MemFiles::new(alloc);
+    files.set_piece(8);
+    files.add("p.json", MIDDLE.as_bytes())?;
+    files.add("s.csv", SIX.as_bytes())?;
+    Ok(files)
+}
+
+#[test]
+fn a_stream_writes_before_its_source_ended(rt: HostRuntime) -> Result<(), Fail> {
+    let alloc = rt.alloc();
+    let mut files = files(alloc)?;
+    let some = Arc::new(alloc, AtomicU64::new(0))?;
+    let gate = Holding::until(alloc, 9, &some)?;
+    let mut out = Telling { some };
+    let mut err = MemSink::new(alloc);
+    let words = vec![in alloc;
+        String::from_str(alloc, "stream")?,
+        String::from_str(alloc, "p.json")?,
+    ]?;
+    let status = run(rt, alloc, &words, &mut files, &mut out, &mut err, &gate).status;
+    assert!(rt; status == Status::Done && gate.held());
+    Ok(())
+}
