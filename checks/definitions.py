@@ -3,8 +3,8 @@
 
 Each of these is named below its crate's heading, in the table or, where private contracts alone cite it, in the text
 behind the table, which may name its whole file instead; and what the first column of a table names is one of them, or a
-public type of the crate. Definitions stand apart from lemmas: a file whose name ends in Laws defines at most what has its own
-name, and no other file states a lemma.
+public type of the crate. A name stands for one definition in all of the repository. Definitions stand apart from lemmas:
+a file whose name ends in Laws defines at most what has its own name, and no other file states a lemma.
 
 usage: python3 checks/definitions.py
 """
@@ -32,6 +32,16 @@ def mixed(file: Path, found: list):
         yield from (f"{file}: {name} is a lemma" for name in LEMMA.findall(file.read_text()))
 
 
+def doubled(crates: dict):
+    """The names that stand for more than one definition."""
+    places = {}
+    for crate, files in crates.items():
+        for file, found in files.items():
+            for name in found:
+                places.setdefault(name, []).append(f"{crate}/specs/{file}.antt")
+    yield from (f"{name} is defined in {' and in '.join(at)}" for name, at in sorted(places.items()) if len(at) > 1)
+
+
 def types(crate: Path) -> set:
     return {name for file in crate.glob("src/*.rt") for name in TYPE.findall(file.read_text())}
 
@@ -57,6 +67,7 @@ def differences(root: Path):
         there = {name for found in files.values() for name in found} | types(root / "crates" / crate)
         first = [name for row in rows for name in QUOTED.findall(row.split("|")[1])]
         yield from (f"{crate}: {name} is no public definition" for name in first if name not in there)
+    yield from doubled(crates)
     yield from (f"there is no crate {crate}" for crate in told if crate not in crates)
 
 

@@ -4,4 +4,4 @@
 # usage: run.sh [PART of a test's name]
 here=$(dirname "$0")
 exec bash "$here/../in_copy.sh" "$here/worker_time" \
-  "cedr_base cedr_drive cedr_edge cedr_io cedr_laws cedr_node cedr_plan cedr_source cedr_stream cedr_text cedr_worker op_node" "$@"
+  "cedr_base op_driver cedr_edge cedr_io node_laws cedr_node cedr_plan cedr_source change_laws cedr_text cedr_worker op_node" "$@"

@@ -10,27 +10,27 @@ use Rattle.cedr_base.specs.Rows.{count_of, SameRows}
 use Rattle.cedr_base.specs.Changes.{sync_of, all_puts, all_takes}
 use Rattle.cedr_base.specs.Messages.{mark_of, IsOpen, MayCome, IsLegal}
 use Rattle.cedr_base.proofs.Bags.{count_of-append}
-use Rattle.cedr_stream.proofs.Legal.{legal-push, mark-append}
+use Rattle.change_laws.proofs.Legal.{legal-push, mark-append}
 use Rattle.cedr_base.specs.declared.level.Level.{Level}
-use Rattle.cedr_laws.specs.declared.forgotten.Cause.{Cause}
-use Rattle.cedr_laws.specs.Kept.{high_of, cause_of, kept, forgotten_alone, forgotten_of}
-use Rattle.cedr_laws.specs.Pass.{has_end, is_held, holds, held, passed_table, front, front_at, itself, gained, additions, closing, answer, passed_of}
-use Rattle.cedr_stream.specs.Repairs.{wrapped}
-use Rattle.cedr_laws.specs.Lists.{mark_above}
+use Rattle.node_laws.specs.declared.forgotten.Cause.{Cause}
+use Rattle.node_laws.specs.Kept.{high_of, cause_of, kept, forgotten_alone, forgotten_of}
+use Rattle.node_laws.specs.Pass.{has_end, is_held, holds, held, passed_table, front, front_at, itself, gained, additions, closing, answer, passed_of}
+use Rattle.change_laws.specs.Repairs.{wrapped}
+use Rattle.node_laws.specs.Lists.{mark_above}
 use Rattle.cedr_table.proofs.FilterLemmas.{count-filter, count-rest}
-use Rattle.cedr_laws.proofs.Order.{one_order}
-use Rattle.cedr_laws.proofs.Grows.{end-append, end-pushed, high-append}
-use Rattle.cedr_laws.proofs.Holds.{open_is, front-same}
-use Rattle.cedr_laws.proofs.Splits.{split}
-use Rattle.cedr_laws.proofs.Steps.{other, candidates, rest, held_after, passed_after, gained_count}
-use Rattle.cedr_laws.proofs.Strong.{gained_ascends}
-use Rattle.cedr_laws.proofs.Passes.{passes, broken_held, broken_passed}
-use Rattle.cedr_stream.proofs.BagSums.{same_itself, same_along}
+use Rattle.node_laws.proofs.Order.{one_order}
+use Rattle.node_laws.proofs.Grows.{end-append, end-pushed, high-append}
+use Rattle.node_laws.proofs.Holds.{open_is, front-same}
+use Rattle.node_laws.proofs.Splits.{split}
+use Rattle.node_laws.proofs.Steps.{other, candidates, rest, held_after, passed_after, gained_count}
+use Rattle.node_laws.proofs.Strong.{gained_ascends}
+use Rattle.node_laws.proofs.Passes.{passes, broken_held, broken_passed}
+use Rattle.change_laws.proofs.BagSums.{same_itself, same_along}
 use Rattle.cedr_align.specs.Remembered.{is_remembered, remembers, remembered}
 use Rattle.cedr_align.specs.Released.{IsSettled, AreApplied, cause_at, own_of, other_of}
 use Rattle.cedr_align.specs.declared.aligner.Aligner.{Aligner}
 use Rattle.cedr_align.specs.declared.fate.Fate.{Fate}
-use Rattle.cedr_align.specs.Aligner.{Aligns, IsTaken, listed}
+use Rattle.cedr_align.specs.Aligner.{Aligns, IsTaken, forgotten_in}
 use Rattle.cedr_align.proofs.RememberedLemmas.{remembers_before, count-remembered, all_remembered, none_applied, applied_there}
 use Rattle.cedr_align.proofs.CauseLemmas.{cause_is, own_is, when_kept}
 
@@ -116,7 +116,7 @@ module _ (level : Level) (ms : List Message) (m : Message) (may : MayCome ms m) 
       ∙ (append_assoc out0 (w ++ (a ++ k)) (closing m) ∙ ap (λ (xs : List Message). out0 ++ xs) (append_assoc w (a ++ k) (closing m) ∙ ap (λ (xs : List Message). w ++ xs) (append_assoc a k (closing m)))))
 
   pub aligned : (a a' : Aligner) (fate : Fate) (out3 : List Message) → a.level ≡ level → a'.level ≡ level → a'.mark ≡ mark → a'.high ≡ high → a'.ended ≡ ended → a'.held ≡ held2 → a'.passed ≡ passed2
-      → passed_of level ms m ≡ answer level ms m → out3 ≡ out2 ++ closing m → listed fate ≡ forgotten_of level.memory ms m → IsTaken a a' ms m out0 out3 fate
+      → passed_of level ms m ≡ answer level ms m → out3 ≡ out2 ++ closing m → forgotten_in fate ≡ forgotten_of level.memory ms m → IsTaken a a' ms m out0 out3 fate
   aligned a a' fate out3 level_is level_now mark_now high_now ended_now held_now_is passed_now_is is closes fates = record {
     aligns = record {
       legal = legal-push ms m legal may;
@@ -127,7 +127,7 @@ module _ (level : Level) (ms : List Message) (m : Message) (may : MayCome ms m) 
       passed_are = subst (λ (v : Level). SameRows a'.passed (remembered v (ms ++ m ∷ []))) (sym level_now) (subst (λ (rows : List Row). SameRows rows (remembered level (ms ++ m ∷ []))) (sym passed_now_is) passed_now);
     };
     passed_on = subst (λ (v : Level). out3 ≡ out0 ++ passed_of v ms m) (sym level_is) (answered out3 closes ∙ ap (λ (xs : List Message). out0 ++ xs) (sym is));
-    fate_is = subst (λ (v : Level). listed fate ≡ forgotten_of v.memory ms m) (sym level_is) fates;
+    fate_is = subst (λ (v : Level). forgotten_in fate ≡ forgotten_of v.memory ms m) (sym level_is) fates;
     same_level = level_now ∙ sym level_is;
   }
 
@@ -143,7 +143,7 @@ pub changed : (a a' : Aligner) (ms : List Message) (c : Change) (cz : Option Cau
     → AreApplied a.level.memory (when_kept cz (own_of a.held c)) a.passed passed1
     → out1 ≡ out0 ++ wrapped (when_kept cz (own_of a.held c))
     → IsSettled (is_held a.level.block a.ended a.mark high) (is_remembered a.level.memory a.ended a.mark high) a.ended a.mark before held1 passed1 out1 a'.held a'.passed out2
-    → a'.level ≡ a.level → a'.mark ≡ a.mark → a'.ended ≡ a.ended → a'.high ≡ high → high ≡ max a.high (sync_of c) → listed fate ≡ forgotten_alone cz a.high c
+    → a'.level ≡ a.level → a'.mark ≡ a.mark → a'.ended ≡ a.ended → a'.high ≡ high → high ≡ max a.high (sync_of c) → forgotten_in fate ≡ forgotten_alone cz a.high c
     → IsTaken a a' ms (message.Change c) out0 out2 fate
 changed a a' ms c cz fate before high held1 passed1 out0 out1 out2 al may before_is cause_found held_moved passed_moved out_is settled level_now mark_now ended_now high_now high_is fates =
     let m = message.Change c in
@@ -167,7 +167,7 @@ pub other_came : (a a' : Aligner) (ms : List Message) (m : Message) (fate : Fate
     → itself a.level ms m ≡ [] → other a.level ms m ≡ []
     → IsSettled (is_held a.level.block ended mark high) (is_remembered a.level.memory ended mark high) ended mark before a.held a.passed out0 a'.held a'.passed out2
     → a'.level ≡ a.level → a'.mark ≡ mark → a'.high ≡ high → a'.ended ≡ ended → mark ≡ mark_of (ms ++ m ∷ []) → high ≡ high_of (ms ++ m ∷ []) → ended ≡ has_end (ms ++ m ∷ [])
-    → passed_of a.level ms m ≡ answer a.level ms m → out3 ≡ out2 ++ closing m → listed fate ≡ forgotten_of a.level.memory ms m
+    → passed_of a.level ms m ≡ answer a.level ms m → out3 ≡ out2 ++ closing m → forgotten_in fate ≡ forgotten_of a.level.memory ms m
     → IsTaken a a' ms m out0 out3 fate
 other_came a a' ms m fate before mark high ended out0 out2 out3 al may before_is no_own no_other settled level_now mark_now high_now ended_now mark_is high_is ended_is is closes fates =
     aligned a.level ms m may al.legal a.held a.passed a.held a.passed a'.held a'.passed out0 out0 out2 ended mark high before
@@ -193,7 +193,7 @@ broken_remembered a ms opened = let f = broken_passed a.level ms opened in recor
 }
 
 -- a break is passed on alone, and leaves the aligner as it is
-pub broke : (a : Aligner) (ms : List Message) (out0 out3 : List Message) (fate : Fate) → Aligns a ms → MayCome ms message.Broken → out3 ≡ out0 ++ message.Broken ∷ [] → listed fate ≡ [] → IsTaken a a ms message.Broken out0 out3 fate
+pub broke : (a : Aligner) (ms : List Message) (out0 out3 : List Message) (fate : Fate) → Aligns a ms → MayCome ms message.Broken → out3 ≡ out0 ++ message.Broken ∷ [] → forgotten_in fate ≡ [] → IsTaken a a ms message.Broken out0 out3 fate
 broke a ms out0 out3 fate al may out_is fates = record {
   aligns = record {
     legal = legal-push ms message.Broken al.legal may;
@@ -212,7 +212,7 @@ broke a ms out0 out3 fate al may out_is fates = record {
 pub mark_came : (a a' : Aligner) (ms : List Message) (m : Message) (t high : ℕ) (fate : Fate) (before : ℕ) (out0 out2 : List Message)
     → Aligns a ms → MayCome ms m → m ≡ message.Mark t → before ≡ front_at a.ended a.mark a.held
     → IsSettled (is_held a.level.block a.ended t high) (is_remembered a.level.memory a.ended t high) a.ended t before a.held a.passed out0 a'.held a'.passed out2
-    → a'.level ≡ a.level → a'.mark ≡ t → a'.high ≡ high → a'.ended ≡ a.ended → high ≡ max a.high t → listed fate ≡ [] → IsTaken a a' ms m out0 out2 fate
+    → a'.level ≡ a.level → a'.mark ≡ t → a'.high ≡ high → a'.ended ≡ a.ended → high ≡ max a.high t → forgotten_in fate ≡ [] → IsTaken a a' ms m out0 out2 fate
 mark_came a a' ms m t high fate before out0 out2 al may0 is before_is settled level_now mark_now high_now ended_now high_is fates =
     let may : MayCome ms (message.Mark t) = subst (λ (x : Message). MayCome ms x) is may0 in
     let above = may.1.0 in
@@ -227,7 +227,7 @@ mark_came a a' ms m t high fate before out0 out2 al may0 is before_is settled le
 pub end_came : (a a' : Aligner) (ms : List Message) (m : Message) (fate : Fate) (before : ℕ) (out0 out2 out3 : List Message)
     → Aligns a ms → MayCome ms m → m ≡ message.End → before ≡ front_at a.ended a.mark a.held
     → IsSettled (is_held a.level.block true a.mark a.high) (is_remembered a.level.memory true a.mark a.high) true a.mark before a.held a.passed out0 a'.held a'.passed out2
-    → a'.level ≡ a.level → a'.mark ≡ a.mark → a'.high ≡ a.high → a'.ended ≡ true → out3 ≡ out2 ++ message.End ∷ [] → listed fate ≡ [] → IsTaken a a' ms m out0 out3 fate
+    → a'.level ≡ a.level → a'.mark ≡ a.mark → a'.high ≡ a.high → a'.ended ≡ true → out3 ≡ out2 ++ message.End ∷ [] → forgotten_in fate ≡ [] → IsTaken a a' ms m out0 out3 fate
 end_came a a' ms m fate before out0 out2 out3 al may0 is before_is settled level_now mark_now high_now ended_now closes fates =
     let may : MayCome ms message.End = subst (λ (x : Message). MayCome ms x) is may0 in
     let ma = al.mark_is in
@@ -238,6 +238,6 @@ end_came a a' ms m fate before out0 out2 out3 al may0 is before_is settled level
     (sym (end-pushed ms)) refl closes fates)
 
 -- what a break does, as the code has it
-pub broken_came : (a : Aligner) (ms : List Message) (m : Message) (fate : Fate) (out0 out3 : List Message) → Aligns a ms → MayCome ms m → m ≡ message.Broken → out3 ≡ out0 ++ message.Broken ∷ [] → listed fate ≡ [] → IsTaken a a ms m out0 out3 fate
+pub broken_came : (a : Aligner) (ms : List Message) (m : Message) (fate : Fate) (out0 out3 : List Message) → Aligns a ms → MayCome ms m → m ≡ message.Broken → out3 ≡ out0 ++ message.Broken ∷ [] → forgotten_in fate ≡ [] → IsTaken a a ms m out0 out3 fate
 broken_came a ms m fate out0 out3 al may is out_is fates =
     subst (λ (x : Message). IsTaken a a ms x out0 out3 fate) (sym is) (broke a ms out0 out3 fate al (subst (λ (x : Message). MayCome ms x) is may) out_is fates)

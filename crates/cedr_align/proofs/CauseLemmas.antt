@@ -13,14 +13,14 @@ use Rattle.cedr_base.specs.declared.change.Message.TheVariants as message
 use Rattle.cedr_base.specs.Rows.{count_of, SameRows}
 use Rattle.cedr_base.specs.Messages.{MayCome, IsLegal}
 use Rattle.cedr_base.specs.declared.level.Level.{Level}
-use Rattle.cedr_laws.specs.declared.forgotten.Cause.{Cause}
-use Rattle.cedr_laws.specs.declared.forgotten.Cause.TheVariants.{Late, Orphan}
-use Rattle.cedr_laws.specs.Kept.{high_of, is_late, is_orphan, cause_of, kept_alone, kept, kept_table}
-use Rattle.cedr_laws.specs.Pass.{holds, held, itself, cuts_passed}
-use Rattle.cedr_laws.proofs.Holds.{count-held}
-use Rattle.cedr_laws.proofs.Splits.{cuts_held}
-use Rattle.cedr_laws.proofs.Steps.{other, count-both}
-use Rattle.cedr_laws.proofs.Recent.{no_orphan}
+use Rattle.node_laws.specs.declared.forgotten.Cause.{Cause}
+use Rattle.node_laws.specs.declared.forgotten.Cause.TheVariants.{Late, Orphan}
+use Rattle.node_laws.specs.Kept.{high_of, is_late, is_orphan, cause_of, kept_alone, kept, kept_table}
+use Rattle.node_laws.specs.Pass.{holds, held, itself, cuts_passed}
+use Rattle.node_laws.proofs.Holds.{count-held}
+use Rattle.node_laws.proofs.Splits.{cuts_held}
+use Rattle.node_laws.proofs.Steps.{other, count-both}
+use Rattle.node_laws.proofs.Recent.{no_orphan}
 use Rattle.cedr_align.specs.Remembered.{remembered}
 use Rattle.cedr_align.specs.Released.{is_missing, cause_at, own_of, other_of}
 use Rattle.cedr_align.proofs.RememberedLemmas.{named, all_remembered}

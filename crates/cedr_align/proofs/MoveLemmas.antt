@@ -5,12 +5,12 @@ use Rattle.std.proofs.lemmas.Bool.{cases_lt}
 use Rattle.cedr_base.specs.declared.row.Row.{Row}
 use Rattle.cedr_base.specs.Rows.{count_of, in_order, SameRows}
 use Rattle.cedr_base.proofs.Bags.{count_of-append}
-use Rattle.cedr_laws.specs.Surplus.{Ascend}
+use Rattle.node_laws.specs.Surplus.{Ascend}
 use Rattle.cedr_table.specs.Counted.{IsTakenOut}
 use Rattle.cedr_table.proofs.FilterLemmas.{count-filter, count-rest, none_of_these, fewer_left}
-use Rattle.cedr_laws.proofs.Order.{ascend-in_order, count-in_order}
+use Rattle.node_laws.proofs.Order.{ascend-in_order, count-in_order}
 use Rattle.cedr_align.specs.Released.{IsReleased}
-use Rattle.cedr_laws.specs.Pass.{is_blocked, is_held}
+use Rattle.node_laws.specs.Pass.{is_blocked, is_held}
 use Rattle.cedr_align.specs.Moving.{has_ended, IsMovedOut}
 
 -- some of the rows that pass a test moved

@@ -12,10 +12,10 @@ use Rattle.cedr_base.specs.Rows.{count_of}
 use Rattle.cedr_base.specs.Changes.{all_puts, all_takes}
 use Rattle.cedr_base.specs.Messages.{mark_of, IsOpen, MayCome}
 use Rattle.cedr_base.proofs.Bags.{count_of-append}
-use Rattle.cedr_stream.proofs.BagSums.{same_itself}
-use Rattle.cedr_laws.specs.Kept.{high_of, is_late}
-use Rattle.cedr_laws.specs.Pass.{has_end, passed_table}
-use Rattle.cedr_laws.proofs.Holds.{open_is, mark_up, high_up}
+use Rattle.change_laws.proofs.BagSums.{same_itself}
+use Rattle.node_laws.specs.Kept.{high_of, is_late}
+use Rattle.node_laws.specs.Pass.{has_end, passed_table}
+use Rattle.node_laws.proofs.Holds.{open_is, mark_up, high_up}
 use Rattle.cedr_table.proofs.FilterLemmas.{count-filter}
 use Rattle.cedr_align.specs.Remembered.{is_remembered, remembers, remembered}
 use Rattle.cedr_align.specs.Released.{AreApplied}

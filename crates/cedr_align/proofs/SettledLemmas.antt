@@ -6,8 +6,8 @@ use Rattle.cedr_base.specs.declared.change.Message.{Message}
 use Rattle.cedr_base.specs.Rows.{count_of, SameRows}
 use Rattle.cedr_base.proofs.Bags.{count_of-append}
 use Rattle.cedr_table.proofs.FilterLemmas.{count-filter}
-use Rattle.cedr_laws.specs.Lists.{mark_above}
-use Rattle.cedr_laws.specs.Pass.{front_at, additions}
+use Rattle.node_laws.specs.Lists.{mark_above}
+use Rattle.node_laws.specs.Pass.{front_at, additions}
 use Rattle.cedr_align.specs.declared.aligner.Aligner.{Aligner}
 use Rattle.cedr_align.specs.Aligner.{HasSameTimes, must_remember}
 use Rattle.cedr_align.specs.Remembered.{is_remembered}

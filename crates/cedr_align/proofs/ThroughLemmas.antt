@@ -11,9 +11,9 @@ use Rattle.cedr_base.specs.declared.change.Message.TheVariants as message
 use Rattle.cedr_base.specs.Rows.{count_of, SameRows}
 use Rattle.cedr_base.proofs.Bags.{count_of-append}
 use Rattle.cedr_table.proofs.FilterLemmas.{count-filter}
-use Rattle.cedr_stream.proofs.BagSums.{same_itself}
-use Rattle.cedr_laws.specs.Lists.{mark_above}
-use Rattle.cedr_laws.specs.Pass.{front_at}
+use Rattle.change_laws.proofs.BagSums.{same_itself}
+use Rattle.node_laws.specs.Lists.{mark_above}
+use Rattle.node_laws.specs.Pass.{front_at}
 use Rattle.cedr_align.specs.Remembered.{is_remembered}
 use Rattle.cedr_align.specs.Released.{AreApplied, GoesThrough, IsKeptAndSettled}
 use Rattle.cedr_align.proofs.RememberedLemmas.{none_applied, applied_there}

@@ -1,8 +1,8 @@
 -- Rows with their begin and their end exchanged.
 use Rattle.std.proofs.Common.{◌≡◌, ℕ, ◌+◌, ◌*◌, ◌<◌, ◌≤◌, List, [], ◌∷◌, ◌++◌, Bool, true, false, cond, not, nat_lt, subst, refl, ap, sym, ◌∙◌, arith}
 use Rattle.std.specs.Prelude.{replicate, min, Option, Some, None, IfSome, IfNone}
-use Rattle.cedr_laws.specs.Pass.{is_blocked, least_begin}
-use Rattle.cedr_laws.proofs.Holds.{least-there, least-from, least-mark}
+use Rattle.node_laws.specs.Pass.{is_blocked, least_begin}
+use Rattle.node_laws.proofs.Holds.{least-there, least-from, least-mark}
 use Rattle.std.proofs.lemmas.Bool.{lt-ltb, le-ltb, ltb-true, ltb-false, not-false, not-true}
 use Rattle.cedr_table.specs.Counted.{IsFirst, IsTakenOut}
 use Rattle.cedr_table.proofs.FilterLemmas.{ends_first}
@@ -10,7 +10,7 @@ use Rattle.std.proofs.lemmas.List.Folds.{sum_by-replicate}
 use Rattle.cedr_base.specs.declared.row.Row.{Row}
 use Rattle.cedr_base.specs.Rows.{same_row, one_if_same, count_of, SameRows}
 use Rattle.cedr_base.proofs.Bags.{same_row_exact, same_row_itself, count_of-append, count_of-cons}
-use Rattle.cedr_stream.proofs.BagSums.{count_of-itself}
+use Rattle.change_laws.proofs.BagSums.{count_of-itself}
 use Rattle.cedr_align.specs.Moving.{turned, all_turned, IsPopped}
 
 -- a test is the same where each of two is true if the other one is

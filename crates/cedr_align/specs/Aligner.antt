@@ -4,9 +4,9 @@ use Rattle.cedr_base.specs.declared.row.Row.{Row}
 use Rattle.cedr_base.specs.declared.change.Message.{Message}
 use Rattle.cedr_base.specs.Rows.{count_of, SameRows}
 use Rattle.cedr_base.specs.Messages.{mark_of, IsLegal}
-use Rattle.cedr_laws.specs.declared.forgotten.Forgotten.{Forgotten}
-use Rattle.cedr_laws.specs.Kept.{high_of, forgotten_of}
-use Rattle.cedr_laws.specs.Pass.{has_end, is_held, held, passed_of}
+use Rattle.node_laws.specs.declared.forgotten.Forgotten.{Forgotten}
+use Rattle.node_laws.specs.Kept.{high_of, forgotten_of}
+use Rattle.node_laws.specs.Pass.{has_end, is_held, held, passed_of}
 use Rattle.cedr_align.specs.Remembered.{is_remembered, remembered}
 use Rattle.cedr_align.specs.declared.aligner.Aligner.{Aligner}
 use Rattle.cedr_align.specs.declared.fate.Fate.{Fate}
@@ -22,16 +22,16 @@ pub record Aligns (a : Aligner) (ms : List Message) : Type 0 where
   pub passed_are : SameRows a.passed (remembered a.level ms)
 
 -- what a fate lists
-abbrev pub listed : Fate → List Forgotten
-listed fate.Kept = []
-listed (fate.Forgotten f) = f ∷ []
+abbrev pub forgotten_in : Fate → List Forgotten
+forgotten_in fate.Kept = []
+forgotten_in (fate.Forgotten f) = f ∷ []
 
 -- the aligner took a message after a list: it stands for the longer list, passed on what that message passes on,
 -- and said what it forgot
 pub record IsTaken (old new : Aligner) (ms : List Message) (m : Message) (before after : List Message) (fate : Fate) : Type 0 where
   pub aligns : Aligns new (ms ++ m ∷ [])
   pub passed_on : after ≡ before ++ passed_of old.level ms m
-  pub fate_is : listed fate ≡ forgotten_of old.level.memory ms m
+  pub fate_is : forgotten_in fate ≡ forgotten_of old.level.memory ms m
   pub same_level : new.level ≡ old.level
 
 -- each row of which the aligner has a copy is a held one, or a passed one that is remembered

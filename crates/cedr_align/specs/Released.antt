@@ -5,14 +5,14 @@ use Rattle.cedr_base.specs.declared.change.Change.{Change}
 use Rattle.cedr_base.specs.declared.change.Change.TheVariants.{Add, Cut}
 use Rattle.cedr_base.specs.Rows.{count_of, SameRows}
 use Rattle.cedr_base.specs.Changes.{all_puts, all_takes}
-use Rattle.cedr_laws.specs.declared.forgotten.Cause.{Cause}
-use Rattle.cedr_laws.specs.declared.forgotten.Cause.TheVariants.{Late, Orphan}
-use Rattle.cedr_laws.specs.Kept.{is_late}
+use Rattle.node_laws.specs.declared.forgotten.Cause.{Cause}
+use Rattle.node_laws.specs.declared.forgotten.Cause.TheVariants.{Late, Orphan}
+use Rattle.node_laws.specs.Kept.{is_late}
 use Rattle.cedr_base.specs.declared.change.Message.{Message}
-use Rattle.cedr_laws.specs.Surplus.{Ascend}
-use Rattle.cedr_laws.specs.Pass.{front_at, additions}
-use Rattle.cedr_laws.specs.Lists.{mark_above}
-use Rattle.cedr_stream.specs.Repairs.{wrapped}
+use Rattle.node_laws.specs.Surplus.{Ascend}
+use Rattle.node_laws.specs.Pass.{front_at, additions}
+use Rattle.node_laws.specs.Lists.{mark_above}
+use Rattle.change_laws.specs.Repairs.{wrapped}
 
 -- the rows that needn't wait, in canonical order
 pub record IsReleased (stays : Row → Bool) (rows released : List Row) : Type 0 where

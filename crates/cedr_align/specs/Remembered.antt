@@ -5,8 +5,8 @@ use Rattle.cedr_base.specs.declared.change.Message.{Message}
 use Rattle.cedr_base.specs.declared.level.Level.{Level}
 use Rattle.cedr_base.specs.Messages.{mark_of}
 use Rattle.cedr_table.specs.Counted.{ends_after}
-use Rattle.cedr_laws.specs.Kept.{high_of}
-use Rattle.cedr_laws.specs.Pass.{has_end, passed_table}
+use Rattle.node_laws.specs.Kept.{high_of}
+use Rattle.node_laws.specs.Pass.{has_end, passed_table}
 
 -- A retraction that isn't late may still name a row. It is seen from the mark on, no more than the memory before the
 -- greatest time, and before the row's end; and nothing comes after the end of the list.

@@ -2,15 +2,15 @@ ghost use Rattle.std.specs.Prelude.{◌≡◌, ◌++◌, ◌∷◌, [], List, If
 ghost use Rattle.cedr_base.specs.declared.change.Message.{Message};
 ghost use Rattle.cedr_base.specs.declared.change.Message.TheVariants as message;
 ghost use Rattle.cedr_base.specs.Messages.{MayCome};
-ghost use Rattle.cedr_laws.specs.Kept.{high_of};
-ghost use Rattle.cedr_laws.specs.Pass.{front, IsLevel};
+ghost use Rattle.node_laws.specs.Kept.{high_of};
+ghost use Rattle.node_laws.specs.Pass.{front, HasBlockWithin};
 
 use crate::fate::Fate;
 use crate::held::Held;
 use crate::keep::find_cause;
 use cedr_base::{Change, Level, Message, OutOfMemory, Time};
-use cedr_laws::Forgotten;
 use cedr_table::Table;
+use node_laws::Forgotten;
 use std::alloc::Global;
 
 /// Holds a port's rows back until they may pass. Of those that passed it remembers the ones that a retraction may still
@@ -18,7 +18,6 @@ use std::alloc::Global;
 ///
 /// It stands for the list of messages that it took, which it doesn't keep. Each clause speaks of every list that it
 /// stands for.
-#[derive(Drop)]
 pub struct Aligner {
     pub(crate) level: Level,
     pub(crate) mark: Time,
@@ -28,12 +27,25 @@ pub struct Aligner {
     pub(crate) passed: Table,
 }
 
+impl Drop for Aligner {
+    fn drop(self) {
+        let Aligner {
+            level: _,
+            mark: _,
+            high: _,
+            ended: _,
+            held: _,
+            passed: _,
+        } = self;
+    }
+}
+
 impl Aligner {
     ghost use Rattle.cedr_align.specs.Aligner.{Aligns, IsTaken, OnlyKeeps};
 
     /// An aligner that took nothing. Its block isn't over its memory. It takes no memory.
     pub fn new(level: Level, alloc: Global) -> Aligner
-        requires { IsLevel level }
+        requires { HasBlockWithin level }
         ensures aligns { Aligns result [] }
         ensures held { OnlyKeeps result [] }
         ensures level { result.level ≡ level }

@@ -1,4 +1,4 @@
-use cedr_laws::Forgotten;
+use node_laws::Forgotten;
 
 /// What became of a message.
 #[derive(Drop)]

@@ -3,7 +3,7 @@ ghost use Rattle.cedr_base.specs.declared.row.Row.{Row};
 ghost use Rattle.cedr_base.specs.declared.change.Change.TheVariants.{Cut};
 ghost use Rattle.cedr_base.specs.Rows.{count_of, SameRows};
 ghost use Rattle.cedr_base.specs.Changes.{puts, takes};
-ghost use Rattle.cedr_laws.specs.Pass.{is_blocked, is_held, least_begin};
+ghost use Rattle.node_laws.specs.Pass.{is_blocked, is_held, least_begin};
 ghost use Rattle.cedr_table.specs.Counted.{IsTakenOut};
 ghost use Rattle.cedr_align.specs.Moving.{turned, has_ended, IsMovedOut, IsPopped};
 ghost use Rattle.cedr_align.specs.Released.{IsReleased};
@@ -54,14 +54,13 @@ pub(crate) fn must_wait(block: Option<u64>, ended: bool, mark: Time, high: Time,
 }
 
 /// The row with its begin and its end exchanged.
-fn turn(row: Row) -> Row
+fn turn(mut row: Row) -> Row
     ensures { result ≡ turned row }
 {
-    Row {
-        end: row.begin,
-        begin: row.end,
-        payload: row.payload,
-    }
+    let end = row.end;
+    row.end = row.begin;
+    row.begin = end;
+    row
 }
 
 impl Held {
@@ -108,7 +107,7 @@ impl Held {
     /// Takes a copy of a row away, where one waits. Gives the row back, and says whether one did.
     fn take(&mut self, row: Row) -> (bool, Row)
         ensures row { result.1 ≡ row }
-        ensures told { result.0 ≡ nat_lt 0 (count_of row self.old) }
+        ensures was_there { result.0 ≡ nat_lt 0 (count_of row self.old) }
         ensures taken { result.0 ≡ true → SameRows (row ∷ self.new) self.old }
         ensures missing { result.0 ≡ false → self.new ≡ self.old }
     {

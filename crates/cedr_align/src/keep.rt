@@ -2,14 +2,14 @@ ghost use Rattle.std.specs.Prelude.{◌≡◌, ◌++◌, ◌∷◌, [], OnOk, Op
 ghost use Rattle.cedr_base.specs.Rows.{SameRows};
 ghost use Rattle.cedr_base.specs.declared.change.Message.TheVariants as message;
 ghost use Rattle.cedr_base.specs.Changes.{all_puts, all_takes, puts, takes};
-ghost use Rattle.cedr_stream.specs.Repairs.{wrapped};
-ghost use Rattle.cedr_laws.specs.Kept.{is_late};
+ghost use Rattle.change_laws.specs.Repairs.{wrapped};
+ghost use Rattle.node_laws.specs.Kept.{is_late};
 ghost use Rattle.cedr_align.specs.Released.{own_of, other_of, cause_at, AreApplied};
 
 use crate::held::Held;
 use cedr_base::{Change, Message, OutOfMemory, Time};
-use cedr_laws::Cause;
 use cedr_table::Table;
+use node_laws::Cause;
 use std::alloc::Global;
 
 /// A change is seen more than the memory before the greatest time that came.

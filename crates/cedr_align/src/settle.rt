@@ -1,7 +1,7 @@
 ghost use Rattle.std.specs.Prelude.{◌≡◌, ◌++◌, ◌∷◌, [], ◌-◌, ◌↔◌, max, OnOk, Option, filter, length, take, true, if◌then◌else◌};
 ghost use Rattle.cedr_base.specs.Rows.{SameRows};
-ghost use Rattle.cedr_laws.specs.Lists.{mark_above};
-ghost use Rattle.cedr_laws.specs.Pass.{front_at, additions};
+ghost use Rattle.node_laws.specs.Lists.{mark_above};
+ghost use Rattle.node_laws.specs.Pass.{front_at, additions};
 ghost use Rattle.cedr_align.specs.Remembered.{is_remembered};
 ghost use Rattle.cedr_align.specs.Released.{GoesThrough, IsKeptAndSettled, IsSettled};
 

@@ -6,14 +6,21 @@ use std::alloc::Global;
 use std::cmp::Ordering;
 
 /// One column's value. Numbers come before texts.
-#[derive(Drop)]
 pub enum Field {
     Number(i128),
     Bytes(Text),
 }
 
+impl Drop for Field {
+    fn drop(self) {
+        match self {
+            Field::Number(_) | Field::Bytes(_) => {}
+        }
+    }
+}
+
 /// What a column holds.
-#[derive(Clone, Copy, Debug, PartialEq, Eq)]
+#[derive(Clone, Copy, PartialEq, Eq)]
 pub enum FieldType {
     Number,
     Bytes,

@@ -1,7 +1,7 @@
 use crate::time::Time;
 
 /// When something is valid: from `begin` on and before `end`. It is empty where `end` isn't above `begin`.
-#[derive(Clone, Copy, Debug, PartialEq, Eq)]
+#[derive(Clone, Copy, PartialEq, Eq)]
 pub struct Interval {
     pub begin: Time,
     pub end: Time,

@@ -103,11 +103,14 @@ impl Payload {
     }
 }
 
-// By hand, so that code that lets a payload go makes one call for it, without a choice of its own.
+// By hand, as for each type that other crates hold in vectors, maps, options or boxes: a derived drop is proved anew in
+// each of those crates, and one by hand is called. The pattern names every field, by which the fields are dropped.
 impl Drop for Payload {
     fn drop(self) {
-        let Payload { alloc: _, shared } = self;
-        drop(shared);
+        let Payload {
+            alloc: _,
+            shared: _,
+        } = self;
     }
 }
 

@@ -16,11 +16,21 @@ use thiserror::Error;
 ///
 /// Rows compare in the canonical order, by end, then by begin, then by payload. The fields stand in
 /// that order, since the comparisons are derived.
-#[derive(Drop, PartialEq, Eq, PartialOrd, Ord)]
+#[derive(PartialEq, Eq, PartialOrd, Ord)]
 pub struct Row {
     pub end: Time,
     pub begin: Time,
     pub payload: Payload,
+}
+
+impl Drop for Row {
+    fn drop(self) {
+        let Row {
+            end: _,
+            begin: _,
+            payload: _,
+        } = self;
+    }
 }
 
 /// Why no row can be made.
@@ -63,6 +73,18 @@ impl Row {
             begin: self.begin,
             payload,
         })
+    }
+
+    /// Its payload alone.
+    pub fn into_payload(self) -> Payload
+        ensures { result ≡ self.payload }
+    {
+        let Row {
+            end: _,
+            begin: _,
+            payload,
+        } = self;
+        payload
     }
 }
 

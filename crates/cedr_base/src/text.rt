@@ -8,9 +8,14 @@ use std::marker::Model;
 /// Bytes of any kind: a name or the value of a text column. Contracts see the list of its bytes.
 ///
 /// Texts compare byte by byte, and a prefix comes first.
-#[derive(Drop)]
 pub struct Text {
     bytes: Vec<u8>,
+}
+
+impl Drop for Text {
+    fn drop(self) {
+        let Text { bytes: _ } = self;
+    }
 }
 
 impl Model for Text {

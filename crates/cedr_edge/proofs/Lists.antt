@@ -4,11 +4,11 @@ use Rattle.std.proofs.lemmas.List.{append-nil, length-append}
 use Rattle.cedr_base.specs.declared.change.Message.{Message}
 use Rattle.cedr_base.specs.declared.change.Message.TheVariants as message
 use Rattle.cedr_base.specs.Messages.{mark_of, IsOpen, IsLegal}
-use Rattle.cedr_laws.specs.Lawful.{is_over}
-use Rattle.cedr_laws.specs.Pass.{has_end}
-use Rattle.cedr_laws.proofs.Ends.{or_true, over_open}
-use Rattle.cedr_stream.proofs.Legal.{legal-push, legal_first, may_come_in, mark-append}
-use Rattle.cedr_edge.specs.Ends.{told}
+use Rattle.node_laws.specs.Lawful.{is_over}
+use Rattle.node_laws.specs.Pass.{has_end}
+use Rattle.node_laws.proofs.Ends.{or_true, over_open}
+use Rattle.change_laws.proofs.Legal.{legal-push, legal_first, may_come_in, mark-append}
+use Rattle.cedr_edge.specs.Ends.{as_u64}
 
 -- the front of a legal list is legal
 pub legal_front : (xs ys : List Message) → IsLegal (xs ++ ys) → IsLegal xs
@@ -75,7 +75,7 @@ pub all_sent : (sent waiting : List Message) → is_over sent ≡ true → IsLeg
 all_sent sent waiting over h = sym (append-nil sent) ∙ ap (λ l. sent ++ l) (sym (nothing_behind sent waiting over h))
 
 -- the number that a u64 can say of a list with one message more
-pub told_more : (xs : List Message) (m : Message) (n : ℕ) → n ≡ told (length xs) → min (n + 1) (2 ^ 64 - 1) ≡ told (length (xs ++ m ∷ []))
+pub told_more : (xs : List Message) (m : Message) (n : ℕ) → n ≡ as_u64 (length xs) → min (n + 1) (2 ^ 64 - 1) ≡ as_u64 (length (xs ++ m ∷ []))
 told_more xs m n e = omega (arith, e, length-append xs (m ∷ []))
 
 -- a list isn't over where neither of its two parts is

@@ -8,9 +8,9 @@ use Rattle.crossbeam_queue.proofs.Lists.{at_set, at_snoc}
 use Rattle.cedr_base.specs.declared.change.Message.{Message}
 use Rattle.cedr_base.specs.Messages.{IsLegal}
 use Rattle.cedr_edge.specs.declared.line.Hand.{Hand}
-use Rattle.cedr_edge.specs.Line.{hand, Fits, IsInOrder}
-use Rattle.cedr_laws.specs.Lawful.{is_over}
-use Rattle.cedr_edge.specs.Ends.{told}
+use Rattle.cedr_edge.specs.Line.{hand, FitsHand, IsInOrder}
+use Rattle.node_laws.specs.Lawful.{is_over}
+use Rattle.cedr_edge.specs.Ends.{as_u64}
 use Rattle.cedr_edge.proofs.Lists.{legal_front, nothing_behind}
 
 at_end : (l : List Hand) (a b : Hand) (j : ℕ) → get_elem? l j ≢ some b → get_elem? (l ++ a ∷ []) j ≡ some b → j ≡ length l
@@ -28,7 +28,7 @@ all_set F views port w mine others j u e = ⊎_elim (λ (x : (j ≡ port) × (w 
 
 -- making the passes
 pub begins : IsInOrder [] (hand true true [] [] ∷ [])
-begins = (0, 0, [], [], refl, tt, all_set (Fits 0 0 [] []) (hand true true [] [] ∷ []) 0 (hand true true [] []) ((λ _. (refl, refl)), λ _. (refl, refl)) (λ j u other e. absurd (other (at_end [] _ u j (λ x. some-ne-none u (sym x)) e))))
+begins = (0, 0, [], [], refl, tt, all_set (FitsHand 0 0 [] []) (hand true true [] [] ∷ []) 0 (hand true true [] []) ((λ _. (refl, refl)), λ _. (refl, refl)) (λ j u other e. absurd (other (at_end [] _ u j (λ x. some-ne-none u (sym x)) e))))
 
 -- parting the passes: one may put and has what was sent, the other may take and has what was taken
 pub parts : (port : ℕ) (v : Hand) → v.puts ≡ true → v.takes ≡ true → Forks IsInOrder port v (hand true false v.sent []) (hand false true [] v.taken)
@@ -56,7 +56,7 @@ puts n port v x may legal items views _ h at = let w : Hand = hand v.puts v.take
     h.3,
     ap (λ l. l ++ x ∷ []) h.4 ∙ append_assoc h.3 items (x ∷ []),
     subst (λ (l : List Message). IsLegal (l ++ x ∷ [])) (mine.0 may).1 legal,
-    all_set (Fits h.0 h.1 sent h.3) views port w ((λ _. ((mine.0 may).0, ap (λ l. l ++ x ∷ []) (mine.0 may).1)), mine.1)
+    all_set (FitsHand h.0 h.1 sent h.3) views port w ((λ _. ((mine.0 may).0, ap (λ l. l ++ x ∷ []) (mine.0 may).1)), mine.1)
         (λ j u other e. ((λ p. absurd (other (((h.6 j u e).0 p).0 ∙ sym (mine.0 may).0))), (h.6 j u e).1)),
   ),
   refl,
@@ -81,7 +81,7 @@ takes port v may x items views h at = let w : Hand = hand v.puts v.takes v.sent 
         taken,
         is,
         h.5,
-        all_set (Fits h.0 h.1 h.2 taken) views port w (mine.0, λ _. ((mine.1 may).0, ap (λ l. l ++ x ∷ []) (mine.1 may).1))
+        all_set (FitsHand h.0 h.1 h.2 taken) views port w (mine.0, λ _. ((mine.1 may).0, ap (λ l. l ++ x ∷ []) (mine.1 may).1))
             (λ j u other e. ((h.6 j u e).0, λ p. absurd (other (((h.6 j u e).1 p).0 ∙ sym (mine.1 may).0)))),
       ),
       (refl, subst (λ (l : List Message). IsLegal (l ++ x ∷ [])) (sym (mine.1 may).1) (legal_front taken items (subst IsLegal is h.5))),
@@ -95,9 +95,9 @@ learns_empty port v items views h at = tt
 pub joins : (port : ℕ) (v : Hand) (other : ℕ) (u : Hand) → v.takes ≡ true → u.puts ≡ true → Merges IsInOrder port v other u (hand true true u.sent v.taken) (hand false false [] [])
 joins port v other u a b items views h at two at' = let both : Hand = hand true true u.sent v.taken in let mine = h.6 port v at in let vs : List Hand = set views port both in
     let was : get_elem? views other ≡ some u = ⊎_elim (λ x. absurd (two x.0)) (λ x. x.1) (at_set views port other both u at') in let theirs = (h.6 other u was).0 b in
-    let Now : ℕ → Hand → Type 0 = λ j y. j ≢ other → Fits port h.1 h.2 h.3 j y in
+    let Now : ℕ → Hand → Type 0 = λ j y. j ≢ other → FitsHand port h.1 h.2 h.3 j y in
     let now : All Now vs = all_set Now views port both (λ _. ((λ _. (refl, theirs.1)), λ _. mine.1 a)) (λ j y _ e apart. ((λ p. absurd (apart (((h.6 j y e).0 p).0 ∙ sym theirs.0))), (h.6 j y e).1)) in
-    (port, h.1, h.2, h.3, h.4, h.5, all_set (Fits port h.1 h.2 h.3) vs other (hand false false [] []) ((λ p. absurd (true≢false (sym p))), λ p. absurd (true≢false (sym p))) (λ j y apart e. now j y e apart))
+    (port, h.1, h.2, h.3, h.4, h.5, all_set (FitsHand port h.1 h.2 h.3) vs other (hand false false [] []) ((λ p. absurd (true≢false (sym p))), λ p. absurd (true≢false (sym p))) (λ j y apart e. now j y e apart))
 
 -- a pass that may put and take learns that what was sent is what was taken and then what the queue holds,
 -- and that it is legal
@@ -109,8 +109,8 @@ pub all_gone : (sent taken items : List Message) → is_over taken ≡ true → 
 all_gone sent taken items over is legal = is ∙ ap (λ l. taken ++ l) (nothing_behind taken items over (subst IsLegal is legal)) ∙ append-nil taken
 
 -- what the joined pass shows of an edge over which all has gone
-pub closes : (sent taken : List Message) (count : ℕ) (v w : Hand) → v ≡ hand true true sent taken → w ≡ v → is_over taken ≡ true → ((items : List Message) × ((v.sent ≡ v.taken ++ items) × IsLegal v.sent)) → count ≡ told (length taken)
-    → (w.sent ≡ w.taken) × (count ≡ told (length w.taken)) × IsLegal w.sent
+pub closes : (sent taken : List Message) (count : ℕ) (v w : Hand) → v ≡ hand true true sent taken → w ≡ v → is_over taken ≡ true → ((items : List Message) × ((v.sent ≡ v.taken ++ items) × IsLegal v.sent)) → count ≡ as_u64 (length taken)
+    → (w.sent ≡ w.taken) × (count ≡ as_u64 (length w.taken)) × IsLegal w.sent
 closes sent taken count v w is same over fact counted =
     let at : (items : List Message) × ((sent ≡ taken ++ items) × IsLegal sent) = subst (λ (z : Hand). (items : List Message) × ((z.sent ≡ z.taken ++ items) × IsLegal z.sent)) is fact in
-    subst (λ (z : Hand). (z.sent ≡ z.taken) × (count ≡ told (length z.taken)) × IsLegal z.sent) (sym (same ∙ is)) (all_gone sent taken at.0 over at.1.0 at.1.1, counted, at.1.1)
+    subst (λ (z : Hand). (z.sent ≡ z.taken) × (count ≡ as_u64 (length z.taken)) × IsLegal z.sent) (sym (same ∙ is)) (all_gone sent taken at.0 over at.1.0 at.1.1, counted, at.1.1)

@@ -1,15 +1,11 @@
 -- What contracts see of the two ends of an edge, and of an edge that is closed.
-use Rattle.std.specs.Prelude.{ℕ, List, ◌+◌, ◌-◌, ◌^◌, min}
+use Rattle.std.specs.Prelude.{ℕ, List, ◌-◌, ◌^◌, min}
 use Rattle.atomic_table.specs.Seated.{TableId}
 use Rattle.cedr_base.specs.declared.change.Message.{Message}
 
--- one more step was refused. The count stays at its last value
-abbrev pub raised : ℕ → ℕ
-raised n = min (n + 1) (2 ^ 64 - 1)
-
 -- the number that a u64 can say
-abbrev pub told : ℕ → ℕ
-told n = min n (2 ^ 64 - 1)
+abbrev pub as_u64 : ℕ → ℕ
+as_u64 n = min n (2 ^ 64 - 1)
 
 -- the end that puts: the edge, the room of its queue, all that was sent, and how many puts found it full
 pub record OutEnd : Type 0 where
@@ -23,6 +19,10 @@ pub record InEnd : Type 0 where
   pub edge : TableId
   pub taken : List Message
   pub refused : ℕ
+
+-- what was taken from an end
+abbrev pub taken_of : InEnd → List Message
+taken_of e = e.taken
 
 -- a closed edge
 pub record Carried : Type 0 where

@@ -1,7 +1,9 @@
 ghost use Rattle.std.specs.Prelude.{◌≡◌, true, ◌<◌, ◌≤◌, [], ◌∷◌, ◌++◌, length, IfOk, OnOk, IfErr, IfSome, IfNone};
 ghost use Rattle.cedr_base.specs.Messages.{IsLegal};
-ghost use Rattle.cedr_laws.specs.Lawful.{is_over};
-ghost use Rattle.cedr_edge.specs.Ends.{raised, told};
+ghost use Rattle.node_laws.specs.Lawful.{is_over};
+ghost use Rattle.cedr_edge.specs.Ends.{as_u64};
+ghost use Rattle.cedr_base.specs.Counters.{raised};
+ghost use Rattle.crossbeam_queue.specs.Passes.{view as known, IsPassOf};
 
 use crate::line::{EdgePass, Ends, Line, Puts, Takes, Total};
 use cedr_base::{Message, OutOfMemory};
@@ -11,7 +13,6 @@ use std::sync::{Arc, Wait};
 
 /// The end of an edge that puts. Contracts see the edge that it belongs to, the room of its queue, the messages that
 /// were sent, and how many puts found the queue full, a count that stays at its last value.
-#[derive(Drop)]
 pub struct EdgeOut {
     line: Arc<Line, Global>,
     pass: EdgePass,
@@ -20,24 +21,35 @@ pub struct EdgeOut {
     over: bool,
 }
 
+impl Drop for EdgeOut {
+    fn drop(self) {
+        let EdgeOut {
+            line: _,
+            pass: _,
+            refused: _,
+            count: _,
+            over: _,
+        } = self;
+    }
+}
+
 impl Model for EdgeOut {
     ghost use Rattle.std.specs.Prelude.{◌≡◌, true, false, length};
     ghost use Rattle.std.specs.Arc.{arc_value};
     ghost use Rattle.crossbeam_queue.specs.Passes.{view as known, IsPassOf, ruled_capacity};
     ghost use Rattle.cedr_base.specs.Messages.{IsLegal};
-    ghost use Rattle.cedr_laws.specs.Lawful.{is_over};
-    ghost use Rattle.cedr_edge.specs.Ends.{OutEnd, told};
+    ghost use Rattle.node_laws.specs.Lawful.{is_over};
+    ghost use Rattle.cedr_edge.specs.Ends.{OutEnd, as_u64};
 
     ghost Value = { OutEnd };
 
     ghost view = { λ e. record { edge = e.pass.table_id; room = ruled_capacity (arc_value e.line); sent = (known e.pass).sent; refused = e.refused } };
 
-    ghost invariant = { λ e. IsPassOf (arc_value e.line) e.pass × ((known e.pass).puts ≡ true) × IsLegal (known e.pass).sent × (e.count ≡ told (length (known e.pass).sent)) × (e.over ≡ is_over (known e.pass).sent) };
+    ghost invariant = { λ e. IsPassOf (arc_value e.line) e.pass × ((known e.pass).puts ≡ true) × IsLegal (known e.pass).sent × (e.count ≡ as_u64 (length (known e.pass).sent)) × (e.over ≡ is_over (known e.pass).sent) };
 }
 
 /// The end of an edge that takes. Contracts see the edge that it belongs to, the messages that were taken, and how many
 /// takes found the queue empty, a count that stays at its last value.
-#[derive(Drop)]
 pub struct EdgeIn {
     line: Arc<Line, Global>,
     pass: EdgePass,
@@ -46,39 +58,56 @@ pub struct EdgeIn {
     over: bool,
 }
 
+impl Drop for EdgeIn {
+    fn drop(self) {
+        let EdgeIn {
+            line: _,
+            pass: _,
+            refused: _,
+            count: _,
+            over: _,
+        } = self;
+    }
+}
+
 impl Model for EdgeIn {
     ghost use Rattle.std.specs.Prelude.{◌≡◌, true, false, length};
     ghost use Rattle.std.specs.Arc.{arc_value};
     ghost use Rattle.crossbeam_queue.specs.Passes.{view as known, IsPassOf};
     ghost use Rattle.cedr_base.specs.Messages.{IsLegal};
-    ghost use Rattle.cedr_laws.specs.Lawful.{is_over};
-    ghost use Rattle.cedr_edge.specs.Ends.{InEnd, told};
+    ghost use Rattle.node_laws.specs.Lawful.{is_over};
+    ghost use Rattle.cedr_edge.specs.Ends.{InEnd, as_u64};
 
     ghost Value = { InEnd };
 
     ghost view = { λ e. record { edge = e.pass.table_id; taken = (known e.pass).taken; refused = e.refused } };
 
-    ghost invariant = { λ e. IsPassOf (arc_value e.line) e.pass × ((known e.pass).takes ≡ true) × (e.count ≡ told (length (known e.pass).taken)) × IsLegal (known e.pass).taken × (e.over ≡ is_over (known e.pass).taken) };
+    ghost invariant = { λ e. IsPassOf (arc_value e.line) e.pass × ((known e.pass).takes ≡ true) × (e.count ≡ as_u64 (length (known e.pass).taken)) × IsLegal (known e.pass).taken × (e.over ≡ is_over (known e.pass).taken) };
 }
 
 /// A closed edge, with all that went over it. Only [`close_edge`] makes one, and it can't be copied.
-#[derive(Drop)]
 pub struct EdgeRecord {
     pass: EdgePass,
     count: u64,
+}
+
+impl Drop for EdgeRecord {
+    fn drop(self) {
+        let EdgeRecord { pass: _, count: _ } = self;
+    }
 }
 
 impl Model for EdgeRecord {
     ghost use Rattle.std.specs.Prelude.{◌≡◌, length};
     ghost use Rattle.crossbeam_queue.specs.Passes.{view as known};
     ghost use Rattle.cedr_base.specs.Messages.{IsLegal};
-    ghost use Rattle.cedr_edge.specs.Ends.{Carried, told};
+    ghost use Rattle.cedr_edge.specs.Ends.{Carried, as_u64};
 
     ghost Value = { Carried };
 
     ghost view = { λ e. record { edge = e.pass.table_id; sent = (known e.pass).sent; taken = (known e.pass).taken } };
 
-    ghost invariant = { λ e. ((known e.pass).sent ≡ (known e.pass).taken) × (e.count ≡ told (length (known e.pass).taken)) × IsLegal (known e.pass).sent };
+    ghost invariant = { λ e. ((known e.pass).sent ≡ (known e.pass).taken) × (e.count ≡ as_u64 (length (known e.pass).taken)) × IsLegal (known e.pass).sent };
 }
 
 /// The queue was full. The message is handed back.
@@ -155,10 +184,29 @@ impl EdgeOut {
 
     /// The number of messages that were sent, or the last `u64` where there are more.
     pub fn count(&self) -> u64
-        ensures count { result ≡ told (length self.now.sent) }
+        ensures count { result ≡ as_u64 (length self.now.sent) }
         ensures legal { IsLegal self.now.sent }
     {
         self.count
+    }
+
+    /// [`close_edge`], once the other end is known to be of the same edge.
+    fn closed_with(self, incoming: EdgeIn) -> EdgeRecord
+        requires edge { self.edge ≡ incoming.edge }
+        requires over { is_over incoming.taken ≡ true }
+        ensures edge { result.edge ≡ self.edge }
+        ensures sent { result.sent ≡ self.sent }
+        ensures taken { result.taken ≡ incoming.taken }
+        ensures same { result.sent ≡ result.taken }
+    {
+        let EdgeOut {
+            line,
+            pass,
+            refused: _,
+            count: _,
+            over: _,
+        } = self;
+        incoming.closed_with(&line, pass)
     }
 }
 
@@ -192,10 +240,33 @@ impl EdgeIn {
 
     /// The number of messages that were taken, or the last `u64` where there are more.
     pub fn count(&self) -> u64
-        ensures count { result ≡ told (length self.now.taken) }
+        ensures count { result ≡ as_u64 (length self.now.taken) }
         ensures legal { IsLegal self.now.taken }
     {
         self.count
+    }
+
+    /// The record of the edge whose other end had this pass of its queue.
+    fn closed_with(self, line: &Line, theirs: EdgePass) -> EdgeRecord
+        requires pass { IsPassOf line.now theirs }
+        requires puts { (known theirs).puts ≡ true }
+        requires edge { theirs.table_id ≡ self.edge }
+        requires over { is_over self.taken ≡ true }
+        ensures edge { result.edge ≡ theirs.table_id }
+        ensures sent { result.sent ≡ (known theirs).sent }
+        ensures taken { result.taken ≡ self.taken }
+        ensures same { result.sent ≡ result.taken }
+    {
+        let EdgeIn {
+            line: _,
+            mut pass,
+            refused: _,
+            count,
+            over: _,
+        } = self;
+        line.absorb::<Ends>(&mut pass, theirs);
+        line.learn_as::<Total>(&mut pass);
+        EdgeRecord { pass, count }
     }
 }
 
@@ -209,25 +280,13 @@ pub fn close_edge(outgoing: EdgeOut, incoming: EdgeIn) -> EdgeRecord
     ensures taken { result.taken ≡ incoming.taken }
     ensures same { result.sent ≡ result.taken }
 {
-    let EdgeOut {
-        line,
-        pass: theirs,
-        ..
-    } = outgoing;
-    let EdgeIn {
-        mut pass,
-        count,
-        ..
-    } = incoming;
-    line.absorb::<Ends>(&mut pass, theirs);
-    line.learn_as::<Total>(&mut pass);
-    EdgeRecord { pass, count }
+    outgoing.closed_with(incoming)
 }
 
 impl EdgeRecord {
     /// The number of messages, or the last `u64` where there are more.
     pub fn count(&self) -> u64
-        ensures count { result ≡ told (length self.now.sent) }
+        ensures count { result ≡ as_u64 (length self.now.sent) }
         ensures same { self.now.sent ≡ self.now.taken }
         ensures legal { IsLegal self.now.sent }
     {

@@ -15,7 +15,7 @@ use Rattle.cedr_expr.specs.declared.test.Test.{Test}
 use Rattle.cedr_expr.specs.declared.fault.TypeFault.TheVariants.{BadColumn}
 use Rattle.cedr_expr.specs.Columns.{column}
 use Rattle.cedr_expr.specs.Tests.{operand_value}
-use Rattle.cedr_expr.specs.Types.{type_of, same_type, operand_type, sides_of, has_bad_column, has_two_types, first_bad_column, first_differing, first_fault, type_fault_of, first_past_end, keep_fault_of, HasLikeSides}
+use Rattle.cedr_expr.specs.Types.{type_of, same_type, operand_type, sides_of, test_has_bad_column, has_two_types, first_bad_column, first_differing, first_type_fault, type_fault_of, first_past_end, keep_fault_of, HasLikeSides}
 
 none_if_false : (b : Bool) (n : ℕ) → cond b (Some n) None ≡ None → b ≡ false
 none_if_false true n h = cc
@@ -27,7 +27,7 @@ fails_at_each p xs nowhere k d within =
     let past = ltb-false (position_or_len p xs) (length xs) (none_if_false (ltb (position_or_len p xs) (length xs)) (position_or_len p xs) nowhere) in
     fails_before_first p xs k d (omega (arith, past, within))
 
-no_fault : (bad differing : Option ℕ) → first_fault bad differing ≡ None → (bad ≡ None) × (differing ≡ None)
+no_fault : (bad differing : Option ℕ) → first_type_fault bad differing ≡ None → (bad ≡ None) × (differing ≡ None)
 no_fault (Some bad) differing h = cc
 no_fault None (Some differing) h = cc
 no_fault None None h = (refl, refl)
@@ -63,7 +63,7 @@ sides_of_types left right test =
 pub all_like_sides : (tests : List Test) (left right : List Field) → type_fault_of tests (map type_of left) (map type_of right) ≡ None → All (HasLikeSides left right) tests
 all_like_sides tests left right fits k d within =
     let both = no_fault (first_bad_column tests (map type_of left) (map type_of right)) (first_differing tests (map type_of left) (map type_of right)) fits in
-    let there = fails_at_each (has_bad_column (map type_of left) (map type_of right)) tests both.0 k d within in
+    let there = fails_at_each (test_has_bad_column (map type_of left) (map type_of right)) tests both.0 k d within in
     let alike = fails_at_each (has_two_types (map type_of left) (map type_of right)) tests both.1 k d within in
     let test = get_or tests k d in
     let types = sides_of_types left right test in

@@ -7,5 +7,5 @@ abbrev pub column : {X : Type 0} → List X → List X → ℕ → Option X
 column left right place = slice_get (left ++ right) place
 
 -- what stands at these places, in their order, and nothing for a place past the end
-abbrev pub kept : {X : Type 0} → List ℕ → List X → List X
-kept places xs = filter_map (slice_get xs) places
+abbrev pub kept_columns : {X : Type 0} → List ℕ → List X → List X
+kept_columns places xs = filter_map (slice_get xs) places

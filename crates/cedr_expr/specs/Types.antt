@@ -40,8 +40,8 @@ abbrev pub sides_of : List FieldType → List FieldType → Test → Option (Fie
 sides_of left right test = option_zip (column left right test.left) (operand_type test.right left right)
 
 -- a test names a column past the end
-abbrev pub has_bad_column : List FieldType → List FieldType → Test → Bool
-has_bad_column left right test = is_none (sides_of left right test)
+abbrev pub test_has_bad_column : List FieldType → List FieldType → Test → Bool
+test_has_bad_column left right test = is_none (sides_of left right test)
 
 -- a test's columns are there, and its two sides differ in type
 abbrev pub has_two_types : List FieldType → List FieldType → Test → Bool
@@ -49,21 +49,21 @@ has_two_types left right test = option_map_or (λ sides. not (same_type sides.0 
 
 -- the place of the first test that names a column past the end
 abbrev pub first_bad_column : List Test → List FieldType → List FieldType → Option ℕ
-first_bad_column tests left right = position (has_bad_column left right) tests
+first_bad_column tests left right = position (test_has_bad_column left right) tests
 
 -- the place of the first test whose two sides differ in type
 abbrev pub first_differing : List Test → List FieldType → List FieldType → Option ℕ
 first_differing tests left right = position (has_two_types left right) tests
 
 -- the first column past the end counts before any difference of types
-abbrev pub first_fault : Option ℕ → Option ℕ → Option TypeFault
-first_fault (Some bad) differing = Some (BadColumn bad)
-first_fault None (Some differing) = Some (TypeDiffers differing)
-first_fault None None = None
+abbrev pub first_type_fault : Option ℕ → Option ℕ → Option TypeFault
+first_type_fault (Some bad) differing = Some (BadColumn bad)
+first_type_fault None (Some differing) = Some (TypeDiffers differing)
+first_type_fault None None = None
 
 -- why tests don't fit the types of a left and a right payload, or nothing where they do
 abbrev pub type_fault_of : List Test → List FieldType → List FieldType → Option TypeFault
-type_fault_of tests left right = first_fault (first_bad_column tests left right) (first_differing tests left right)
+type_fault_of tests left right = first_type_fault (first_bad_column tests left right) (first_differing tests left right)
 
 -- the place, among columns, of the first one that is past the end of the types
 abbrev pub first_past_end : List ℕ → List FieldType → Option ℕ

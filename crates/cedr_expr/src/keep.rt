@@ -1,6 +1,6 @@
 ghost use Rattle.std.specs.Prelude.{◌≡◌, [], ◌∷◌, ◌++◌, IfOk, OnOk};
 ghost use Rattle.std.specs.Result.{result_err};
-ghost use Rattle.cedr_expr.specs.Columns.{kept};
+ghost use Rattle.cedr_expr.specs.Columns.{kept_columns};
 ghost use Rattle.cedr_expr.specs.Types.{first_past_end, keep_fault_of};
 
 use crate::fault::TypeFault;
@@ -10,9 +10,14 @@ use std::marker::Model;
 
 /// The columns that are kept of a payload, in order. A column may stand in it more than once. Contracts see
 /// the list of the columns, which count from 0.
-#[derive(Drop)]
 pub struct Keep {
     columns: Vec<usize>,
+}
+
+impl Drop for Keep {
+    fn drop(self) {
+        let Keep { columns: _ } = self;
+    }
 }
 
 impl Model for Keep {
@@ -45,7 +50,7 @@ impl Keep {
     /// The payload's fields at the columns, and none for a column past the end. O(n) in what they hold.
     #[tactic(auto, using(crate::proofs::KeptLemmas::kept_more))]
     pub fn apply(&self, alloc: Global, payload: &Payload) -> Result<Payload, OutOfMemory>
-        ensures { IfOk result (λ fields. fields ≡ kept self.now payload.now) }
+        ensures { IfOk result (λ fields. fields ≡ kept_columns self.now payload.now) }
     {
         let fields = payload.fields();
         let mut chosen = Vec::with_capacity(alloc, self.columns.len())?;
@@ -70,7 +75,7 @@ fn push_column(
     fields: &[Field],
     column: usize,
 ) -> Result<(), OutOfMemory>
-    ensures { OnOk result (chosen.new.items ≡ chosen.old.items ++ kept (column ∷ []) fields.now) }
+    ensures { OnOk result (chosen.new.items ≡ chosen.old.items ++ kept_columns (column ∷ []) fields.now) }
 {
     if let Some(field) = fields.get(column) {
         let copied = field.copy(alloc)?;

@@ -27,11 +27,20 @@ pub enum Operand {
 }
 
 /// A test of a pair of payloads. Its left side is a column, which counts like that of an `Operand`.
-#[derive(Drop)]
 pub struct Test {
     pub left: usize,
     pub op: Op,
     pub right: Operand,
+}
+
+impl Drop for Test {
+    fn drop(self) {
+        let Test {
+            left: _,
+            op: _,
+            right: _,
+        } = self;
+    }
 }
 
 impl Op {

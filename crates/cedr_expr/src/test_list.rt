@@ -14,9 +14,14 @@ use std::alloc::Global;
 use std::marker::Model;
 
 /// Tests that a pair of payloads passes where it passes each. Contracts see their list.
-#[derive(Drop)]
 pub struct Tests {
     tests: Vec<Test>,
+}
+
+impl Drop for Tests {
+    fn drop(self) {
+        let Tests { tests: _ } = self;
+    }
 }
 
 impl Model for Tests {

@@ -6,16 +6,16 @@ use Rattle.std.proofs.lemmas.List.{append-nil}
 use Rattle.cedr_base.specs.declared.row.Row.{Row}
 use Rattle.cedr_text.specs.declared.event_line.EventLine.{EventLine}
 use Rattle.cedr_text.specs.declared.event_line.EventLine.TheVariants.{Insert, Retract, Promise}
-use Rattle.cedr_guard.specs.Judging.{ends_of, least_of, row_after}
+use Rattle.cedr_guard.specs.Judging.{ends_of, least_end, row_after}
 use Rattle.cedr_guard.specs.History.{rows_among}
-use Rattle.cedr_guard.specs.Standing.{place_of, AreApart, AreKnown}
+use Rattle.cedr_guard.specs.Standing.{place_of_event, AreApart, AreKnown}
 use Rattle.cedr_guard.proofs.EventLemmas.{ends_of-append, ends_of-retract, rows_among-append, rows_among-alike, rows_among-retract, place_of-insert, place_of-retract, place_of-promise, no_place, flipped, cut_at}
 
-apart-insert : (id : ℕ) (row : Row) (xs : List EventLine) → AreApart xs → place_of id xs ≡ None → AreApart (xs ++ Insert id row ∷ [])
+apart-insert : (id : ℕ) (row : Row) (xs : List EventLine) → AreApart xs → place_of_event id xs ≡ None → AreApart (xs ++ Insert id row ∷ [])
 apart-insert id row [] apart none = (refl, tt)
 apart-insert id row (Insert first r ∷ xs) apart none =
-    let parts = no_place (eqb first id) (place_of id xs) none in
-    let first_none : place_of first (xs ++ Insert id row ∷ []) ≡ None =
+    let parts = no_place (eqb first id) (place_of_event id xs) none in
+    let first_none : place_of_event first (xs ++ Insert id row ∷ []) ≡ None =
     place_of-insert first id row [] xs
     ∙ (ap (λ place. option_or place (cond (eqb id first) (Some (length (rows_among [] xs))) None)) apart.0
     ∙ ap (λ test. cond test (Some (length (rows_among [] xs))) None) (flipped first id false parts.0)) in
@@ -45,37 +45,37 @@ no_place_before None other h = refl
 no_place_before (Some place) other h = cc
 
 -- an id that wasn't inserted is
-pub known-insert : (id : ℕ) (row : Row) (before : List EventLine) → AreKnown before → place_of id before ≡ None → AreKnown (before ++ Insert id row ∷ [])
+pub known-insert : (id : ℕ) (row : Row) (before : List EventLine) → AreKnown before → place_of_event id before ≡ None → AreKnown (before ++ Insert id row ∷ [])
 known-insert id row before are none = record {
   apart = apart-insert id row before are.apart none;
-  known = λ q nowhere. ends_of-insert q id row before ∙ are.known q (no_place_before (place_of q before) _ (sym (place_of-insert q id row [] before) ∙ nowhere));
+  known = λ q nowhere. ends_of-insert q id row before ∙ are.known q (no_place_before (place_of_event q before) _ (sym (place_of-insert q id row [] before) ∙ nowhere));
 }
 
 -- its row is one more
-pub rows-insert : (id : ℕ) (row : Row) (before : List EventLine) → AreKnown before → place_of id before ≡ None
+pub rows-insert : (id : ℕ) (row : Row) (before : List EventLine) → AreKnown before → place_of_event id before ≡ None
     → rows_among (before ++ Insert id row ∷ []) (before ++ Insert id row ∷ []) ≡ rows_among before before ++ row ∷ []
 rows-insert id row before are none =
     let all = before ++ Insert id row ∷ [] in
-    let fresh : row_after id row (before ++ Insert id row ∷ []) ≡ row = ap (λ ends. record row { end = least_of row.end ends }) (ends_of-insert id id row before ∙ are.known id none) in
+    let fresh : row_after id row (before ++ Insert id row ∷ []) ≡ row = ap (λ ends. record row { end = least_end row.end ends }) (ends_of-insert id id row before ∙ are.known id none) in
     rows_among-append all before (Insert id row ∷ [])
     ∙ (ap (λ rows. rows ++ row_after id row all ∷ []) (rows_among-alike all before before (λ q. ends_of-insert q id row before))
     ∙ ap (λ r. rows_among before before ++ r ∷ []) fresh)
 
 -- ---- one more retraction
 
-known_at : (id end q p : ℕ) (before : List EventLine) → AreKnown before → place_of id before ≡ Some p → (t : Bool) → eqb q id ≡ t → place_of q before ≡ None → ends_of q (before ++ Retract id end ∷ []) ≡ []
-known_at id end q p before are at true h nowhere = let same = subst (λ (i : ℕ). place_of i before ≡ None) (eqb-true q id h) nowhere in cc
+known_at : (id end q p : ℕ) (before : List EventLine) → AreKnown before → place_of_event id before ≡ Some p → (t : Bool) → eqb q id ≡ t → place_of_event q before ≡ None → ends_of q (before ++ Retract id end ∷ []) ≡ []
+known_at id end q p before are at true h nowhere = let same = subst (λ (i : ℕ). place_of_event i before ≡ None) (eqb-true q id h) nowhere in cc
 known_at id end q p before are at false h nowhere = ends_of-retract q id end before false h ∙ (append-nil (ends_of q before) ∙ are.known q nowhere)
 
 -- an inserted id may be retracted
-pub known-retract : (id end p : ℕ) (before : List EventLine) → AreKnown before → place_of id before ≡ Some p → AreKnown (before ++ Retract id end ∷ [])
+pub known-retract : (id end p : ℕ) (before : List EventLine) → AreKnown before → place_of_event id before ≡ Some p → AreKnown (before ++ Retract id end ∷ [])
 known-retract id end p before are at = record {
   apart = apart-retract id end before are.apart;
   known = λ q nowhere. known_at id end q p before are at (eqb q id) refl (sym (place_of-retract q id end before) ∙ nowhere);
 }
 
 -- its row ends earlier
-pub rows-retract : (id end p : ℕ) (d : Row) (before : List EventLine) → AreKnown before → place_of id before ≡ Some p → end ≤ (get_or (rows_among before before) p d).end
+pub rows-retract : (id end p : ℕ) (d : Row) (before : List EventLine) → AreKnown before → place_of_event id before ≡ Some p → end ≤ (get_or (rows_among before before) p d).end
     → rows_among (before ++ Retract id end ∷ []) (before ++ Retract id end ∷ []) ≡ cut_at p d end (rows_among before before)
 rows-retract id end p d before are at low =
     rows_among-append (before ++ Retract id end ∷ []) before (Retract id end ∷ [])

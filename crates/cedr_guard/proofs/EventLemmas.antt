@@ -8,9 +8,9 @@ use Rattle.std.proofs.lemmas.List.{append-nil}
 use Rattle.cedr_base.specs.declared.row.Row.{Row}
 use Rattle.cedr_text.specs.declared.event_line.EventLine.{EventLine}
 use Rattle.cedr_text.specs.declared.event_line.EventLine.TheVariants.{Insert, Retract, Promise}
-use Rattle.cedr_guard.specs.Judging.{guarantee_of, ends_of, least_of, row_after, event_among}
+use Rattle.cedr_guard.specs.Judging.{guarantee_of, ends_of, least_end, row_after, event_among}
 use Rattle.cedr_guard.specs.History.{rows_among}
-use Rattle.cedr_guard.specs.Standing.{place_of, AreApart}
+use Rattle.cedr_guard.specs.Standing.{place_of_event, AreApart}
 
 -- ---- appended lines
 
@@ -27,7 +27,7 @@ ends_of-append id (Retract other end ∷ xs) ys =
 ends_of-append id (Promise time ∷ xs) ys = ends_of-append id xs ys
 
 -- with one more end, the least is the lesser of that end and the least before
-pub least_of-push : (end : ℕ) (xs : List ℕ) (other : ℕ) → least_of end (xs ++ other ∷ []) ≡ min other (least_of end xs)
+pub least_of-push : (end : ℕ) (xs : List ℕ) (other : ℕ) → least_end end (xs ++ other ∷ []) ≡ min other (least_end end xs)
 least_of-push end [] other = refl
 least_of-push end (x ∷ xs) other = let rest = least_of-push end xs other in omega arith
 
@@ -49,7 +49,7 @@ rows_among-append all (Promise time ∷ xs) ys = rows_among-append all xs ys
 pub rows_among-alike : (all others xs : List EventLine) → ((id : ℕ) → ends_of id all ≡ ends_of id others) → rows_among all xs ≡ rows_among others xs
 rows_among-alike all others [] same = refl
 rows_among-alike all others (Insert id row ∷ xs) same =
-    let here = ap (λ ends. record row { end = least_of row.end ends }) (same id) in
+    let here = ap (λ ends. record row { end = least_end row.end ends }) (same id) in
     let rest = rows_among-alike all others xs same in
     cc
 rows_among-alike all others (Retract id end ∷ xs) same = rows_among-alike all others xs same
@@ -67,26 +67,26 @@ next_place true n = refl
 next_place false n = refl
 
 -- an insertion after others has the next place
-pub place_of-insert : (id other : ℕ) (row : Row) (all xs : List EventLine) → place_of id (xs ++ Insert other row ∷ []) ≡ option_or (place_of id xs) (cond (eqb other id) (Some (length (rows_among all xs))) None)
+pub place_of-insert : (id other : ℕ) (row : Row) (all xs : List EventLine) → place_of_event id (xs ++ Insert other row ∷ []) ≡ option_or (place_of_event id xs) (cond (eqb other id) (Some (length (rows_among all xs))) None)
 place_of-insert id other row all [] = refl
 place_of-insert id other row all (Insert first r ∷ xs) =
     let found = eqb first id in
     let here = cond (eqb other id) (Some (length (rows_among all xs))) None in
     ap (λ place. cond found (Some 0) (option_map (λ n. suc n) place)) (place_of-insert id other row all xs)
-    ∙ (place_behind found (place_of id xs) here
-    ∙ ap (λ place. option_or (cond found (Some 0) (option_map (λ n. suc n) (place_of id xs))) place) (next_place (eqb other id) (length (rows_among all xs))))
+    ∙ (place_behind found (place_of_event id xs) here
+    ∙ ap (λ place. option_or (cond found (Some 0) (option_map (λ n. suc n) (place_of_event id xs))) place) (next_place (eqb other id) (length (rows_among all xs))))
 place_of-insert id other row all (Retract first end ∷ xs) = place_of-insert id other row all xs
 place_of-insert id other row all (Promise time ∷ xs) = place_of-insert id other row all xs
 
 -- one more retraction changes no id's place
-pub place_of-retract : (id other end : ℕ) (xs : List EventLine) → place_of id (xs ++ Retract other end ∷ []) ≡ place_of id xs
+pub place_of-retract : (id other end : ℕ) (xs : List EventLine) → place_of_event id (xs ++ Retract other end ∷ []) ≡ place_of_event id xs
 place_of-retract id other end [] = refl
 place_of-retract id other end (Insert first r ∷ xs) = ap (λ place. cond (eqb first id) (Some 0) (option_map (λ n. suc n) place)) (place_of-retract id other end xs)
 place_of-retract id other end (Retract first e ∷ xs) = place_of-retract id other end xs
 place_of-retract id other end (Promise time ∷ xs) = place_of-retract id other end xs
 
 -- one more guarantee changes no id's place
-pub place_of-promise : (id time : ℕ) (xs : List EventLine) → place_of id (xs ++ Promise time ∷ []) ≡ place_of id xs
+pub place_of-promise : (id time : ℕ) (xs : List EventLine) → place_of_event id (xs ++ Promise time ∷ []) ≡ place_of_event id xs
 place_of-promise id time [] = refl
 place_of-promise id time (Insert first r ∷ xs) = ap (λ place. cond (eqb first id) (Some 0) (option_map (λ n. suc n) place)) (place_of-promise id time xs)
 place_of-promise id time (Retract first e ∷ xs) = place_of-promise id time xs
@@ -100,9 +100,9 @@ event_at false first d rows None event is = is
 event_at false first d rows (Some p) event is = is
 
 -- the event of an id is the row at its place, and there is none where the id has no place
-pub event_place : (id : ℕ) (all xs : List EventLine) (d : Row) → event_among id all xs ≡ option_map (λ p. get_or (rows_among all xs) p d) (place_of id xs)
+pub event_place : (id : ℕ) (all xs : List EventLine) (d : Row) → event_among id all xs ≡ option_map (λ p. get_or (rows_among all xs) p d) (place_of_event id xs)
 event_place id all [] d = refl
-event_place id all (Insert other row ∷ xs) d = event_at (eqb other id) (row_after other row all) d (rows_among all xs) (place_of id xs) (event_among id all xs) (event_place id all xs d)
+event_place id all (Insert other row ∷ xs) d = event_at (eqb other id) (row_after other row all) d (rows_among all xs) (place_of_event id xs) (event_among id all xs) (event_place id all xs d)
 event_place id all (Retract other end ∷ xs) d = event_place id all xs d
 event_place id all (Promise time ∷ xs) d = event_place id all xs d
 
@@ -119,9 +119,9 @@ no_place false None h = (refl, refl)
 no_place false (Some q) h = cc
 
 -- an event's place is that of a row
-pub place_below : (id : ℕ) (all xs : List EventLine) (p : ℕ) → place_of id xs ≡ Some p → p < length (rows_among all xs)
+pub place_below : (id : ℕ) (all xs : List EventLine) (p : ℕ) → place_of_event id xs ≡ Some p → p < length (rows_among all xs)
 place_below id all [] p h = cc
-place_below id all (Insert other row ∷ xs) p h = elim (place_cases (eqb other id) (place_of id xs) p h) [
+place_below id all (Insert other row ∷ xs) p h = elim (place_cases (eqb other id) (place_of_event id xs) p h) [
   | inl here ↦ omega (arith, here.1)
   | inr later ↦ omega (arith, later.1.2, place_below id all xs later.1.0 later.1.1)
 ]
@@ -141,21 +141,21 @@ ends_of-retract other id end all t h = ends_of-append other all (Retract id end 
 
 -- the row of an event that it isn't about stays
 other_row : (id end other : ℕ) (row : Row) (all : List EventLine) → eqb other id ≡ false → row_after other row (all ++ Retract id end ∷ []) ≡ row_after other row all
-other_row id end other row all apart = ap (λ ends. record row { end = least_of row.end ends }) (ends_of-retract other id end all false apart ∙ append-nil (ends_of other all))
+other_row id end other row all apart = ap (λ ends. record row { end = least_end row.end ends }) (ends_of-retract other id end all false apart ∙ append-nil (ends_of other all))
 
 -- the row of its event ends at the new end, where that is below its end
 this_row : (id end other : ℕ) (row : Row) (all : List EventLine) → eqb other id ≡ true → end ≤ (row_after other row all).end
     → row_after other row (all ++ Retract id end ∷ []) ≡ record (row_after other row all) { end = end }
 this_row id end other row all same low =
-    let least : least_of row.end (ends_of other (all ++ Retract id end ∷ [])) ≡ end =
-    ap (least_of row.end) (ends_of-retract other id end all true same) ∙ (least_of-push row.end (ends_of other all) end ∙ omega arith) in
+    let least : least_end row.end (ends_of other (all ++ Retract id end ∷ [])) ≡ end =
+    ap (least_end row.end) (ends_of-retract other id end all true same) ∙ (least_of-push row.end (ends_of other all) end ∙ omega arith) in
     ap (λ e. record row { end = e }) least
 
 -- no event has this id
-pub rows_among-retract_other : (id end : ℕ) (all xs : List EventLine) → place_of id xs ≡ None → rows_among (all ++ Retract id end ∷ []) xs ≡ rows_among all xs
+pub rows_among-retract_other : (id end : ℕ) (all xs : List EventLine) → place_of_event id xs ≡ None → rows_among (all ++ Retract id end ∷ []) xs ≡ rows_among all xs
 rows_among-retract_other id end all [] none = refl
 rows_among-retract_other id end all (Insert other row ∷ xs) none =
-    let apart = no_place (eqb other id) (place_of id xs) none in
+    let apart = no_place (eqb other id) (place_of_event id xs) none in
     let here = other_row id end other row all apart.0 in
     let rest = rows_among-retract_other id end all xs apart.1 in
     cc
@@ -170,14 +170,14 @@ both : (new old : Row) (news olds : List Row) → new ≡ old → news ≡ olds 
 both new old news olds h t = cc
 
 -- the event of this id ends earlier
-pub rows_among-retract : (id end : ℕ) (all xs : List EventLine) (p : ℕ) (d : Row) → AreApart xs → place_of id xs ≡ Some p → end ≤ (get_or (rows_among all xs) p d).end
+pub rows_among-retract : (id end : ℕ) (all xs : List EventLine) (p : ℕ) (d : Row) → AreApart xs → place_of_event id xs ≡ Some p → end ≤ (get_or (rows_among all xs) p d).end
     → rows_among (all ++ Retract id end ∷ []) xs ≡ cut_at p d end (rows_among all xs)
 rows_among-retract id end all [] p d apart at low = cc
 rows_among-retract id end all (Insert other row ∷ xs) p d apart at low =
-    elim (place_cases (eqb other id) (place_of id xs) p at) [
+    elim (place_cases (eqb other id) (place_of_event id xs) p at) [
       | inl here ↦
           let low_here : end ≤ (row_after other row all).end = subst (λ (n : ℕ). end ≤ (get_or (row_after other row all ∷ rows_among all xs) n d).end) here.1 low in
-          let none : place_of id xs ≡ None = subst (λ (i : ℕ). place_of i xs ≡ None) (eqb-true other id here.0) apart.0 in
+          let none : place_of_event id xs ≡ None = subst (λ (i : ℕ). place_of_event i xs ≡ None) (eqb-true other id here.0) apart.0 in
           subst (λ (n : ℕ). ◌≡◌ {A = List Row} (row_after other row (all ++ Retract id end ∷ []) ∷ rows_among (all ++ Retract id end ∷ []) xs) (cut_at n d end (row_after other row all ∷ rows_among all xs))) (sym here.1)
           (both _ _ _ _ (this_row id end other row all here.0 low_here) (rows_among-retract_other id end all xs none))
       | inr later ↦

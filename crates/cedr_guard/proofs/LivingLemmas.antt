@@ -9,7 +9,7 @@ use Rattle.std.proofs.lemmas.List.Elements.{filter-append}
 use Rattle.cedr_base.specs.declared.row.Row.{Row}
 use Rattle.cedr_base.specs.Rows.{one_if_same, count_of, in_order}
 use Rattle.cedr_base.specs.Changes.{remnant}
-use Rattle.cedr_guard.specs.History.{lives}
+use Rattle.cedr_guard.specs.History.{row_lives}
 use Rattle.cedr_guard.proofs.EventLemmas.{cut_at}
 use Rattle.cedr_base.proofs.Bags.{count_of-append, count_of-cons, one_of_itself}
 use Rattle.cedr_base.proofs.Sorting.{in_order_counts}
@@ -28,10 +28,10 @@ in_order_count r xs = sym ((in_order_counts xs).each r)
 -- ---- rows that live
 
 -- one more row that lives
-pub living_push : (r x : Row) (xs : List Row) → x.begin < x.end → count_of r (filter lives (xs ++ x ∷ [])) ≡ count_of r (filter lives xs) + one_if_same r x
+pub living_push : (r x : Row) (xs : List Row) → x.begin < x.end → count_of r (filter row_lives (xs ++ x ∷ [])) ≡ count_of r (filter row_lives xs) + one_if_same r x
 living_push r x xs alive =
-    ap (count_of r) (filter-append lives xs (x ∷ []) ∙ ap (λ test. filter lives xs ++ cond test (x ∷ []) []) (lt-ltb x.begin x.end alive))
-    ∙ (count_of-append r (filter lives xs) (x ∷ []) ∙ omega (arith, count_of-cons r x []))
+    ap (count_of r) (filter-append row_lives xs (x ∷ []) ∙ ap (λ test. filter row_lives xs ++ cond test (x ∷ []) []) (lt-ltb x.begin x.end alive))
+    ∙ (count_of-append r (filter row_lives xs) (x ∷ []) ∙ omega (arith, count_of-cons r x []))
 
 living_first : (x : Row) (rest : List Row) (test : Bool) → test ≡ true → 0 < count_of x (cond test (x ∷ rest) rest)
 living_first x rest true h = omega (arith, count_of-cons x x rest, one_of_itself x)
@@ -42,10 +42,10 @@ living_later r x rest true h = omega (arith, h, count_of-cons r x rest)
 living_later r x rest false h = h
 
 -- a row that lives is counted
-pub living_at : (xs : List Row) (p : ℕ) (d : Row) → p < length xs → (get_or xs p d).begin < (get_or xs p d).end → 0 < count_of (get_or xs p d) (filter lives xs)
+pub living_at : (xs : List Row) (p : ℕ) (d : Row) → p < length xs → (get_or xs p d).begin < (get_or xs p d).end → 0 < count_of (get_or xs p d) (filter row_lives xs)
 living_at [] p d within alive = absurd (omega arith)
-living_at (x ∷ xs) zero d within alive = living_first x (filter lives xs) (lives x) (lt-ltb x.begin x.end alive)
-living_at (x ∷ xs) (suc p) d within alive = living_later (get_or xs p d) x (filter lives xs) (lives x) (living_at xs p d (omega arith) alive)
+living_at (x ∷ xs) zero d within alive = living_first x (filter row_lives xs) (row_lives x) (lt-ltb x.begin x.end alive)
+living_at (x ∷ xs) (suc p) d within alive = living_later (get_or xs p d) x (filter row_lives xs) (row_lives x) (living_at xs p d (omega arith) alive)
 
 cut_first_at : (r x y : Row) (rest : List Row) (old new : Bool) → old ≡ true
     → count_of r (cond new (y ∷ rest) rest) + one_if_same r x ≡ count_of r (cond old (x ∷ rest) rest) + count_of r (cond new (y ∷ []) [])
@@ -60,8 +60,8 @@ cut_later_at r x news olds gone come false h = h
 
 -- a row that ends earlier leaves what a retraction of it leaves
 pub living_cut : (r : Row) (xs : List Row) (p : ℕ) (d : Row) (end : ℕ) → p < length xs → (get_or xs p d).begin < (get_or xs p d).end
-    → count_of r (filter lives (cut_at p d end xs)) + one_if_same r (get_or xs p d) ≡ count_of r (filter lives xs) + count_of r (remnant (get_or xs p d) end)
+    → count_of r (filter row_lives (cut_at p d end xs)) + one_if_same r (get_or xs p d) ≡ count_of r (filter row_lives xs) + count_of r (remnant (get_or xs p d) end)
 living_cut r [] p d end within alive = absurd (omega arith)
-living_cut r (x ∷ xs) zero d end within alive = cut_first_at r x (record x { end = end }) (filter lives xs) (lives x) (nat_lt x.begin end) (lt-ltb x.begin x.end alive)
+living_cut r (x ∷ xs) zero d end within alive = cut_first_at r x (record x { end = end }) (filter row_lives xs) (row_lives x) (nat_lt x.begin end) (lt-ltb x.begin x.end alive)
 living_cut r (x ∷ xs) (suc p) d end within alive =
-    cut_later_at r x (filter lives (cut_at p d end xs)) (filter lives xs) (one_if_same r (get_or xs p d)) (count_of r (remnant (get_or xs p d) end)) (lives x) (living_cut r xs p d end (omega arith) alive)
+    cut_later_at r x (filter row_lives (cut_at p d end xs)) (filter row_lives xs) (one_if_same r (get_or xs p d)) (count_of r (remnant (get_or xs p d) end)) (row_lives x) (living_cut r xs p d end (omega arith) alive)

@@ -14,15 +14,15 @@ use Rattle.cedr_base.specs.Messages.{changes_of, mark_of, IsOpen, IsTableOf, IsL
 use Rattle.cedr_text.specs.declared.event_line.EventLine.{EventLine}
 use Rattle.cedr_text.specs.declared.event_line.EventLine.TheVariants.{Insert, Retract, Promise}
 use Rattle.cedr_text.specs.declared.fault.LineFault.TheVariants.{KnownId, BadEnd, BeforeGuarantee}
-use Rattle.cedr_guard.specs.Judging.{guarantee_of, ends_of, least_of, guarantee_fault, retraction_fault, IsAccepted, AreAccepted, AreAcceptedBehind}
-use Rattle.cedr_guard.specs.History.{lives, rows_among, history_of}
+use Rattle.cedr_guard.specs.Judging.{guarantee_of, ends_of, least_end, guarantee_fault, retraction_fault, IsAccepted, AreAccepted, AreAcceptedBehind}
+use Rattle.cedr_guard.specs.History.{row_lives, rows_among, history_of}
 use Rattle.cedr_guard.specs.Messages.{message_of, cut_of, messages_behind}
-use Rattle.cedr_guard.specs.Standing.{place_of, AreKnown}
+use Rattle.cedr_guard.specs.Standing.{place_of_event, AreKnown}
 use Rattle.cedr_guard.proofs.EventLemmas.{guarantee_of-append, event_place, place_below}
 use Rattle.cedr_guard.proofs.ApartLemmas.{known-insert, known-retract, known-promise, rows-insert, rows-retract, rows-promise}
 use Rattle.cedr_guard.proofs.LivingLemmas.{count_of-push, in_order_count, living_push, living_at, living_cut}
 use Rattle.cedr_base.proofs.Bags.{count_of-append}
-use Rattle.cedr_stream.proofs.Legal.{changes-append, mark-append, open-append, legal-append}
+use Rattle.change_laws.proofs.Legal.{changes-append, mark-append, open-append, legal-append}
 
 -- ---- what messages and accepted lines have in common
 
@@ -35,7 +35,7 @@ HaveRows (Promise time ∷ lines) = HaveRows lines
 
 -- the rows that live after the lines
 abbrev living : List EventLine → List Row
-living lines = filter lives (rows_among lines lines)
+living lines = filter row_lives (rows_among lines lines)
 
 -- messages that accepted lines became
 pub record AreOf (lines : List EventLine) (ms : List Message) : Type 0 where
@@ -80,7 +80,7 @@ in_time sync mark h = in_time_at (nat_lt sync mark) sync mark refl h
 
 follows-insert : (before : List EventLine) (ms : List Message) (id : ℕ) (row : Row) → AreOf before ms → IsAccepted before (Insert id row) → Follows before (Insert id row) ms (message.Change (Add row) ∷ [])
 follows-insert before ms id row are accepted =
-    let fresh = fresh_at (place_of id before) (rows_among before before) row row.begin (guarantee_of before)
+    let fresh = fresh_at (place_of_event id before) (rows_among before before) row row.begin (guarantee_of before)
     (subst (λ event. cond (is_some event) (Some KnownId) (guarantee_fault row.begin (guarantee_of before)) ≡ None) (event_place id before before row) accepted.faultless) in
     let early = in_time row.begin (guarantee_of before) fresh.1 in
     let now = rows-insert id row before are.known fresh.0 in
@@ -90,7 +90,7 @@ follows-insert before ms id row are accepted =
         goes_on = open-append ms (message.Change (Add row) ∷ []) are.goes_on tt;
         mark = omega (arith, are.mark, mark-append ms (message.Change (Add row) ∷ []), guarantee_of-append before (Insert id row ∷ []));
         table = λ r. table-push r ms (Add row) (living before) (living (before ++ Insert id row ∷ [])) (are.table r)
-            (omega (arith, ap (λ rows. count_of r (filter lives rows)) now, living_push r row (rows_among before before) accepted.event.lives));
+            (omega (arith, ap (λ rows. count_of r (filter row_lives rows)) now, living_push r row (rows_among before before) accepted.event.lives));
         known = known-insert id row before are.known fresh.0;
         rows = rows-append before (Insert id row ∷ []) are.rows (accepted.event, tt);
       };
@@ -101,7 +101,7 @@ follows-insert before ms id row are accepted =
 no_row : Row
 no_row = record { end = 0; begin = 0; payload = [] }
 
-least_below : (end : ℕ) (ends : List ℕ) → least_of end ends ≤ end
+least_below : (end : ℕ) (ends : List ℕ) → least_end end ends ≤ end
 least_below end [] = omega arith
 least_below end (other ∷ ends) = omega (arith, least_below end ends)
 
@@ -131,7 +131,7 @@ retracted_at (Some p) rows end mark h =
     let row = get_or rows p no_row in
     (p, refl, end_at (nat_le row.begin end) (nat_lt end row.end) row end mark refl refl h)
 
-follows-cut : (before : List EventLine) (ms : List Message) (id end p : ℕ) → AreOf before ms → place_of id before ≡ Some p → IsEnd (get_or (rows_among before before) p no_row) end (guarantee_of before)
+follows-cut : (before : List EventLine) (ms : List Message) (id end p : ℕ) → AreOf before ms → place_of_event id before ≡ Some p → IsEnd (get_or (rows_among before before) p no_row) end (guarantee_of before)
     → Follows before (Retract id end) ms (message.Change (Cut (get_or (rows_among before before) p no_row) end) ∷ [])
 follows-cut before ms id end p are at right =
     let rows = rows_among before before in
@@ -151,7 +151,7 @@ follows-cut before ms id end p are at right =
         goes_on = open-append ms (change ∷ []) are.goes_on tt;
         mark = omega (arith, are.mark, mark-append ms (change ∷ []), guarantee_of-append before (Retract id end ∷ []));
         table = λ r. table-push r ms (Cut row end) (living before) (living (before ++ Retract id end ∷ [])) (are.table r)
-            (omega (arith, ap (λ rows. count_of r (filter lives rows)) now, living_cut r rows p no_row end within alive));
+            (omega (arith, ap (λ rows. count_of r (filter row_lives rows)) now, living_cut r rows p no_row end within alive));
         known = known-retract id end p before are.known at;
         rows = rows-append before (Retract id end ∷ []) are.rows tt;
       };
@@ -161,7 +161,7 @@ follows-retract : (before : List EventLine) (ms : List Message) (id end : ℕ) �
 follows-retract before ms id end are accepted =
     let rows = rows_among before before in
     let event = event_place id before before no_row in
-    let right = retracted_at (place_of id before) rows end (guarantee_of before) (subst (λ found. retraction_fault found end (guarantee_of before) ≡ None) event accepted.faultless) in
+    let right = retracted_at (place_of_event id before) rows end (guarantee_of before) (subst (λ found. retraction_fault found end (guarantee_of before) ≡ None) event accepted.faultless) in
     let found = event ∙ ap (option_map (λ p. get_or (rows_among before before) p no_row)) right.1 in
     subst (λ found. Follows before (Retract id end) ms (cut_of found end)) (sym found) (follows-cut before ms id end right.0 are right.1 right.2)
 
@@ -177,7 +177,7 @@ follows-rise before ms time true rises are finite =
       all = record {
         goes_on = open-append ms (message.Mark time ∷ []) are.goes_on tt;
         mark = omega (arith, are.mark, mark-append ms (message.Mark time ∷ []), guarantee_of-append before (Promise time ∷ []));
-        table = λ r. omega (arith, are.table r, ap (λ rows. count_of r (filter lives rows)) (rows-promise time before), ap (λ cs. count_of r (all_takes cs)) changes, ap (λ cs. count_of r (all_puts cs)) changes);
+        table = λ r. omega (arith, are.table r, ap (λ rows. count_of r (filter row_lives rows)) (rows-promise time before), ap (λ cs. count_of r (all_takes cs)) changes, ap (λ cs. count_of r (all_puts cs)) changes);
         known = known-promise time before are.known;
         rows = rows-append before (Promise time ∷ []) are.rows tt;
       };
@@ -189,7 +189,7 @@ follows-rise before ms time false rises are finite =
       all = subst (AreOf (before ++ Promise time ∷ [])) (sym (append-nil ms)) (record {
         goes_on = are.goes_on;
         mark = omega (arith, are.mark, low, guarantee_of-append before (Promise time ∷ []));
-        table = λ r. omega (arith, are.table r, ap (λ rows. count_of r (filter lives rows)) (rows-promise time before));
+        table = λ r. omega (arith, are.table r, ap (λ rows. count_of r (filter row_lives rows)) (rows-promise time before));
         known = known-promise time before are.known;
         rows = rows-append before (Promise time ∷ []) are.rows tt;
       });

@@ -23,7 +23,7 @@ use Rattle.cedr_text.specs.Reading.{IsEvent}
 use Rattle.cedr_guard.specs.Messages.{messages_behind}
 use Rattle.cedr_guard.specs.Sources.{with_event, with_reading, line_reading, Judged, go_on, judged_behind, judged_lines, judged_front, judged, ending, messages_of, history_of_bytes, whole_lines}
 use Rattle.cedr_guard.proofs.MessageLemmas.{AreLegalOf, accepted_messages, table_is_history}
-use Rattle.cedr_stream.proofs.Legal.{changes-append, legal-append}
+use Rattle.change_laws.proofs.Legal.{changes-append, legal-append}
 use Rattle.cedr_text.proofs.ReadingLemmas.{unless_long}
 
 -- the law of what lines say

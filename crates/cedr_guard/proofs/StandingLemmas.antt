@@ -10,9 +10,9 @@ use Rattle.cedr_text.specs.declared.event_line.EventLine.TheVariants.{Insert, Re
 use Rattle.cedr_text.specs.declared.fault.LineFault.TheVariants.{KnownId, BadEnd}
 use Rattle.cedr_guard.specs.declared.judge.Judge.{Judge}
 use Rattle.cedr_base.specs.declared.interval.Interval.{Interval}
-use Rattle.cedr_guard.specs.Judging.{guarantee_of, event_of, fault_behind, guarantee_fault, retraction_fault}
+use Rattle.cedr_guard.specs.Judging.{guarantee_of, event_with, fault_behind, guarantee_fault, retraction_fault}
 use Rattle.cedr_guard.specs.History.{rows_among}
-use Rattle.cedr_guard.specs.Standing.{place_of, place_in, interval_of, StandsFor}
+use Rattle.cedr_guard.specs.Standing.{place_of_event, place_in, interval_of, StandsFor}
 use Rattle.cedr_guard.proofs.ApartLemmas.{known-insert, known-retract, known-promise, rows-insert, rows-retract, rows-promise}
 use Rattle.cedr_guard.proofs.EventLemmas.{guarantee_of-append, place_of-insert, place_of-retract, place_of-promise, event_place, place_below}
 
@@ -20,7 +20,7 @@ use Rattle.cedr_guard.proofs.EventLemmas.{guarantee_of-append, place_of-insert, 
 
 -- a judge stands for one more insertion of a new id, where it adds the interval and the id's place, and
 -- keeps its mark
-pub stands-insert : (judge next : Judge) (before : List EventLine) (id : ℕ) (row : Row) → StandsFor judge before → place_of id before ≡ None
+pub stands-insert : (judge next : Judge) (before : List EventLine) (id : ℕ) (row : Row) → StandsFor judge before → place_of_event id before ≡ None
     → next.intervals.items ≡ judge.intervals.items ++ interval_of row ∷ []
     → ((q : ℕ) → place_in next.ids q ≡ option_or (place_in judge.ids q) (cond (eqb id q) (Some (length judge.intervals.items)) None))
     → next.mark ≡ judge.mark → StandsFor next (before ++ Insert id row ∷ [])
@@ -33,7 +33,7 @@ stands-insert judge next before id row stands none intervals places mark =
           ∙ ap (map interval_of) (sym (rows-insert id row before stands.ids none))));
       places = λ q. places q
           ∙ (ap (λ place. option_or place (cond (eqb id q) (Some (length judge.intervals.items)) None)) (stands.places q)
-          ∙ (ap (λ (n : ℕ). option_or (place_of q before) (cond (eqb id q) (Some n) None)) count
+          ∙ (ap (λ (n : ℕ). option_or (place_of_event q before) (cond (eqb id q) (Some n) None)) count
           ∙ sym (place_of-insert q id row before before)));
       mark = mark ∙ (stands.mark ∙ (let g = guarantee_of-append before (Insert id row ∷ []) in omega arith));
       ids = known-insert id row before stands.ids none;
@@ -41,7 +41,7 @@ stands-insert judge next before id row stands none intervals places mark =
 
 -- a judge stands for one more retraction that ends an event no later, where it sets that end and changes
 -- nothing else
-pub stands-retract : (judge next : Judge) (before : List EventLine) (id end p : ℕ) (d : Row) → StandsFor judge before → place_of id before ≡ Some p
+pub stands-retract : (judge next : Judge) (before : List EventLine) (id end p : ℕ) (d : Row) → StandsFor judge before → place_of_event id before ≡ Some p
     → end ≤ (get_or (rows_among before before) p d).end → next.intervals.items ≡ set judge.intervals.items p (interval_of (record (get_or (rows_among before before) p d) { end = end }))
     → ((q : ℕ) → place_in next.ids q ≡ place_in judge.ids q) → next.mark ≡ judge.mark → StandsFor next (before ++ Retract id end ∷ [])
 stands-retract judge next before id end p d stands at low intervals places mark =
@@ -73,9 +73,9 @@ some_mapped f None = refl
 some_mapped f (Some p) = refl
 
 -- a judge has a place for an id exactly where there is an event with that id
-pub known_id : (judge : Judge) (before : List EventLine) (id : ℕ) (row : Row) → StandsFor judge before → is_some (event_of id before) ≡ is_some (place_in judge.ids id)
+pub known_id : (judge : Judge) (before : List EventLine) (id : ℕ) (row : Row) → StandsFor judge before → is_some (event_with id before) ≡ is_some (place_in judge.ids id)
 known_id judge before id row stands =
-    ap is_some (event_place id before before row) ∙ (some_mapped (λ p. get_or (rows_among before before) p row) (place_of id before) ∙ ap is_some (sym (stands.places id)))
+    ap is_some (event_place id before before row) ∙ (some_mapped (λ p. get_or (rows_among before before) p row) (place_of_event id before) ∙ ap is_some (sym (stands.places id)))
 
 -- the fault of an insertion
 pub fault-insert : (judge : Judge) (before : List EventLine) (id : ℕ) (row : Row) → StandsFor judge before
@@ -85,7 +85,7 @@ fault-insert judge before id row stands =
     ∙ ap (λ mark. cond (is_some (place_in judge.ids id)) (Some KnownId) (guarantee_fault row.begin mark)) (sym stands.mark)
 
 -- an id at this place has the row there
-pub event_here : (judge : Judge) (before : List EventLine) (id p : ℕ) (d : Row) → StandsFor judge before → place_in judge.ids id ≡ Some p → event_of id before ≡ Some (get_or (rows_among before before) p d)
+pub event_here : (judge : Judge) (before : List EventLine) (id p : ℕ) (d : Row) → StandsFor judge before → place_in judge.ids id ≡ Some p → event_with id before ≡ Some (get_or (rows_among before before) p d)
 event_here judge before id p d stands there =
     event_place id before before d ∙ ap (option_map (λ q. get_or (rows_among before before) q d)) (sym (stands.places id) ∙ there)
 

@@ -7,8 +7,8 @@ use Rattle.cedr_text.specs.declared.event_line.EventLine.TheVariants.{Insert, Re
 use Rattle.cedr_guard.specs.Judging.{row_after}
 
 -- a row lives: its valid interval isn't empty
-abbrev pub lives : Row → Bool
-lives row = nat_lt row.begin row.end
+abbrev pub row_lives : Row → Bool
+row_lives row = nat_lt row.begin row.end
 
 -- for each insertion its begin and payload with the least end among its own and those of its retractions
 abbrev pub rows_among : List EventLine → List EventLine → List Row
@@ -19,4 +19,4 @@ rows_among all (Promise time ∷ lines) = rows_among all lines
 
 -- the canonical history: those rows, without the empty ones, in canonical order
 abbrev pub history_of : List EventLine → List Row
-history_of lines = in_order (filter lives (rows_among lines lines))
+history_of lines = in_order (filter row_lives (rows_among lines lines))

@@ -24,13 +24,13 @@ ends_of id (Retract other end ∷ lines) = if other == id then end ∷ ends_of i
 ends_of id (Promise time ∷ lines) = ends_of id lines
 
 -- the least of an end and others
-abbrev pub least_of : ℕ → List ℕ → ℕ
-least_of end [] = end
-least_of end (other ∷ others) = min other (least_of end others)
+abbrev pub least_end : ℕ → List ℕ → ℕ
+least_end end [] = end
+least_end end (other ∷ others) = min other (least_end end others)
 
 -- an inserted row with the least end among its own and those of its retractions
 abbrev pub row_after : ℕ → Row → List EventLine → Row
-row_after id row lines = record row { end = least_of row.end (ends_of id lines) }
+row_after id row lines = record row { end = least_end row.end (ends_of id lines) }
 
 -- the row of the event with this id, as it is after all of the lines
 abbrev pub event_among : ℕ → List EventLine → List EventLine → Option Row
@@ -40,8 +40,8 @@ event_among id all (Retract other end ∷ lines) = event_among id all lines
 event_among id all (Promise time ∷ lines) = event_among id all lines
 
 -- the row of the event with this id among the lines, as it is after all of them
-abbrev pub event_of : ℕ → List EventLine → Option Row
-event_of id lines = event_among id lines lines
+abbrev pub event_with : ℕ → List EventLine → Option Row
+event_with id lines = event_among id lines lines
 
 -- ---- a line against the lines before it
 
@@ -56,8 +56,8 @@ retraction_fault (Some row) end mark = if nat_le row.begin end && nat_lt end row
 
 -- the least fault that a line has after these, if it has one
 abbrev pub fault_behind : List EventLine → EventLine → Option LineFault
-fault_behind before (Insert id row) = if is_some (event_of id before) then Some KnownId else guarantee_fault row.begin (guarantee_of before)
-fault_behind before (Retract id end) = retraction_fault (event_of id before) end (guarantee_of before)
+fault_behind before (Insert id row) = if is_some (event_with id before) then Some KnownId else guarantee_fault row.begin (guarantee_of before)
+fault_behind before (Retract id end) = retraction_fault (event_with id before) end (guarantee_of before)
 fault_behind before (Promise time) = None
 
 -- ---- accepted lines

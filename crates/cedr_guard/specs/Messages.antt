@@ -6,7 +6,7 @@ use Rattle.cedr_base.specs.declared.change.Message.{Message}
 use Rattle.cedr_base.specs.declared.change.Message.TheVariants as message
 use Rattle.cedr_text.specs.declared.event_line.EventLine.{EventLine}
 use Rattle.cedr_text.specs.declared.event_line.EventLine.TheVariants.{Insert, Retract, Promise}
-use Rattle.cedr_guard.specs.Judging.{guarantee_of, event_of}
+use Rattle.cedr_guard.specs.Judging.{guarantee_of, event_with}
 
 -- a retraction cuts its event's row as that is then
 abbrev pub cut_of : Option Row → ℕ → List Message
@@ -16,7 +16,7 @@ cut_of (Some row) end = message.Change (Cut row end) ∷ []
 -- a line's message after the lines before it: a guarantee that isn't above the earlier ones has none
 abbrev pub message_of : List EventLine → EventLine → List Message
 message_of before (Insert id row) = message.Change (Add row) ∷ []
-message_of before (Retract id end) = cut_of (event_of id before) end
+message_of before (Retract id end) = cut_of (event_with id before) end
 message_of before (Promise time) = if nat_lt (guarantee_of before) time then message.Mark time ∷ [] else []
 
 -- the messages of lines that come after others, line by line

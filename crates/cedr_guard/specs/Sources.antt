@@ -77,15 +77,15 @@ abbrev pub limit_fault : List ℕ → LineFault
 limit_fault line = if nat_lt LINE_LIMIT (length line) then LineTooLong else TooLarge
 
 -- the first fault, which is this one where there was none
-abbrev pub first_fault : Option Refusal → Refusal → Refusal
-first_fault None refusal = refusal
-first_fault (Some first) refusal = first
+abbrev pub first_refusal : Option Refusal → Refusal → Refusal
+first_refusal None refusal = refusal
+first_refusal (Some first) refusal = first
 
 -- its whole lines are judged, and then the line that follows them
 abbrev pub judged_front : Shape → List (List ℕ) → Judged
 judged_front shape parts = record {
   good = (judged_lines shape (whole_lines parts)).good;
-  fault = Some (first_fault (judged_lines shape (whole_lines parts)).fault (record { line = length (whole_lines parts) + 1; fault = limit_fault (unfinished_line parts) }));
+  fault = Some (first_refusal (judged_lines shape (whole_lines parts)).fault (record { line = length (whole_lines parts) + 1; fault = limit_fault (unfinished_line parts) }));
 }
 
 -- ---- all bytes

@@ -16,36 +16,36 @@ use Rattle.cedr_base.specs.declared.interval.Interval.{Interval}
 use Rattle.cedr_guard.specs.declared.judge.Judge.{Judge}
 use Rattle.cedr_guard.specs.declared.judge.Retracted.{Retracted}
 use Rattle.cedr_guard.specs.declared.guard.Guard.{Guard}
-use Rattle.cedr_guard.specs.Judging.{guarantee_of, ends_of, event_of, AreAccepted}
+use Rattle.cedr_guard.specs.Judging.{guarantee_of, ends_of, event_with, AreAccepted}
 use Rattle.cedr_guard.specs.History.{rows_among}
 use Rattle.cedr_guard.specs.Ids.{place_among}
 
 -- at which place among the insertions an id was inserted first
-abbrev pub place_of : ℕ → List EventLine → Option ℕ
-place_of id [] = None
-place_of id (Insert other row ∷ lines) = if other == id then Some 0 else option_map (λ n. suc n) (place_of id lines)
-place_of id (Retract other end ∷ lines) = place_of id lines
-place_of id (Promise time ∷ lines) = place_of id lines
+abbrev pub place_of_event : ℕ → List EventLine → Option ℕ
+place_of_event id [] = None
+place_of_event id (Insert other row ∷ lines) = if other == id then Some 0 else option_map (λ n. suc n) (place_of_event id lines)
+place_of_event id (Retract other end ∷ lines) = place_of_event id lines
+place_of_event id (Promise time ∷ lines) = place_of_event id lines
 
 -- no id is inserted twice
 abbrev pub AreApart : List EventLine → Type 0
 AreApart [] = Unit {0}
-AreApart (Insert id row ∷ lines) = (place_of id lines ≡ None) × AreApart lines
+AreApart (Insert id row ∷ lines) = (place_of_event id lines ≡ None) × AreApart lines
 AreApart (Retract id end ∷ lines) = AreApart lines
 AreApart (Promise time ∷ lines) = AreApart lines
 
 -- no id is inserted twice, and no line is about an event that another doesn't insert
 pub record AreKnown (lines : List EventLine) : Type 0 where
   pub apart : AreApart lines
-  pub known : (id : ℕ) → place_of id lines ≡ None → ends_of id lines ≡ []
+  pub known : (id : ℕ) → place_of_event id lines ≡ None → ends_of id lines ≡ []
 
 -- when a row is valid
 abbrev pub interval_of : Row → Interval
 interval_of row = record { begin = row.begin; end = row.end }
 
 -- the payload of a row
-abbrev pub payload_of : Row → List Field
-payload_of row = row.payload
+abbrev pub row_payload : Row → List Field
+row_payload row = row.payload
 
 -- the place of an id in the list, or else in the map
 abbrev pub place_in : Ids → ℕ → Option ℕ
@@ -55,14 +55,14 @@ place_in ids id = option_or (place_among id ids.rising.items) (get nat_cmp ids.o
 -- each id and the guarantee
 pub record StandsFor (judge : Judge) (lines : List EventLine) : Type 0 where
   pub intervals : judge.intervals.items ≡ map interval_of (rows_among lines lines)
-  pub places : (id : ℕ) → place_in judge.ids id ≡ place_of id lines
+  pub places : (id : ℕ) → place_in judge.ids id ≡ place_of_event id lines
   pub mark : judge.mark ≡ guarantee_of lines
   pub ids : AreKnown lines
 
 -- the guard stands for these lines: it has the payload of each event besides, and the lines are accepted
 pub record Guards (guard : Guard) (lines : List EventLine) : Type 0 where
   pub judge : StandsFor guard.judge lines
-  pub payloads : guard.payloads.items ≡ map payload_of (rows_among lines lines)
+  pub payloads : guard.payloads.items ≡ map row_payload (rows_among lines lines)
   pub accepted : AreAccepted lines
 
 -- the answer for a line whose least fault is known: that fault, unless memory ran out
@@ -73,10 +73,10 @@ Judges (Err guard_fault.OutOfMemory) fault = Unit {0}
 
 -- the event with this id, by its place among the insertions and its valid interval
 pub record IsEventOf (id : ℕ) (lines : List EventLine) (found : Retracted) : Type 0 where
-  pub place : place_of id lines ≡ Some found.place
-  pub interval : option_map interval_of (event_of id lines) ≡ Some found.interval
+  pub place : place_of_event id lines ≡ Some found.place
+  pub interval : option_map interval_of (event_with id lines) ≡ Some found.interval
 
 -- one message or none
-abbrev pub as_list : Option Message → List Message
-as_list None = []
-as_list (Some message) = message ∷ []
+abbrev pub message_list : Option Message → List Message
+message_list None = []
+message_list (Some message) = message ∷ []

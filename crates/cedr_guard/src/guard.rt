@@ -4,7 +4,7 @@ ghost use Rattle.cedr_text.specs.declared.event_line.EventLine.TheVariants.{Inse
 ghost use Rattle.cedr_guard.specs.Judging.{fault_behind, guarantee_of};
 ghost use Rattle.cedr_text.specs.Reading.{IsEvent};
 ghost use Rattle.cedr_guard.specs.Messages.{message_of};
-ghost use Rattle.cedr_guard.specs.Standing.{Guards, Judges, as_list};
+ghost use Rattle.cedr_guard.specs.Standing.{Guards, Judges, message_list};
 
 use crate::fault::GuardFault;
 use crate::judge::{Judge, Retracted};
@@ -16,11 +16,19 @@ use std::alloc::Global;
 /// line becomes. It stands for the list of the accepted lines.
 ///
 /// It keeps the payload of each insertion besides what a `Judge` keeps.
-#[derive(Drop)]
 pub struct Guard {
     judge: Judge,
     /// One for each insertion, in order.
     payloads: Vec<Payload>,
+}
+
+impl Drop for Guard {
+    fn drop(self) {
+        let Guard {
+            judge: _,
+            payloads: _,
+        } = self;
+    }
 }
 
 impl Guard {
@@ -40,7 +48,7 @@ impl Guard {
     pub fn accept(&mut self, line: EventLine) -> Result<Option<Message>, GuardFault>
         requires event { IsEvent line }
         ensures judged { (before : List EventLine) → Guards self.old before → Judges result (fault_behind before line) }
-        ensures message { IfOk result (λ message. (before : List EventLine) → Guards self.old before → as_list message ≡ message_of before line) }
+        ensures message { IfOk result (λ message. (before : List EventLine) → Guards self.old before → message_list message ≡ message_of before line) }
         ensures stands { OnOk result ((before : List EventLine) → Guards self.old before → Guards self.new (before ++ line ∷ [])) }
         ensures stays { OnErr result ((before : List EventLine) → Guards self.old before → Guards self.new before) }
     {
@@ -53,7 +61,7 @@ impl Guard {
 
     fn promise(&mut self, time: Time) -> Option<Message>
         requires event { IsEvent (Promise time) }
-        ensures message { (before : List EventLine) → Guards self.old before → as_list result ≡ message_of before (Promise time) }
+        ensures message { (before : List EventLine) → Guards self.old before → message_list result ≡ message_of before (Promise time) }
         ensures stands { (before : List EventLine) → Guards self.old before → Guards self.new (before ++ Promise time ∷ []) }
     {
         if self.judge.promise(time) {

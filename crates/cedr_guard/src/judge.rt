@@ -4,7 +4,7 @@ ghost use Rattle.cedr_text.specs.declared.event_line.EventLine.{EventLine};
 ghost use Rattle.cedr_text.specs.declared.event_line.EventLine.TheVariants.{Insert, Retract, Promise};
 ghost use Rattle.cedr_guard.specs.Judging.{fault_behind, guarantee_fault, retraction_fault, guarantee_of};
 ghost use Rattle.cedr_guard.specs.History.{rows_among};
-ghost use Rattle.cedr_guard.specs.Standing.{StandsFor, Judges, IsEventOf, interval_of, place_of};
+ghost use Rattle.cedr_guard.specs.Standing.{StandsFor, Judges, IsEventOf, interval_of, place_of_event};
 
 use crate::fault::GuardFault;
 use crate::ids::Ids;
@@ -103,7 +103,7 @@ impl Judge {
     /// Ends the event at this place earlier.
     pub(crate) fn cut(&mut self, place: usize, end: Time)
         requires { place < length self.old.intervals.items }
-        ensures { (before : List EventLine) (id : ℕ) → StandsFor self.old before → place_of id before ≡ Some place → fault_behind before (Retract id end) ≡ None
+        ensures { (before : List EventLine) (id : ℕ) → StandsFor self.old before → place_of_event id before ≡ Some place → fault_behind before (Retract id end) ≡ None
             → StandsFor self.new (before ++ Retract id end ∷ []) }
     {
         self.intervals[place].end = end;

@@ -9,7 +9,7 @@ use Rattle.cedr_history.specs.declared.close.Close.{Close}
 use Rattle.cedr_history.specs.declared.close.Close.TheVariants.{Open, Ended, Broken}
 use Rattle.cedr_history.specs.declared.listed.Listed.{Listed}
 use Rattle.cedr_history.specs.Lists.{going, stepped, nothing, listed, Extends}
-use Rattle.cedr_history.specs.Sights.{Sight, Begins}
+use Rattle.cedr_history.specs.Sights.{Sight, SightBegins}
 use Rattle.cedr_history.specs.Ends.{list_of}
 use Rattle.cedr_history.proofs.Fronts.{prefix_self, prefix_trans}
 
@@ -43,5 +43,5 @@ pub extends_listed : (xs ys : List Step) → IsPrefix xs ys → Extends (listed 
 extends_listed xs ys p = subst (λ (l : Listed). Extends (listed xs) l) (sym (fold-append stepped nothing xs p.0) ∙ ap listed p.1) (extends_steps (listed xs) p.0)
 
 -- so does the list of a longer front
-pub extends_begins : (a b : Sight) → Begins a b → Extends (list_of a) (list_of b)
+pub extends_begins : (a b : Sight) → SightBegins a b → Extends (list_of a) (list_of b)
 extends_begins a b p = extends_listed a.steps b.steps p.1

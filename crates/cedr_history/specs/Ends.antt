@@ -1,5 +1,5 @@
 -- What contracts see of the writer, the reader and a note.
-use Rattle.std.specs.Prelude.{◌≡◌, ◌+◌, ◌-◌, ◌^◌, ℕ, Bool, true, List, min, length, take, drop, fold, Option, Some, None}
+use Rattle.std.specs.Prelude.{◌≡◌, ℕ, Bool, true, List, length, take, drop, fold, Option, Some, None}
 use Rattle.logbook.specs.Pages.{Book}
 use Rattle.cedr_history.specs.declared.listed.Listed.{Listed}
 use Rattle.cedr_history.specs.declared.states.Holding.{Holding}
@@ -8,30 +8,26 @@ use Rattle.cedr_history.specs.declared.states.Knows.{Knows}
 use Rattle.cedr_history.specs.declared.version.Version.{Version}
 use Rattle.cedr_history.specs.declared.seen.Seen.{Seen}
 use Rattle.cedr_history.specs.Lists.{nothing, listed, stepped, Extends}
-use Rattle.cedr_history.specs.Sights.{Sight, Begins}
+use Rattle.cedr_history.specs.Sights.{Sight, SightBegins}
 use Rattle.cedr_history.specs.Versions.{listing}
-
--- one more step was refused. The count stays at its last value
-abbrev pub raised : ℕ → ℕ
-raised n = min (n + 1) (2 ^ 64 - 1)
 
 -- the writer: its history, the published list, that list with all that is pending, and whether it made its last note
 pub record Writing : Type 0 where
   pub history : Book
   pub published : Listed
   pub all : Listed
-  pub told : Bool
+  pub concluded : Bool
 
 -- a reader: its history, the list that it has seen or learnt from a note, the list of the last note if it learnt that,
 -- and how many enters were refused
-pub record Reads : Type 0 where
+pub record ReaderSeen : Type 0 where
   pub history : Book
   pub seen : Listed
   pub last : Option Listed
   pub refused : ℕ
 
 -- a note: its history, the list that it says, and whether it is the last one
-pub record Told : Type 0 where
+pub record NoteSeen : Type 0 where
   pub history : Book
   pub list : Listed
   pub last : Bool
@@ -41,9 +37,9 @@ abbrev pub list_of : Sight → Listed
 list_of s = listed s.steps
 
 -- that list, where there is a beginning
-abbrev pub last_of : Option Sight → Option Listed
-last_of None = None
-last_of (Some s) = Some (list_of s)
+abbrev pub last_list : Option Sight → Option Listed
+last_list None = None
+last_list (Some s) = Some (list_of s)
 
 -- at most max of the elements, from a place on
 abbrev pub part : {A : Type 0} → ℕ → ℕ → List A → List A
@@ -70,13 +66,13 @@ abbrev pub IsOpening : Version → Sight → Type 0
 IsOpening x s = (listing x ≡ nothing) × (x.front ≡ s)
 
 -- these steps after the version leave all that the history has
-abbrev pub IsReady : Version → List Deed → Sight → Type 0
-IsReady x pending all = Begins x.front all × (fold done (holding x) pending ≡ whole all)
+abbrev pub IsReadyVersion : Version → List Deed → Sight → Type 0
+IsReadyVersion x pending all = SightBegins x.front all × (fold done (holding x) pending ≡ whole all)
 
 -- what a read says of the list that it entered
 abbrev pub IsSeen : Seen → Listed → Type 0
 IsSeen s l = (s.len ≡ length l.changes) × (s.mark ≡ l.mark) × (s.close ≡ l.close)
 
 -- the second front goes on from the first, in one history, and so does its list
-abbrev pub IsNext : Sight → Sight → Type 0
-IsNext a b = (a.book ≡ b.book) × Extends (list_of a) (list_of b)
+abbrev pub IsNextSight : Sight → Sight → Type 0
+IsNextSight a b = (a.book ≡ b.book) × Extends (list_of a) (list_of b)

@@ -13,14 +13,14 @@ abbrev pub nothing : Listed
 nothing = record { changes = []; mark = 0; close = Open }
 
 -- the list with a step: a change at the end, the greater of its mark and another one, or a close
-abbrev pub added : Listed → Step → Listed
-added l (step.Change c) = record l { changes = l.changes ++ arc_value c ∷ [] }
-added l (step.Mark t) = record l { mark = max l.mark t }
-added l (step.Close how) = record l { close = how }
+abbrev pub step_added : Listed → Step → Listed
+step_added l (step.Change c) = record l { changes = l.changes ++ arc_value c ∷ [] }
+step_added l (step.Mark t) = record l { mark = max l.mark t }
+step_added l (step.Close how) = record l { close = how }
 
 -- after a close other than Open nothing changes
 abbrev pub going : Close → Listed → Step → Listed
-going Open l o = added l o
+going Open l o = step_added l o
 going Ended l o = l
 going Broken l o = l
 

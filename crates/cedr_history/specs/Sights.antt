@@ -10,5 +10,5 @@ pub record Sight : Type 0 where
   pub steps : List Step
 
 -- the second goes on from the first, in one history
-abbrev pub Begins : Sight → Sight → Type 0
-Begins a b = (a.book ≡ b.book) × IsPrefix a.steps b.steps
+abbrev pub SightBegins : Sight → Sight → Type 0
+SightBegins a b = (a.book ≡ b.book) × IsPrefix a.steps b.steps

@@ -8,7 +8,7 @@ use Rattle.cedr_history.specs.declared.listed.Listed.{Listed}
 use Rattle.cedr_history.specs.declared.states.Knows.{Knows}
 use Rattle.cedr_history.specs.declared.version.Version.{Version}
 use Rattle.cedr_history.specs.Lists.{listed, stepped}
-use Rattle.cedr_history.specs.Sights.{Sight, Begins}
+use Rattle.cedr_history.specs.Sights.{Sight, SightBegins}
 
 -- the list that the version has
 abbrev pub listing : Version → Listed
@@ -28,8 +28,8 @@ knower s = record { known = true; front = s }
 
 -- the version is what its steps leave, and they go on from all that each pass has seen or learnt, in one history
 abbrev pub IsLatest : Version → List Knows → Type 0
-IsLatest x views = IsTied x × ((seat : ℕ) (v : Knows) → get_elem? views seat ≡ some v → v.known ≡ true → Begins v.front x.front)
+IsLatest x views = IsTied x × ((seat : ℕ) (v : Knows) → get_elem? views seat ≡ some v → v.known ≡ true → SightBegins v.front x.front)
 
 -- what is published afterwards is seen. It goes on from what was seen
 abbrev pub Saw : Knows → Version → Version → Knows → Type 0
-Saw v x y w = (w ≡ knower y.front) × IsTied y × (v.known ≡ true → Begins v.front y.front)
+Saw v x y w = (w ≡ knower y.front) × IsTied y × (v.known ≡ true → SightBegins v.front y.front)

@@ -1,7 +1,7 @@
 //! A history that only grows, which exists in proofs alone, and its beginnings that were seen.
 ghost use Rattle.std.specs.Prelude.{◌≡◌, ◌+◌, ◌==◌, ◌<◌, ◌≤◌, ◌^◌, ◌++◌, ◌∷◌, ◌⊎◌, [], length, MatchBool};
 ghost use mathlib.Core.List.{IsPrefix};
-ghost use Rattle.cedr_history.specs.Sights.{Begins};
+ghost use Rattle.cedr_history.specs.Sights.{SightBegins};
 ghost use Rattle.cedr_history.specs.Rules.{head_of};
 
 use crate::step::Step;
@@ -108,8 +108,8 @@ impl Front {
     pub fn longer(&self, other: &Front) -> Front
         requires { other.now.book ≡ self.now.book }
         ensures one { (result ≡ self.now) ⊎ (result ≡ other.now) }
-        ensures this { Begins self.now result }
-        ensures that { Begins other.now result }
+        ensures this { SightBegins self.now result }
+        ensures that { SightBegins other.now result }
     {
         let mut both = self.seen.again();
         both.learn(&other.seen);

@@ -10,9 +10,9 @@ pub struct Note {
 }
 
 impl Model for Note {
-    ghost use Rattle.cedr_history.specs.Ends.{Told, list_of};
+    ghost use Rattle.cedr_history.specs.Ends.{NoteSeen, list_of};
 
-    ghost Value = { Told };
+    ghost Value = { NoteSeen };
 
     ghost view = { λ n. record { history = n.front.book; list = list_of n.front; last = n.last } };
 }

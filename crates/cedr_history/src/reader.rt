@@ -1,7 +1,8 @@
 ghost use Rattle.std.specs.Prelude.{◌≡◌, ◌++◌, Some, None, IsOk, IfOk, OnErr, IfSome, IfNone, MatchBool};
 ghost use Rattle.left_right.specs.Sides.{view};
 ghost use Rattle.cedr_history.specs.Lists.{Extends};
-ghost use Rattle.cedr_history.specs.Ends.{raised, part, list_of, IsAt, IsSeen};
+ghost use Rattle.cedr_history.specs.Ends.{part, list_of, IsAt, IsSeen};
+ghost use Rattle.cedr_base.specs.Counters.{raised};
 
 use crate::book::Front;
 use crate::note::Note;
@@ -28,11 +29,11 @@ pub struct Reader {
 impl Model for Reader {
     ghost use Rattle.std.specs.Prelude.{◌≡◌, IfSome};
     ghost use Rattle.left_right.specs.Sides.{view as known};
-    ghost use Rattle.cedr_history.specs.Ends.{Reads, list_of, last_of, IsAt};
+    ghost use Rattle.cedr_history.specs.Ends.{ReaderSeen, list_of, last_list, IsAt};
 
-    ghost Value = { Reads };
+    ghost Value = { ReaderSeen };
 
-    ghost view = { λ r. record { history = r.floor.book; seen = list_of r.floor; last = last_of r.last; refused = r.refused } };
+    ghost view = { λ r. record { history = r.floor.book; seen = list_of r.floor; last = last_list r.last; refused = r.refused } };
 
     ghost invariant = { λ r. IfSome r.behind (λ b. IsAt (known b.place) r.floor.book) × IfSome r.last (λ l. l.book ≡ r.floor.book) };
 }
@@ -94,7 +95,7 @@ impl Reader {
         requires { note.history ≡ self.old.history }
         ensures same { (self.new.history ≡ self.old.history) × (self.new.refused ≡ self.old.refused) }
         ensures seen { Extends self.old.seen self.new.seen }
-        ensures told { Extends note.list self.new.seen }
+        ensures noted { Extends note.list self.new.seen }
         ensures last { MatchBool note.last (self.new.last ≡ Some note.list) (self.new.last ≡ self.old.last) }
     {
         let Note { front, last } = note;

@@ -2,9 +2,9 @@
 ghost use Rattle.std.specs.Prelude.{◌≡◌, ◌++◌, [], true, length, map, take, IsOk, IfOk, OnOk, OnErr, IfSome, IfNone};
 ghost use Rattle.std.specs.Arc.{arc_value};
 ghost use Rattle.left_right.specs.Sides.{view};
-ghost use Rattle.cedr_history.specs.Sights.{Begins};
+ghost use Rattle.cedr_history.specs.Sights.{SightBegins};
 ghost use Rattle.cedr_history.specs.Versions.{IsTied};
-ghost use Rattle.cedr_history.specs.Ends.{part, list_of, IsAt, IsNext, IsSeen};
+ghost use Rattle.cedr_history.specs.Ends.{part, list_of, IsAt, IsNextSight, IsSeen};
 
 use crate::book::Front;
 use crate::rule::{Behind, Sees};
@@ -27,7 +27,7 @@ fn is_same(one: &Front, other: &Front) -> bool
 fn fits(front: &Front, floor: &Front, last: &Option<Front>) -> bool
     requires floor { floor.now.book ≡ front.now.book }
     requires last { IfSome last.now (λ l. l.book ≡ front.now.book) }
-    ensures floor { result ≡ true → Begins floor.now front.now }
+    ensures floor { result ≡ true → SightBegins floor.now front.now }
     ensures last { result ≡ true → IfSome last.now (λ l. front.now ≡ l) }
 {
     if floor.longer(front).len() > front.len() {
@@ -99,7 +99,7 @@ fn look(
     requires tied { IsTied version.now }
     requires floor { floor.now.book ≡ version.now.front.book }
     requires last { IfSome last.now (λ l. l.book ≡ version.now.front.book) }
-    ensures some { IfOk result (λ o. IfSome o (λ r. IsNext floor.now r.0 × IsSeen r.1 (list_of r.0) × (out.new.items ≡ out.old.items ++ part from max (list_of r.0).changes))) }
+    ensures some { IfOk result (λ o. IfSome o (λ r. IsNextSight floor.now r.0 × IsSeen r.1 (list_of r.0) × (out.new.items ≡ out.old.items ++ part from max (list_of r.0).changes))) }
     ensures last { IfOk result (λ o. IfSome o (λ r. IfSome last.now (λ l. r.0 ≡ l))) }
     ensures none { IfOk result (λ o. IfNone o (out.new.items ≡ out.old.items)) }
     ensures err { OnErr result (out.new.items ≡ out.old.items) }
@@ -133,7 +133,7 @@ pub(crate) fn enter(
     requires at { IsAt (view behind.place) floor.now.book }
     requires last { IfSome last.now (λ l. l.book ≡ floor.now.book) }
     ensures at { IsAt (view result.0.place) floor.now.book }
-    ensures some { IfOk result.1 (λ o. IfSome o (λ r. IsNext floor.now r.0 × IsSeen r.1 (list_of r.0) × (out.new.items ≡ out.old.items ++ part from max (list_of r.0).changes))) }
+    ensures some { IfOk result.1 (λ o. IfSome o (λ r. IsNextSight floor.now r.0 × IsSeen r.1 (list_of r.0) × (out.new.items ≡ out.old.items ++ part from max (list_of r.0).changes))) }
     ensures last { IfOk result.1 (λ o. IfSome o (λ r. IfSome last.now (λ l. r.0 ≡ l))) }
     ensures none { IfOk result.1 (λ o. IfNone o (out.new.items ≡ out.old.items)) }
     ensures err { OnErr result.1 (out.new.items ≡ out.old.items) }

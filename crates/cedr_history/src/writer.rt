@@ -4,8 +4,8 @@ ghost use Rattle.left_right.specs.Sides.{view};
 ghost use Rattle.cedr_base.specs.declared.change.Change.{Change};
 ghost use Rattle.cedr_history.specs.declared.close.Close.TheVariants.{Open};
 ghost use Rattle.cedr_history.specs.Lists.{nothing, stepped, Extends};
-ghost use Rattle.cedr_history.specs.Ends.{IsAt, IsOpening, IsReady, holding, list_of, whole};
-ghost use Rattle.cedr_history.specs.Sights.{Begins};
+ghost use Rattle.cedr_history.specs.Ends.{IsAt, IsOpening, IsReadyVersion, holding, list_of, whole};
+ghost use Rattle.cedr_history.specs.Sights.{SightBegins};
 ghost use Rattle.cedr_history.specs.Versions.{IsTied, listing};
 
 use crate::book::{Front, Head, open};
@@ -31,21 +31,21 @@ pub struct Writer {
     inner: Ahead,
     head: Head,
     all: Front,
-    told: bool,
+    concluded: bool,
 }
 
 impl Model for Writer {
     ghost use Rattle.std.specs.Prelude.{◌≡◌, fold, drop};
     ghost use Rattle.cedr_history.specs.Rules.{head_of};
-    ghost use Rattle.cedr_history.specs.Sights.{Begins};
+    ghost use Rattle.cedr_history.specs.Sights.{SightBegins};
     ghost use Rattle.cedr_history.specs.Versions.{IsTied, listing};
     ghost use Rattle.cedr_history.specs.Ends.{Writing, list_of, holding, done, whole};
 
     ghost Value = { Writing };
 
-    ghost view = { λ w. record { history = w.all.book; published = listing w.inner.desk.shown.value; all = list_of w.all; told = w.told } };
+    ghost view = { λ w. record { history = w.all.book; published = listing w.inner.desk.shown.value; all = list_of w.all; concluded = w.concluded } };
 
-    ghost invariant = { λ w. (w.head ≡ head_of w.all.book) × IsTied w.inner.desk.shown.value × Begins w.inner.desk.shown.value.front w.all × (fold done (holding w.inner.desk.shown.value) (drop w.inner.behind w.inner.log.items) ≡ whole w.all) };
+    ghost invariant = { λ w. (w.head ≡ head_of w.all.book) × IsTied w.inner.desk.shown.value × SightBegins w.inner.desk.shown.value.front w.all × (fold done (holding w.inner.desk.shown.value) (drop w.inner.behind w.inner.log.items) ≡ whole w.all) };
 }
 
 /// How many steps a history has at most. No machine makes as many.
@@ -103,7 +103,7 @@ impl Writer {
     /// isn't shown. Where it is refused, all stays pending, and it may be called again. O(n) in what was added since
     /// the publish before the last one: each copy takes each step once.
     pub fn publish<R: Wait>(&mut self, rt: &R) -> Result<Note, OutOfMemory>
-        requires { self.old.told ≡ false }
+        requires { self.old.concluded ≡ false }
         ensures ok { OnOk result (self.new ≡ record self.old { published = self.old.all }) }
         ensures later { Extends self.old.published self.old.all }
         ensures note { IfOk result (λ n. n ≡ record { history = self.old.history; list = self.old.all; last = false }) }
@@ -115,7 +115,7 @@ impl Writer {
             &mut self.inner,
             rt,
             |inner, rt| -> (Ahead, Result<(), AllocError>)
-                requires { IsReady inner.desk.shown.value (drop inner.behind inner.log.items) front }
+                requires { IsReadyVersion inner.desk.shown.value (drop inner.behind inner.log.items) front }
                 ensures shown { OnOk result.1 ((holding result.0.desk.shown.value ≡ whole front) × (drop result.0.behind result.0.log.items ≡ [])) }
                 ensures kept { OnErr result.1 ((result.0.desk.shown.value ≡ inner.desk.shown.value) × (drop result.0.behind result.0.log.items ≡ drop inner.behind inner.log.items)) }
             { show(inner, rt, &front) },
@@ -129,11 +129,11 @@ impl Writer {
 
     /// Makes the last note, of the published list. It publishes nothing, and takes no memory.
     pub fn last(&mut self) -> Note
-        requires { self.old.told ≡ false }
-        ensures told { self.new ≡ record self.old { told = true } }
+        requires { self.old.concluded ≡ false }
+        ensures concluded { self.new ≡ record self.old { concluded = true } }
         ensures note { result ≡ record { history = self.old.history; list = self.old.published; last = true } }
     {
-        self.told = true;
+        self.concluded = true;
         Note {
             front: self.inner.published().front.again(),
             last: true,
@@ -148,7 +148,7 @@ impl Writer {
             inner,
             head: _head,
             all: _all,
-            told: _told,
+            concluded: _concluded,
         } = self;
         inner.take(rt);
     }
@@ -157,7 +157,7 @@ impl Writer {
 /// The writer and the reader of an empty list, at mark 0 and open. It publishes once, for which nobody is waited for.
 pub fn new_history<R: Wait>(alloc: Global, rt: &R) -> Result<(Writer, Reader), OutOfMemory>
     ensures history { IfOk result (λ r. r.1.history ≡ r.0.history) }
-    ensures writer { IfOk result (λ r. (r.0.published ≡ nothing) × (r.0.all ≡ nothing) × (r.0.told ≡ false)) }
+    ensures writer { IfOk result (λ r. (r.0.published ≡ nothing) × (r.0.all ≡ nothing) × (r.0.concluded ≡ false)) }
     ensures reader { IfOk result (λ r. (r.1.seen ≡ nothing) × (r.1.last ≡ None) × (r.1.refused ≡ 0)) }
 {
     let (head, all) = open();
@@ -168,7 +168,7 @@ pub fn new_history<R: Wait>(alloc: Global, rt: &R) -> Result<(Writer, Reader), O
         inner,
         head,
         all,
-        told: false,
+        concluded: false,
     };
     Ok((writer, Reader::new(alloc, behind, floor)))
 }
@@ -210,7 +210,7 @@ fn empty(alloc: Global, all: &Front) -> Version
 
 /// Shows all that is pending. `all` is the history with it.
 fn show<R: Wait>(inner: Ahead, rt: &R, all: &Front) -> (Ahead, Result<(), AllocError>)
-    requires { IsReady inner.desk.shown.value (drop inner.behind inner.log.items) all.now }
+    requires { IsReadyVersion inner.desk.shown.value (drop inner.behind inner.log.items) all.now }
     ensures shown { OnOk result.1 ((holding result.0.desk.shown.value ≡ whole all.now) × (drop result.0.behind result.0.log.items ≡ [])) }
     ensures kept { OnErr result.1 ((result.0.desk.shown.value ≡ inner.desk.shown.value) × (drop result.0.behind result.0.log.items ≡ drop inner.behind inner.log.items)) }
 {
@@ -219,6 +219,6 @@ fn show<R: Wait>(inner: Ahead, rt: &R, all: &Front) -> (Ahead, Result<(), AllocE
 
 /// The list of a copy goes on in each history that its front begins.
 fn goes_on(version: &Version, all: &Front)
-    requires { IsTied version.now × Begins version.now.front all.now }
+    requires { IsTied version.now × SightBegins version.now.front all.now }
     ensures { Extends (listing version.now) (list_of all.now) }
 {}

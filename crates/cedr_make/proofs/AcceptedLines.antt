@@ -13,7 +13,7 @@ use Rattle.cedr_text.specs.declared.fault.LineFault.TheVariants.{KnownId, BadEnd
 use Rattle.cedr_text.specs.Lines.{without_empty_end, raw_lines}
 use Rattle.cedr_base.specs.Bytes.{line_feed}
 use Rattle.cedr_text.specs.Parts.{parts_of}
-use Rattle.cedr_guard.specs.Judging.{guarantee_of, ends_of, least_of, row_after, event_among, guarantee_fault, event_of, retraction_fault, fault_behind}
+use Rattle.cedr_guard.specs.Judging.{guarantee_of, ends_of, least_end, row_after, event_among, guarantee_fault, event_with, retraction_fault, fault_behind}
 use Rattle.cedr_guard.specs.Sources.{with_event, with_reading, line_reading, go_on, judged_behind}
 use Rattle.cedr_guard.proofs.EventLemmas.{ends_of-append, guarantee_of-append}
 use Rattle.cedr_make.proofs.FieldTexts.{has_byte}
@@ -150,20 +150,20 @@ stands_still shape text next mark mark' most most' rises grows s = record {
 -- after an insertion, whose row is as it was inserted
 pub record Inserted (shape : Shape) (text : List ℕ) (id mark most : ℕ) (row : Row) : Type 0 where
   pub stands : Stands shape text (id + 1) mark most
-  pub event : event_of id stands.events ≡ Some row
+  pub event : event_with id stands.events ≡ Some row
 
 -- an insertion is none of another id
 at_other : (id other : ℕ) (row : Row) (all : List EventLine) → id + 1 ≤ other → event_among other all (Insert id row ∷ []) ≡ None
 at_other id other row all later = ap (λ test. cond test (Some (row_after id row all)) None) (ne_eqb id other (λ e. omega (arith, e, later)))
 
 -- it is found by its own id, as it was inserted
-inserted_here : (id : ℕ) (row : Row) (before : List EventLine) → ends_of id before ≡ [] → event_among id (before ++ Insert id row ∷ []) before ≡ None → event_of id (before ++ Insert id row ∷ []) ≡ Some row
+inserted_here : (id : ℕ) (row : Row) (before : List EventLine) → ends_of id before ≡ [] → event_among id (before ++ Insert id row ∷ []) before ≡ None → event_with id (before ++ Insert id row ∷ []) ≡ Some row
 inserted_here id row before no_ends none =
     let all = before ++ Insert id row ∷ [] in
     let ends : ends_of id all ≡ [] = ends_of-append id before (Insert id row ∷ []) ∙ ap (λ xs. xs ++ []) no_ends in
     event_among-append id all before (Insert id row ∷ []) none
     ∙ ap (λ test. cond test (Some (row_after id row all)) None) (eq-eqb id id refl)
-    ∙ ap (λ xs. Some (record row { end = least_of row.end xs })) ends
+    ∙ ap (λ xs. Some (record row { end = least_end row.end xs })) ends
 
 -- an insertion of the next id
 pub stands_insert : (shape : Shape) (text : List ℕ) (id mark most : ℕ) (line : List ℕ) (row : Row) → Stands shape text id mark most → has_byte 10 line ≡ false → length line ≤ 132

@@ -12,7 +12,7 @@ use Rattle.cedr_text.specs.Parts.{parts_of}
 use Rattle.cedr_guard.specs.declared.refusal.TheConstants.{FILE_LIMIT}
 use Rattle.cedr_guard.specs.Sources.{Judged, judged_lines, judged_front, judged}
 use Rattle.cedr_make.specs.BuiltIn.{event_types}
-use Rattle.cedr_make.specs.Generator.{begin_of, length_of, key_of, value_of, insertion_text, retraction_text, guarantee_text, event_text, made_text}
+use Rattle.cedr_make.specs.Generator.{begin_of, made_length, made_key, value_of, insertion_text, retraction_text, guarantee_text, event_text, made_text}
 use Rattle.cedr_make.proofs.FieldTexts.{joined, no_feed, short}
 use Rattle.cedr_make.proofs.LineReadings.{insertion_fields, retraction_fields, guarantee_fields, insertion_plain, retraction_plain, guarantee_plain, made_row, insertion_says, retraction_says, guarantee_says}
 use Rattle.cedr_make.proofs.AcceptedLines.{Stands, lines_are, stands_insert, stands_retract, stands_promise}
@@ -21,9 +21,9 @@ use Rattle.cedr_make.proofs.AcceptedLines.{Stands, lines_are, stands_insert, sta
 record InRange (source i : ℕ) : Type 0 where
   begin : 10 * i ≤ begin_of source i
   begin_low : begin_of source i < 10 * i + 50
-  length : 0 < length_of source i
-  length_low : length_of source i ≤ 100
-  key : key_of source i < 2
+  length : 0 < made_length source i
+  length_low : made_length source i ≤ 100
+  key : made_key source i < 2
   value : value_of source i < 1000
 
 in_range : (source i : ℕ) → InRange source i
@@ -31,11 +31,11 @@ in_range source i = record { begin = omega arith; begin_low = omega arith; lengt
 
 -- where a retraction ends an event
 abbrev middle_of : ℕ → ℕ → ℕ
-middle_of source i = begin_of source i + length_of source i / 2
+middle_of source i = begin_of source i + made_length source i / 2
 
 -- the lines of an event
 abbrev insertion_line : ℕ → ℕ → List ℕ
-insertion_line source i = joined (insertion_fields i (begin_of source i) (begin_of source i + length_of source i) (key_of source i) (value_of source i))
+insertion_line source i = joined (insertion_fields i (begin_of source i) (begin_of source i + made_length source i) (made_key source i) (value_of source i))
 
 abbrev retraction_line : ℕ → ℕ → List ℕ
 retraction_line source i = joined (retraction_fields i (middle_of source i))
@@ -53,7 +53,7 @@ fed_line a b c d e =
 -- they are the texts of the definitions
 insertion_is : (source i : ℕ) → insertion_line source i ++ 10 ∷ [] ≡ insertion_text source i
 insertion_is source i =
-    ap (λ rest. 43 ∷ 44 ∷ rest) (fed_line (decimal i) (decimal (begin_of source i)) (decimal (begin_of source i + length_of source i)) (107 ∷ decimal (key_of source i)) (decimal (value_of source i)))
+    ap (λ rest. 43 ∷ 44 ∷ rest) (fed_line (decimal i) (decimal (begin_of source i)) (decimal (begin_of source i + made_length source i)) (107 ∷ decimal (made_key source i)) (decimal (value_of source i)))
 
 retraction_is : (source i : ℕ) → cond (nat_eq (i % 5) 4) (retraction_line source i ++ 10 ∷ []) [] ≡ retraction_text source i
 retraction_is source i = ap (λ rest. cond (nat_eq (i % 5) 4) (45 ∷ 44 ∷ rest) []) (append_assoc (decimal i) (44 ∷ decimal (middle_of source i)) (10 ∷ []))
@@ -73,17 +73,17 @@ event_stands types text source i are few s =
     let shape = Fields types in
     let range = in_range source i in
     let begin = begin_of source i in
-    let end = begin + length_of source i in
+    let end = begin + made_length source i in
     let middle = middle_of source i in
     let time = 10 * (i + 1) in
-    let row = made_row begin end (key_of source i) (value_of source i) in
+    let row = made_row begin end (made_key source i) (value_of source i) in
     let id_fits : i < 2 ^ 64 = omega arith in
     let end_low : end < 2000000 = let a = range.begin_low in let b = range.length_low in omega arith in
     let lives : begin < end = let a = range.length in omega arith in
     let lasts : middle < end = let a = range.length in omega arith in
-    let line_fields = insertion_fields i begin end (key_of source i) (value_of source i) in
-    let plain = insertion_plain i begin end (key_of source i) (value_of source i) id_fits (omega arith) (omega arith) (let a = range.key in omega arith) (let a = range.value in omega arith) in
-    let says = insertion_says types i begin end (key_of source i) (value_of source i) are id_fits lives (omega arith) (let a = range.key in omega arith) (let a = range.value in omega arith) in
+    let line_fields = insertion_fields i begin end (made_key source i) (value_of source i) in
+    let plain = insertion_plain i begin end (made_key source i) (value_of source i) id_fits (omega arith) (omega arith) (let a = range.key in omega arith) (let a = range.value in omega arith) in
+    let says = insertion_says types i begin end (made_key source i) (value_of source i) are id_fits lives (omega arith) (let a = range.key in omega arith) (let a = range.value in omega arith) in
     let one = stands_insert shape text i (10 * i) (3 * i) (insertion_line source i) row s (no_feed line_fields plain) (short line_fields plain) says range.begin in
     let cut_plain = retraction_plain i middle id_fits (omega arith) in
     let cut_short : length (retraction_line source i) ≤ 132 = let bound : length (retraction_line source i) ≤ 66 = short (retraction_fields i middle) cut_plain in omega arith in

@@ -15,28 +15,28 @@ abbrev pub begin_of : ℕ → ℕ → ℕ
 begin_of source i = 10 * i + chance (seed source i) % 50
 
 -- how long an event is valid
-abbrev pub length_of : ℕ → ℕ → ℕ
-length_of source i = 1 + chance (seed source i + 1) % 100
+abbrev pub made_length : ℕ → ℕ → ℕ
+made_length source i = 1 + chance (seed source i + 1) % 100
 
 -- the digit of its key
-abbrev pub key_of : ℕ → ℕ → ℕ
-key_of source i = chance (seed source i + 2) % 2
+abbrev pub made_key : ℕ → ℕ → ℕ
+made_key source i = chance (seed source i + 2) % 2
 
 -- the value of an event, below 1,000
 abbrev pub value_of : ℕ → ℕ → ℕ
 value_of source i = chance (seed source i + 3) % 1000
 
 -- a key, `k0` or `k1`, and a value
-abbrev pub payload_text : ℕ → ℕ → List ℕ
-payload_text source i = codes ",k" ++ (decimal (key_of source i) ++ comma ∷ decimal (value_of source i))
+abbrev pub made_payload_text : ℕ → ℕ → List ℕ
+made_payload_text source i = codes ",k" ++ (decimal (made_key source i) ++ comma ∷ decimal (value_of source i))
 
 -- the line of an event's insertion, with the event's number as its id
 abbrev pub insertion_text : ℕ → ℕ → List ℕ
-insertion_text source i = codes "+," ++ (decimal i ++ comma ∷ (decimal (begin_of source i) ++ comma ∷ (decimal (begin_of source i + length_of source i) ++ (payload_text source i ++ line_feed ∷ []))))
+insertion_text source i = codes "+," ++ (decimal i ++ comma ∷ (decimal (begin_of source i) ++ comma ∷ (decimal (begin_of source i + made_length source i) ++ (made_payload_text source i ++ line_feed ∷ []))))
 
 -- after each fifth event: half of its length is left of it
 abbrev pub retraction_text : ℕ → ℕ → List ℕ
-retraction_text source i = if nat_eq (i % 5) 4 then codes "-," ++ (decimal i ++ comma ∷ (decimal (begin_of source i + length_of source i / 2) ++ line_feed ∷ [])) else []
+retraction_text source i = if nat_eq (i % 5) 4 then codes "-," ++ (decimal i ++ comma ∷ (decimal (begin_of source i + made_length source i / 2) ++ line_feed ∷ [])) else []
 
 -- after each sixteenth event: none of the next ones begins before this time
 abbrev pub guarantee_text : ℕ → List ℕ

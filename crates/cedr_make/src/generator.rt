@@ -1,5 +1,5 @@
 ghost use Rattle.std.specs.Prelude.{◌≡◌, ◌<◌, ◌≤◌, ◌++◌, IfOk, OnOk};
-ghost use Rattle.cedr_make.specs.Generator.{chance, payload_text, insertion_text, retraction_text, guarantee_text, event_text, made_text};
+ghost use Rattle.cedr_make.specs.Generator.{chance, made_payload_text, insertion_text, retraction_text, guarantee_text, event_text, made_text};
 ghost use Rattle.cedr_make.specs.Numbers.{AreNumbers};
 
 use cedr_base::OutOfMemory;
@@ -46,7 +46,7 @@ fn push_payload(
     out: &mut Vec<u8>,
 ) -> Result<(), OutOfMemory>
     requires { AreNumbers source i numbers }
-    ensures { OnOk result (out.new.items ≡ out.old.items ++ payload_text source i) }
+    ensures { OnOk result (out.new.items ≡ out.old.items ++ made_payload_text source i) }
 {
     out.extend_from_slice(b",k")?;
     write_number(numbers.key, out)?;

@@ -6,8 +6,8 @@ use Rattle.cedr_base.specs.declared.change.Change.{Change}
 use Rattle.cedr_base.specs.declared.change.Message.{Message}
 use Rattle.cedr_base.specs.declared.change.Message.TheVariants as message
 use Rattle.cedr_base.specs.Messages.{changes_of, MayCome, IsLegalBehind}
-use Rattle.cedr_stream.specs.Repairs.{IsMoved}
-use Rattle.cedr_stream.proofs.Legal.{changes-append, table_moved, table_stays}
+use Rattle.change_laws.specs.Repairs.{IsMoved}
+use Rattle.change_laws.proofs.Legal.{changes-append, table_moved, table_stays}
 use Rattle.cedr_net.specs.declared.answer.Answer.{Answer}
 use Rattle.cedr_net.specs.Networks.{IsAnswerOf}
 

@@ -5,8 +5,8 @@ use Rattle.std.proofs.lemmas.Bool.Decides.{eqb_tells}
 use Rattle.std.proofs.lemmas.List.{append-nil, length-set, length-append}
 use Rattle.std.proofs.Math.Seq.{get_or-append_seam, take-length}
 use Rattle.cedr_base.specs.declared.change.Message.{Message}
-use Rattle.cedr_laws.specs.Lists.{Lists, list_at, with_more}
-use Rattle.cedr_runs.specs.Runs.{lists_at}
+use Rattle.node_laws.specs.Lists.{Lists, list_at, with_more}
+use Rattle.plan_runs.specs.Runs.{lists_at}
 use Rattle.cedr_net.specs.Edges.{received, sent_on, readers_on, readers_from, waits_on, waits_on_all, all_wait, IsPort, ArePorts, AreSized}
 
 -- where messages come on the ports of a node, there are as many lists of what waits as before

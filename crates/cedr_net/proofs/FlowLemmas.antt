@@ -8,30 +8,30 @@ use Rattle.std.proofs.lemmas.List.{length-set, length-map}
 use Rattle.std.proofs.Math.Seq.{get_or-append_seam}
 use Rattle.cedr_base.specs.declared.change.Message.{Message}
 use Rattle.cedr_base.specs.Messages.{MayCome, IsLegal}
-use Rattle.cedr_stream.proofs.Legal.{legal-push}
-use Rattle.cedr_drive.specs.Driving.{MayTake}
-use Rattle.cedr_laws.specs.Lists.{Lists, list_at, with_more}
-use Rattle.cedr_laws.specs.Lawful.{IsLawful}
+use Rattle.change_laws.proofs.Legal.{legal-push}
+use Rattle.op_driver.specs.Driving.{MayTake}
+use Rattle.node_laws.specs.Lists.{Lists, list_at, with_more}
+use Rattle.node_laws.specs.Lawful.{IsLawful}
 use Rattle.cedr_plan.specs.declared.plan.NodeKind.{NodeKind}
 use Rattle.cedr_plan.specs.declared.plan.NodeKind.TheVariants as kind
 use Rattle.cedr_plan.specs.declared.plan.PlanNode.{PlanNode}
 use Rattle.cedr_plan.specs.Drawn.{Node as DrawnNode, node_of}
 use Rattle.cedr_plan.specs.Operators.{operator_row}
 use Rattle.cedr_plan.specs.Rules.{IsNode, operator_of_kind}
-use Rattle.cedr_stream.proofs.Legal.{may_come_in}
+use Rattle.change_laws.proofs.Legal.{may_come_in}
 use Rattle.op_node.specs.Meanings.{meaning_of, port_levels}
 use Rattle.op_node.proofs.ReadyMeanings.{alike}
 use Rattle.cedr_node.specs.Nodes.{made_of}
 use Rattle.cedr_node.proofs.NodeLemmas.{same_ports, stands_lawful, stands_legal}
 use Rattle.op_node.specs.Ready.{is_source}
-use Rattle.cedr_runs.specs.Runs.{lists_at}
-use Rattle.cedr_runs.proofs.PlanNodes.{node_stands, place_within}
+use Rattle.plan_runs.specs.Runs.{lists_at}
+use Rattle.plan_runs.proofs.PlanNodes.{node_stands, place_within, Split, split}
 use Rattle.cedr_base.specs.declared.level.Level.{Level}
 use Rattle.cedr_table.specs.Operators.{Meaning}
-use Rattle.cedr_laws.proofs.Giving.{lawful_legal}
-use Rattle.cedr_laws.proofs.ListLemmas.{at_more_other, at_more}
+use Rattle.node_laws.proofs.Giving.{lawful_legal}
+use Rattle.node_laws.proofs.ListLemmas.{at_more_other, at_more}
 use Rattle.cedr_net.specs.declared.work.Work.{Work}
-use Rattle.cedr_net.specs.Edges.{received, sent_on, joined, AreSized, IsPulled}
+use Rattle.cedr_net.specs.Edges.{received, sent_on, lists_joined, AreSized, IsPulled}
 use Rattle.cedr_net.specs.Flows.{WorksAt, IsWorked, Flows, MovesOn, with_taken}
 use Rattle.cedr_net.proofs.EdgeLemmas.{received_length, sized_length, sized_at, sized_sent_all}
 
@@ -41,22 +41,6 @@ works_lawful w n lists given works isnt =
     let x = works.other isnt in
     subst (λ (vs : List Level). IsLawful (meaning_of n) vs lists given) (same_ports (made_of x.0) n x.2)
     (subst (λ (k : Meaning). IsLawful k (port_levels (made_of x.0)) lists given) (alike (made_of x.0) n x.2) (stands_lawful x.0 lists given x.3))
-
--- a node at its place
-pub record Split (nodes : List PlanNode) (k : ℕ) : Type 0 where
-  pub before : List PlanNode
-  pub node : PlanNode
-  pub after : List PlanNode
-  pub whole : nodes ≡ before ++ node ∷ after
-  pub place : length before ≡ k
-
--- at each place of a plan stands a node, with the nodes before it and those after it
-pub split : (nodes : List PlanNode) (k : ℕ) → k < length nodes → Split nodes k
-split [] k within = absurd (omega arith)
-split (n ∷ nodes) zero within = record { before = []; node = n; after = nodes; whole = refl; place = refl }
-split (n ∷ nodes) (suc k) within =
-    let s = split nodes k (omega arith) in
-    record { before = n ∷ s.before; node = s.node; after = s.after; whole = ap (λ (ns : List PlanNode). n ∷ ns) s.whole; place = ap (λ j. suc j) s.place }
 
 -- what a node reads is at its place
 pub reads_at : (nodes before after : List PlanNode) (n : PlanNode) → nodes ≡ before ++ n ∷ after → get_or (map (λ (m : PlanNode). m.inputs.items) nodes) (length before) [] ≡ n.inputs.items
@@ -84,7 +68,7 @@ one_joined given place i ms l q within false h e = e ∙ sym (at_more_other give
 
 -- once a node sent messages, what was taken and what waits on the ports of a node are still the lists of the
 -- nodes that it reads, with these messages more
-pub joined_received : (given : Lists) (place : ℕ) (ms : List Message) (inputs : List ℕ) (ls qs : Lists) → place < length given → length ls ≡ length qs → joined ls qs ≡ map (list_at given) inputs → joined ls (received place ms inputs qs) ≡ map (list_at (with_more given place ms)) inputs
+pub joined_received : (given : Lists) (place : ℕ) (ms : List Message) (inputs : List ℕ) (ls qs : Lists) → place < length given → length ls ≡ length qs → lists_joined ls qs ≡ map (list_at given) inputs → lists_joined ls (received place ms inputs qs) ≡ map (list_at (with_more given place ms)) inputs
 joined_received given place ms [] [] [] within len e = refl
 joined_received given place ms [] [] (q ∷ qs) within len e = absurd (omega arith)
 joined_received given place ms [] (l ∷ ls) [] within len e = absurd (omega arith)
@@ -93,7 +77,7 @@ joined_received given place ms (i ∷ inputs) [] qs within len e = cc
 joined_received given place ms (i ∷ inputs) (l ∷ ls) [] within len e = absurd (omega arith)
 joined_received given place ms (i ∷ inputs) (l ∷ ls) (q ∷ qs) within len e =
     let head : l ++ q ≡ list_at given i = ap (λ (xs : Lists). list_at xs 0) e in
-    let tail : joined ls qs ≡ map (list_at given) inputs = ap rest_of e in
+    let tail : lists_joined ls qs ≡ map (list_at given) inputs = ap rest_of e in
     let a = one_joined given place i ms l q within (nat_eq i place) refl head in
     let b = joined_received given place ms inputs ls qs within (omega arith) tail in
     cc where
@@ -102,15 +86,15 @@ joined_received given place ms (i ∷ inputs) (l ∷ ls) (q ∷ qs) within len e
       rest_of (x ∷ xs) = xs
 
 -- taking the front message leaves what was taken and what waits together
-pub joined_pulled : (ls qs : Lists) (port : ℕ) (m : Message) (more : List Message) → port < length qs → length ls ≡ length qs → list_at qs port ≡ m ∷ more → joined (with_more ls port (m ∷ [])) (set qs port more) ≡ joined ls qs
+pub joined_pulled : (ls qs : Lists) (port : ℕ) (m : Message) (more : List Message) → port < length qs → length ls ≡ length qs → list_at qs port ≡ m ∷ more → lists_joined (with_more ls port (m ∷ [])) (set qs port more) ≡ lists_joined ls qs
 joined_pulled [] [] port m more within len front = absurd (omega arith)
 joined_pulled [] (q ∷ qs) port m more within len front = absurd (omega arith)
 joined_pulled (l ∷ ls) [] port m more within len front = absurd (omega arith)
-joined_pulled (l ∷ ls) (q ∷ qs) zero m more within len front = ap (λ (xs : List Message). xs ∷ joined ls qs) (append_assoc l (m ∷ []) more ∙ ap (λ (xs : List Message). l ++ xs) (sym front))
+joined_pulled (l ∷ ls) (q ∷ qs) zero m more within len front = ap (λ (xs : List Message). xs ∷ lists_joined ls qs) (append_assoc l (m ∷ []) more ∙ ap (λ (xs : List Message). l ++ xs) (sym front))
 joined_pulled (l ∷ ls) (q ∷ qs) (suc port) m more within len front = ap (λ (xs : Lists). (l ++ q) ∷ xs) (joined_pulled ls qs port m more (omega arith) (omega arith) front)
 
 -- what was taken on a port is the first part of the list of the node that it reads
-joined_at : (given : Lists) (inputs : List ℕ) (ls qs : Lists) (k : ℕ) → joined ls qs ≡ map (list_at given) inputs → length ls ≡ length qs → k < length ls → (i : ℕ) × (list_at ls k ++ list_at qs k ≡ list_at given i)
+joined_at : (given : Lists) (inputs : List ℕ) (ls qs : Lists) (k : ℕ) → lists_joined ls qs ≡ map (list_at given) inputs → length ls ≡ length qs → k < length ls → (i : ℕ) × (list_at ls k ++ list_at qs k ≡ list_at given i)
 joined_at given [] [] qs k e len within = absurd (omega arith)
 joined_at given [] (l ∷ ls) [] k e len within = absurd (omega arith)
 joined_at given [] (l ∷ ls) (q ∷ qs) k e len within = cc
@@ -136,7 +120,7 @@ same_or_not k place = elim (cases_lt k place) [
 module _ (nodes : List PlanNode) (reads : List (List ℕ)) (waiting waiting' : List Lists) (works works' : List Work) (ports ports' : List Lists) (given : Lists) (place : ℕ) (piece : List Message) (h : Flows nodes reads waiting works ports given) (within : place < length nodes)
     (sized : AreSized reads waiting') (works_count : length works' ≡ length nodes) (ports_count : length ports' ≡ length nodes)
     (widths : (k : ℕ) → length (lists_at ports' k) ≡ length (lists_at waiting' k))
-    (edges : (k : ℕ) → joined (lists_at ports' k) (lists_at waiting' k) ≡ map (list_at given) (get_or reads k []))
+    (edges : (k : ℕ) → lists_joined (lists_at ports' k) (lists_at waiting' k) ≡ map (list_at given) (get_or reads k []))
     (work : (before after : List PlanNode) (n : PlanNode) (d : Work) → nodes ≡ before ++ n ∷ after → WorksAt (get_or works' (length before) d) n (lists_at ports' (length before)) (list_at (with_more given place piece) (length before)))
     (legal : IsLegal (list_at given place ++ piece)) where
   inside : place < length given
@@ -158,7 +142,7 @@ module _ (nodes : List PlanNode) (reads : List (List ℕ)) (waiting waiting' : L
     ports_count = ports_count;
     given_count = length-set given place (list_at given place ++ piece) ∙ h.given_count;
     widths = λ k. widths k ∙ sym (width_at k);
-    edges = λ k. ap (joined (lists_at ports' k)) (sent_at place piece reads waiting' k sized)
+    edges = λ k. ap (lists_joined (lists_at ports' k)) (sent_at place piece reads waiting' k sized)
         ∙ joined_received given place piece (get_or reads k []) (lists_at ports' k) (lists_at waiting' k) inside (widths k) (edges k);
     work = work;
     legal = λ k. legal_at k (same_or_not k place);
@@ -270,16 +254,16 @@ module _ (nodes : List PlanNode) (reads : List (List ℕ)) (waiting : List Lists
       ap (λ (ls : Lists). length ls) (get_or-set_other ports place k (with_more (lists_at ports place) port (m ∷ [])) [] ne)
       ∙ (h.widths k ∙ sym (ap (λ (ls : Lists). length ls) (get_or-set_other waiting place k (set (lists_at waiting place) port more) [] ne)))
 
-  edge_now : (k : ℕ) → (k ≡ place) ⊎ (k ≢ place) → joined (lists_at (with_taken ports place port m) k) (lists_at (set waiting place (set (lists_at waiting place) port more)) k) ≡ map (list_at given) (get_or reads k [])
+  edge_now : (k : ℕ) → (k ≡ place) ⊎ (k ≢ place) → lists_joined (lists_at (with_taken ports place port m) k) (lists_at (set waiting place (set (lists_at waiting place) port more)) k) ≡ map (list_at given) (get_or reads k [])
   edge_now k (inl e) =
-      ap (λ (j : ℕ). joined (lists_at (with_taken ports place port m) j) (lists_at (set waiting place (set (lists_at waiting place) port more)) j)) e
-      ∙ (ap (λ (ls : Lists). joined ls (lists_at (set waiting place (set (lists_at waiting place) port more)) place)) ports_same
-      ∙ (ap (joined (with_more (lists_at ports place) port (m ∷ []))) waiting_same
+      ap (λ (j : ℕ). lists_joined (lists_at (with_taken ports place port m) j) (lists_at (set waiting place (set (lists_at waiting place) port more)) j)) e
+      ∙ (ap (λ (ls : Lists). lists_joined ls (lists_at (set waiting place (set (lists_at waiting place) port more)) place)) ports_same
+      ∙ (ap (lists_joined (with_more (lists_at ports place) port (m ∷ []))) waiting_same
       ∙ (joined_pulled (lists_at ports place) (lists_at waiting place) port m more in_port (h.widths place) front
       ∙ (h.edges place ∙ ap (λ (j : ℕ). map (list_at given) (get_or reads j [])) (sym e)))))
   edge_now k (inr ne) =
-      ap (λ (ls : Lists). joined ls (lists_at (set waiting place (set (lists_at waiting place) port more)) k)) (get_or-set_other ports place k (with_more (lists_at ports place) port (m ∷ [])) [] ne)
-      ∙ (ap (joined (lists_at ports k)) (get_or-set_other waiting place k (set (lists_at waiting place) port more) [] ne) ∙ h.edges k)
+      ap (λ (ls : Lists). lists_joined ls (lists_at (set waiting place (set (lists_at waiting place) port more)) k)) (get_or-set_other ports place k (with_more (lists_at ports place) port (m ∷ [])) [] ne)
+      ∙ (ap (lists_joined (lists_at ports k)) (get_or-set_other waiting place k (set (lists_at waiting place) port more) [] ne) ∙ h.edges k)
 
   given_in : place < length given
   given_in = let e = place_in in omega (arith, h.given_count)
@@ -364,7 +348,7 @@ module _ (nodes : List PlanNode) (reads : List (List ℕ)) (waiting waiting' : L
   pub turned : (works' : List Work) (piece : List Message) (waiting'' : List Lists)
       → ((n : PlanNode) (lists : Lists) (g : List Message) → is_source n.kind ≡ false → ((d : Work) → WorksAt (get_or works place d) n lists g) → MayTake lists port m → IsWorked works works' place n (with_more lists port (m ∷ [])) (g ++ piece))
       → waiting'' ≡ sent_on place piece reads waiting' → MovesOn nodes reads waiting waiting'' works' ports given place port m piece
-  unfolding split may_work
+  unfolding may_work
   turned works' piece waiting'' worked sent =
       let s = split nodes place within in
       let may = may_work in

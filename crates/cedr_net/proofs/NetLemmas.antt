@@ -5,13 +5,13 @@ use Rattle.std.proofs.lemmas.Bool.{eqb-true}
 use Rattle.std.proofs.lemmas.List.{length-set}
 use Rattle.cedr_base.specs.declared.change.Message.{Message}
 use Rattle.cedr_base.specs.Messages.{IsLegalBehind, IsLegal, MayCome, mark_of}
-use Rattle.cedr_stream.proofs.Legal.{mark-append}
-use Rattle.cedr_laws.specs.Lists.{Lists, list_at, with_more}
-use Rattle.cedr_drive.specs.Driving.{MayTake}
+use Rattle.change_laws.proofs.Legal.{mark-append}
+use Rattle.node_laws.specs.Lists.{Lists, list_at, with_more}
+use Rattle.op_driver.specs.Driving.{MayTake}
 use Rattle.cedr_plan.specs.declared.plan.PlanNode.{PlanNode}
 use Rattle.cedr_query.specs.Queries.{output_place}
-use Rattle.cedr_runs.specs.Runs.{lists_at}
-use Rattle.cedr_stream.proofs.Legal.{legal_rest}
+use Rattle.plan_runs.specs.Runs.{lists_at}
+use Rattle.change_laws.proofs.Legal.{legal_rest}
 use Rattle.op_node.specs.Ready.{is_source}
 use Rattle.cedr_net.specs.declared.work.Work.{Work}
 use Rattle.cedr_net.specs.declared.answer.Answer.{Answer}
@@ -19,7 +19,7 @@ use Rattle.cedr_net.specs.declared.flow.Flow.{Flow}
 use Rattle.cedr_net.specs.Edges.{readers_from, all_wait, ArePorts, IsPulled, sent_on}
 use Rattle.cedr_net.specs.Flows.{reads_of, WorksAt, IsWorked, IsSourceAt, Flows, MovesOn, with_taken}
 use Rattle.cedr_net.specs.Networks.{IsAnswerOf, FlowStands, IsTurn}
-use Rattle.cedr_laws.proofs.ListLemmas.{at_more_other, at_more}
+use Rattle.node_laws.proofs.ListLemmas.{at_more_other, at_more}
 use Rattle.cedr_net.proofs.EdgeLemmas.{all_sent, readers_are_ports}
 use Rattle.cedr_net.proofs.FlowLemmas.{same_or_not, pulled_sized, turned, flows_fed, source_has_none}
 

@@ -5,26 +5,27 @@ use Rattle.std.proofs.lemmas.List.{length-replicate, length-map, length-append, 
 use Rattle.std.proofs.Math.Seq.{get_or-append_seam}
 use Rattle.cedr_base.specs.declared.change.Message.{Message}
 use Rattle.cedr_base.specs.Messages.{IsLegal, mark_of}
-use Rattle.cedr_laws.specs.Lists.{Lists, list_at}
+use Rattle.node_laws.specs.Lists.{Lists, list_at}
 use Rattle.cedr_plan.specs.declared.plan.PlanNode.{PlanNode}
 use Rattle.cedr_plan.specs.Drawn.{node_of}
 use Rattle.cedr_plan.specs.Rules.{AreNodes}
-use Rattle.cedr_runs.specs.Runs.{lists_at}
+use Rattle.plan_runs.specs.Runs.{lists_at}
 use Rattle.cedr_net.specs.declared.work.Work.{Work}
-use Rattle.cedr_net.specs.Edges.{AreSized, joined, readers_on, readers_from}
+use Rattle.cedr_net.specs.Edges.{AreSized, lists_joined, readers_on, readers_from}
 use Rattle.cedr_net.specs.Flows.{reads_of, WorksAt, Flows, AllNew, no_ports}
 use Rattle.cedr_net.specs.declared.flow.Flow.{Flow}
 use Rattle.cedr_net.specs.Networks.{IsAnswerOf, FlowStands}
-use Rattle.cedr_net.proofs.FlowLemmas.{split}
+use Rattle.plan_runs.proofs.Output.{output_kind}
+use Rattle.plan_runs.proofs.PlanNodes.{split, node_stands}
 use Rattle.std.specs.Prelude.{All, Option, Some, IfSome}
 use Rattle.std.specs.List.{slice_get}
 use Rattle.std.proofs.lemmas.List.Elements.{All-head, All-tail}
 use Rattle.std.proofs.lemmas.Bool.{ne_eqb, cases_lt}
 use Rattle.cedr_plan.specs.declared.plan.Plan.{Plan}
-use Rattle.cedr_plan.specs.Drawn.{Node, is_output as is_drawn_output}
+use Rattle.cedr_plan.specs.Drawn.{Node, is_output_node as is_drawn_output}
 use Rattle.cedr_plan.specs.Rules.{IsPlan, IsNode, IsInput}
 use Rattle.cedr_query.specs.Queries.{is_output, output_place}
-use Rattle.cedr_laws.specs.Pass.{IsLevel as IsPassLevel}
+use Rattle.node_laws.specs.Pass.{HasBlockWithin as IsPassLevel}
 use Rattle.cedr_node.proofs.LevelLemmas.{within_memory}
 use Rattle.cedr_query.proofs.NodeLemmas.{node_is}
 use Rattle.cedr_query.proofs.PlaceLemmas.{place_within, output_stands, output_alike}
@@ -32,7 +33,6 @@ use Rattle.op_node.specs.Ready.{is_source, IsReady}
 use Rattle.op_node.specs.ReadyLaws.{node_ready}
 use Rattle.cedr_plan.specs.declared.plan.NodeKind.{NodeKind}
 use Rattle.cedr_plan.specs.declared.plan.NodeKind.TheVariants as kind
-use Rattle.cedr_runs.proofs.PlanNodes.{node_stands}
 
 -- nodes to which nothing came, and one more
 pub new_push : (nodes : List PlanNode) (works : List Work) (n : PlanNode) (w : Work) → AllNew nodes works → WorksAt w n (no_ports n) [] → AllNew (nodes ++ n ∷ []) (works ++ w ∷ [])
@@ -57,7 +57,7 @@ no_list zero k = refl
 no_list (suc n) zero = refl
 no_list (suc n) (suc k) = no_list n k
 
-joined_none : (n : ℕ) → joined (replicate n []) (replicate n []) ≡ replicate n []
+joined_none : (n : ℕ) → lists_joined (replicate n []) (replicate n []) ≡ replicate n []
 joined_none zero = refl
 joined_none (suc n) = ap (λ (ls : Lists). [] ∷ ls) (joined_none n)
 
@@ -65,7 +65,7 @@ read_none : (n : ℕ) (inputs : List ℕ) → replicate (length inputs) [] ≡ m
 read_none n [] = refl
 read_none n (i ∷ inputs) = let a = no_list n i in let b = read_none n inputs in cc
 
-new_edges : (nodes : List PlanNode) (n k : ℕ) → joined (lists_at (map no_ports nodes) k) (lists_at (map no_ports nodes) k) ≡ map (list_at (replicate n [])) (get_or (map (λ (m : PlanNode). m.inputs.items) nodes) k [])
+new_edges : (nodes : List PlanNode) (n k : ℕ) → lists_joined (lists_at (map no_ports nodes) k) (lists_at (map no_ports nodes) k) ≡ map (list_at (replicate n [])) (get_or (map (λ (m : PlanNode). m.inputs.items) nodes) k [])
 new_edges [] n k = refl
 new_edges (m ∷ nodes) n zero = joined_none (length m.inputs.items) ∙ read_none n m.inputs.items
 new_edges (m ∷ nodes) n (suc k) = new_edges nodes n k
@@ -150,11 +150,6 @@ output_unread plan is = none_from (output_place plan.nodes.items) 0 plan.nodes.i
 ports_here : (before after : List PlanNode) (n : PlanNode) → lists_at (map no_ports (before ++ n ∷ after)) (length before) ≡ no_ports n
 ports_here [] after n = refl
 ports_here (b ∷ before) after n = ports_here before after n
-
--- a kind that is that of an output is `Output`
-pub output_kind : (k : NodeKind) → is_output k ≡ true → k ≡ kind.Output
-output_kind kind.Output e = refl
-output_kind other e = absurd (cc e)
 
 -- the output of a plan has one port
 pub output_has_one : (plan : Plan) → IsPlan plan → length (lists_at (map no_ports plan.nodes.items) (output_place plan.nodes.items)) ≡ 1

@@ -2,14 +2,14 @@
 use Rattle.std.proofs.Common.{◌≡◌, ℕ, ◌<◌, List, [], ◌∷◌, ◌++◌, length, get_or, refl, ap, sym, ◌∙◌, subst, arith}
 use Rattle.std.specs.Prelude.{true}
 use Rattle.std.proofs.Math.Seq.{get_or-append_seam}
-use Rattle.cedr_laws.specs.Lists.{Lists}
+use Rattle.node_laws.specs.Lists.{Lists}
 use Rattle.cedr_plan.specs.declared.plan.PlanNode.{PlanNode}
-use Rattle.cedr_runs.specs.Runs.{lists_at}
+use Rattle.plan_runs.specs.Runs.{lists_at}
 use Rattle.op_node.specs.Ready.{is_source}
 use Rattle.cedr_net.specs.declared.net.SerialNet.{SerialNet}
 use Rattle.cedr_net.specs.Flows.{IsSourceAt}
 use Rattle.cedr_net.specs.Networks.{NetStands, HasPort}
-use Rattle.cedr_net.proofs.FlowLemmas.{split}
+use Rattle.plan_runs.proofs.PlanNodes.{split}
 use Rattle.cedr_net.proofs.PortLemmas.{port_width, has_port}
 
 -- the node at a place is a source

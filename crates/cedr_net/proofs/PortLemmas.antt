@@ -3,20 +3,20 @@ use Rattle.std.proofs.Common.{◌≡◌, ℕ, zero, suc, ◌<◌, List, [], ◌�
 use Rattle.std.specs.Prelude.{Option, Some, None}
 use Rattle.std.specs.List.{slice_get}
 use Rattle.cedr_base.specs.declared.change.Message.{Message}
-use Rattle.cedr_laws.specs.Lists.{Lists, list_at}
+use Rattle.node_laws.specs.Lists.{Lists, list_at}
 use Rattle.cedr_plan.specs.declared.plan.PlanNode.{PlanNode}
 use Rattle.cedr_node.specs.declared.node.Node.{Node}
 use Rattle.cedr_node.proofs.NodeLemmas.{stands_ports}
 use Rattle.cedr_query.specs.Queries.{output_place}
-use Rattle.cedr_runs.specs.Runs.{lists_at}
-use Rattle.cedr_runs.proofs.PlanNodes.{place_within}
+use Rattle.plan_runs.specs.Runs.{lists_at}
+use Rattle.plan_runs.proofs.PlanNodes.{place_within, split}
 use Rattle.op_node.specs.Ready.{is_source}
 use Rattle.cedr_net.specs.declared.work.Work.{Work}
 use Rattle.cedr_net.specs.declared.flow.Flow.{Flow}
 use Rattle.cedr_net.specs.Flows.{reads_of, WorksAt, PortAt}
 use Rattle.cedr_net.specs.Networks.{FlowStands}
 use Rattle.cedr_net.proofs.EdgeLemmas.{sized_at}
-use Rattle.cedr_net.proofs.FlowLemmas.{split, one_node, reads_at, source_has_none}
+use Rattle.cedr_net.proofs.FlowLemmas.{one_node, reads_at, source_has_none}
 
 got_is : (xs : List Work) (k : ℕ) (w d : Work) → slice_get xs k ≡ Some w → get_or xs k d ≡ w
 got_is [] k w d e = cc

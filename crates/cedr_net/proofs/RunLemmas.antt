@@ -3,35 +3,35 @@ use Rattle.std.proofs.Common.{◌≡◌, ℕ, suc, ◌<◌, List, [], ◌∷◌,
 use Rattle.std.specs.Prelude.{map, None}
 use Rattle.std.proofs.lemmas.List.{append-nil}
 use Rattle.cedr_base.specs.declared.change.Message.{Message}
-use Rattle.cedr_laws.specs.Lists.{Lists, list_at}
+use Rattle.node_laws.specs.Lists.{Lists, list_at}
 use Rattle.cedr_plan.specs.declared.plan.PlanNode.{PlanNode}
 use Rattle.cedr_query.specs.Queries.{source_count, query}
-use Rattle.cedr_runs.specs.Runs.{lists_at, input_lists, ArePrefixes, IsNodeRun, IsRun, IsPartialRun, sources_in}
+use Rattle.plan_runs.specs.Runs.{lists_at, input_lists, ArePrefixes, IsNodeRun, IsRun, IsPartialRun, sources_in}
 use Rattle.cedr_base.specs.declared.row.Row.{Row}
 use Rattle.cedr_base.specs.Rows.{SameRows}
 use Rattle.cedr_table.specs.Operators.{Tables, table_at}
-use Rattle.cedr_laws.specs.Lists.{AreTables}
-use Rattle.cedr_runs.specs.Runs.{AllWhole}
-use Rattle.cedr_runs.specs.Without.{query_without, forgot_in, Remembers}
-use Rattle.cedr_runs.proofs.Partial.{source_at}
-use Rattle.cedr_runs.proofs.Remembered.{remembered}
-use Rattle.cedr_runs.proofs.Closed.{closed_table}
-use Rattle.cedr_runs.proofs.PlanNodes.{place_within}
+use Rattle.node_laws.specs.Lists.{AreTables}
+use Rattle.plan_runs.specs.Runs.{AllWhole}
+use Rattle.plan_runs.specs.Without.{query_without, forgot_in, Remembers}
+use Rattle.plan_runs.proofs.Partial.{source_at}
+use Rattle.plan_runs.proofs.Remembered.{remembered}
+use Rattle.plan_runs.proofs.Closed.{closed_table}
+use Rattle.plan_runs.proofs.PlanNodes.{place_within}
 use Rattle.cedr_base.specs.Messages.{IsTableOf}
 use Rattle.cedr_net.specs.declared.work.Work.{Work}
-use Rattle.cedr_net.specs.Edges.{joined, NothingWaits}
+use Rattle.cedr_net.specs.Edges.{lists_joined, NothingWaits}
 use Rattle.cedr_net.specs.Flows.{Flows}
 use Rattle.cedr_net.proofs.FlowLemmas.{reads_at, works_lawful}
-use Rattle.cedr_laws.proofs.Passes.{one_table}
+use Rattle.node_laws.proofs.Passes.{one_table}
 
-prefixes : (ls qs ws : Lists) → length ls ≡ length qs → joined ls qs ≡ ws → ArePrefixes ls ws
+prefixes : (ls qs ws : Lists) → length ls ≡ length qs → lists_joined ls qs ≡ ws → ArePrefixes ls ws
 prefixes ls qs ws len e = subst (ArePrefixes ls) e (at ls qs len) where
-  at : (xs ys : Lists) → length xs ≡ length ys → ArePrefixes xs (joined xs ys)
+  at : (xs ys : Lists) → length xs ≡ length ys → ArePrefixes xs (lists_joined xs ys)
   at [] ys h = tt
   at (x ∷ xs) [] h = absurd (omega arith)
   at (x ∷ xs) (y ∷ ys) h = (record { rest = y; all = refl }, at xs ys (omega arith))
 
-joined_empty : (ls qs : Lists) → length ls ≡ length qs → NothingWaits qs → joined ls qs ≡ ls
+joined_empty : (ls qs : Lists) → length ls ≡ length qs → NothingWaits qs → lists_joined ls qs ≡ ls
 joined_empty [] qs len none = refl
 joined_empty (l ∷ ls) [] len none = absurd (omega arith)
 joined_empty (l ∷ ls) (q ∷ qs) len none =
@@ -46,7 +46,7 @@ module _ (nodes : List PlanNode) (reads : List (List ℕ)) (waiting : List Lists
     lawful = λ isnt. works_lawful _ n (lists_at ports (length before)) (list_at given (length before)) (h.work before after n (record { node = None }) whole) isnt;
   }
 
-  edge_is : (before after : List PlanNode) (n : PlanNode) → nodes ≡ before ++ n ∷ after → joined (lists_at ports (length before)) (lists_at waiting (length before)) ≡ input_lists given n
+  edge_is : (before after : List PlanNode) (n : PlanNode) → nodes ≡ before ++ n ∷ after → lists_joined (lists_at ports (length before)) (lists_at waiting (length before)) ≡ input_lists given n
   edge_is before after n whole = h.edges (length before) ∙ ap (λ (is : List ℕ). map (list_at given) is) (ap (λ (rs : List (List ℕ)). get_or rs (length before) []) h.reads_are ∙ reads_at nodes before after n whole)
 
   pub partial_run : IsPartialRun nodes (sources_in nodes given) ports given

@@ -1,7 +1,7 @@
 -- Nodes of a network that are turned one after the other.
 use Rattle.std.proofs.Common.{ℕ, List, [], ◌∷◌, ◌++◌, Bool, true, false, ◌<◌, length, refl, ap, ◌∙◌, subst}
 use Rattle.std.specs.Prelude.{Result, Ok, Err, IsErrOf}
-use Rattle.cedr_laws.specs.Lists.{Lists, with_more}
+use Rattle.node_laws.specs.Lists.{Lists, with_more}
 use Rattle.cedr_plan.specs.declared.plan.PlanNode.{PlanNode}
 use Rattle.cedr_net.specs.declared.net.NetFault.{NetFault}
 use Rattle.cedr_net.specs.declared.net.SerialNet.{SerialNet}

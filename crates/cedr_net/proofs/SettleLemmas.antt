@@ -4,15 +4,16 @@ use Rattle.std.proofs.lemmas.Bool.{cases_lt}
 use Rattle.std.proofs.lemmas.List.{append-nil}
 use Rattle.std.proofs.lemmas.List.Sums.{sum_by-cons}
 use Rattle.cedr_base.specs.declared.change.Message.{Message}
-use Rattle.cedr_laws.specs.Lists.{Lists, list_at, with_more}
+use Rattle.node_laws.specs.Lists.{Lists, list_at, with_more}
 use Rattle.cedr_plan.specs.declared.plan.PlanNode.{PlanNode}
-use Rattle.cedr_runs.specs.Runs.{lists_at}
+use Rattle.plan_runs.specs.Runs.{lists_at}
 use Rattle.cedr_net.specs.declared.flow.Flow.{Flow}
 use Rattle.cedr_net.specs.Edges.{NothingWaits}
 use Rattle.cedr_net.specs.Flows.{reads_of, IsSourceAt, waiting_count}
 use Rattle.cedr_net.specs.Networks.{FlowStands, AllGrow, IsTurn, IsOnTheWay, IsDrained, IsSettledUpTo}
-use Rattle.cedr_laws.proofs.ListLemmas.{at_more_other, at_more}
-use Rattle.cedr_net.proofs.FlowLemmas.{split, same_or_not, no_source_waits, waits_port}
+use Rattle.node_laws.proofs.ListLemmas.{at_more_other, at_more}
+use Rattle.cedr_net.proofs.FlowLemmas.{same_or_not, no_source_waits, waits_port}
+use Rattle.plan_runs.proofs.PlanNodes.{split}
 
 -- one message fewer waits
 pub fewer : (qs : Lists) (port : ℕ) (m : Message) (more : List Message) → list_at qs port ≡ m ∷ more → waiting_count (set qs port more) < waiting_count qs

@@ -1,8 +1,8 @@
 -- What waits on the ports of nodes.
 use Rattle.std.specs.Prelude.{ℕ, ◌≡◌, ◌<◌, ◌+◌, List, [], ◌∷◌, ◌++◌, length, slice_set, nat_eq, if◌then◌else◌}
 use Rattle.cedr_base.specs.declared.change.Message.{Message}
-use Rattle.cedr_laws.specs.Lists.{Lists, list_at, with_more}
-use Rattle.cedr_runs.specs.Runs.{lists_at}
+use Rattle.node_laws.specs.Lists.{Lists, list_at, with_more}
+use Rattle.plan_runs.specs.Runs.{lists_at}
 
 -- what waits on the ports of a node that reads these nodes, where one of them sent messages
 abbrev pub received : ℕ → List Message → List ℕ → Lists → Lists
@@ -61,10 +61,10 @@ abbrev pub NothingWaits : Lists → Type 0
 NothingWaits queues = (k : ℕ) → list_at queues k ≡ []
 
 -- what was taken and what waits, port by port
-abbrev pub joined : Lists → Lists → Lists
-joined [] queues = []
-joined (l ∷ ls) [] = []
-joined (l ∷ ls) (q ∷ queues) = (l ++ q) ∷ joined ls queues
+abbrev pub lists_joined : Lists → Lists → Lists
+lists_joined [] queues = []
+lists_joined (l ∷ ls) [] = []
+lists_joined (l ∷ ls) (q ∷ queues) = (l ++ q) ∷ lists_joined ls queues
 
 -- there is a list for each node, and one for each of its ports
 abbrev pub AreSized : List (List ℕ) → List Lists → Type 0

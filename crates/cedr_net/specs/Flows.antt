@@ -3,16 +3,16 @@ use Rattle.std.specs.Prelude.{ℕ, ◌≡◌, ◌<◌, List, [], ◌∷◌, ◌+
 use Rattle.std.specs.List.{slice_get}
 use Rattle.cedr_base.specs.declared.change.Message.{Message}
 use Rattle.cedr_base.specs.Messages.{IsLegal}
-use Rattle.cedr_laws.specs.Lists.{Lists, list_at, with_more}
+use Rattle.node_laws.specs.Lists.{Lists, list_at, with_more}
 use Rattle.cedr_node.specs.declared.node.Node.{Node}
 use Rattle.cedr_node.specs.Nodes.{made_of, port_count, NodeStands}
 use Rattle.cedr_plan.specs.declared.plan.PlanNode.{PlanNode}
 use Rattle.cedr_plan.specs.Drawn.{node_of}
 use Rattle.cedr_plan.specs.Rules.{AreNodes}
-use Rattle.cedr_runs.specs.Runs.{lists_at}
+use Rattle.plan_runs.specs.Runs.{lists_at}
 use Rattle.op_node.specs.Ready.{is_source}
 use Rattle.cedr_net.specs.declared.work.Work.{Work}
-use Rattle.cedr_net.specs.Edges.{AreSized, joined}
+use Rattle.cedr_net.specs.Edges.{AreSized, lists_joined}
 
 -- the nodes that each node reads
 abbrev pub reads_of : List PlanNode → List (List ℕ)
@@ -39,7 +39,7 @@ pub record Flows (nodes : List PlanNode) (reads : List (List ℕ)) (waiting : Li
   pub ports_count : length ports ≡ length nodes
   pub given_count : length given ≡ length nodes
   pub widths : (k : ℕ) → length (lists_at ports k) ≡ length (lists_at waiting k)
-  pub edges : (k : ℕ) → joined (lists_at ports k) (lists_at waiting k) ≡ map (list_at given) (slice_index_or reads k [])
+  pub edges : (k : ℕ) → lists_joined (lists_at ports k) (lists_at waiting k) ≡ map (list_at given) (slice_index_or reads k [])
   pub work : (before after : List PlanNode) (n : PlanNode) (d : Work) → nodes ≡ before ++ n ∷ after → WorksAt (slice_index_or works (length before) d) n (lists_at ports (length before)) (list_at given (length before))
   pub legal : (k : ℕ) → IsLegal (list_at given k)
 

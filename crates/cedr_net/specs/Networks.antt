@@ -2,10 +2,10 @@
 use Rattle.std.specs.Prelude.{ℕ, ◌≡◌, ◌<◌, List, [], ◌∷◌, ◌++◌, length, slice_index_or, slice_set, Bool, true, false}
 use Rattle.cedr_base.specs.declared.change.Message.{Message}
 use Rattle.cedr_base.specs.Messages.{changes_of, mark_of, IsTableOf}
-use Rattle.cedr_laws.specs.Lists.{Lists, list_at, with_more}
+use Rattle.node_laws.specs.Lists.{Lists, list_at, with_more}
 use Rattle.cedr_plan.specs.declared.plan.PlanNode.{PlanNode}
 use Rattle.cedr_query.specs.Queries.{output_place}
-use Rattle.cedr_runs.specs.Runs.{lists_at}
+use Rattle.plan_runs.specs.Runs.{lists_at}
 use Rattle.cedr_net.specs.declared.answer.Answer.{Answer}
 use Rattle.cedr_net.specs.declared.flow.Flow.{Flow}
 use Rattle.cedr_net.specs.declared.net.SerialNet.{SerialNet}
@@ -31,8 +31,8 @@ pub record FlowStands (nodes : List PlanNode) (flow : Flow) (ports : List Lists)
   pub reach : flow.reach ≡ mark_of (list_at (lists_at ports (output_place nodes)) 0)
 
 -- memory ran out in a call
-abbrev pub is_spent : SerialNet → Bool
-is_spent net = net.spent
+abbrev pub is_net_spent : SerialNet → Bool
+is_net_spent net = net.spent
 
 -- the changes that the output gave are kept
 abbrev pub keeps_changes : SerialNet → Bool
@@ -40,7 +40,7 @@ keeps_changes net = net.flow.answer.keeps
 
 -- a network stands for such lists, and it is usable
 pub record NetStands (nodes : List PlanNode) (net : SerialNet) (ports : List Lists) (given : Lists) : Type 0 where
-  pub usable : is_spent net ≡ false
+  pub usable : is_net_spent net ≡ false
   pub stands : FlowStands nodes net.flow ports given
 
 -- what waits on the ports of the node at a place
@@ -91,10 +91,10 @@ pub record IsSettledUpTo (nodes : List PlanNode) (new : Flow) (given : Lists) (c
 pub record IsNetTurn (nodes : List PlanNode) (old new : SerialNet) (ports : List Lists) (given : Lists) (node : ℕ) (moved : Bool) : Type 0 where
   pub turned : moved ≡ true → (piece : List Message) × IsTurn nodes old.flow new.flow ports given node piece
   pub idle : moved ≡ false → NothingWaits (waiting_at old node) × NetStands nodes new ports given
-  pub usable : is_spent new ≡ false
+  pub usable : is_net_spent new ≡ false
 
 -- the network went on until nothing waited, and no source gave anything
-pub record IsSettled (nodes : List PlanNode) (new : SerialNet) (given : Lists) : Type 0 where
+pub record HasSettled (nodes : List PlanNode) (new : SerialNet) (given : Lists) : Type 0 where
   pub ports : List Lists
   pub given' : Lists
   pub stands : NetStands nodes new ports given'

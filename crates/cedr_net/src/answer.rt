@@ -5,8 +5,7 @@ ghost use Rattle.cedr_base.specs.Messages.{MayCome, IsLegalBehind};
 ghost use Rattle.cedr_net.specs.Networks.{IsAnswerOf};
 
 use cedr_base::{Change, Message, OutOfMemory};
-use cedr_query::apply_change;
-use cedr_table::Table;
+use cedr_table::{Table, apply_change};
 use std::alloc::Global;
 
 /// The table of the changes that came of an output and, where they are kept, these changes.

@@ -1,11 +1,11 @@
 ghost use Rattle.std.specs.Prelude.{◌≡◌, ◌<◌, ◌++◌, ◌∷◌, [], List, ℕ, false, true, OnOk, IfOk, IfSome, IfNone, length, map, max, nat_eq, replicate, slice_index_or};
 ghost use Rattle.cedr_base.specs.declared.change.Message.{Message};
 ghost use Rattle.cedr_base.specs.Messages.{MayCome, IsLegalBehind, mark_of};
-ghost use Rattle.cedr_drive.specs.Driving.{MayTake};
-ghost use Rattle.cedr_laws.specs.Lists.{Lists, list_at, with_more};
+ghost use Rattle.op_driver.specs.Driving.{MayTake};
+ghost use Rattle.node_laws.specs.Lists.{Lists, list_at, with_more};
 ghost use Rattle.cedr_plan.specs.declared.plan.PlanNode.{PlanNode};
 ghost use Rattle.cedr_plan.specs.Rules.{IsPlan};
-ghost use Rattle.cedr_runs.specs.Runs.{lists_at};
+ghost use Rattle.plan_runs.specs.Runs.{lists_at};
 ghost use Rattle.op_node.specs.Ready.{is_source};
 ghost use Rattle.cedr_net.specs.declared.work.Work.{Work};
 ghost use Rattle.cedr_net.specs.Edges.{all_wait, ArePorts, NothingWaits};

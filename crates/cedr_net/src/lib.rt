@@ -1,7 +1,7 @@
 //! A plan's network on one thread: its nodes, and the messages that wait on the edges between them.
 //!
 //! Sources are fed, and nodes are turned in any order. The lists that went over the edges are a run of the plan
-//! (`cedr_runs`) whatever the order was, so the answer of a network that has settled is the plan's query.
+//! (`plan_runs`) whatever the order was, so the answer of a network that has settled is the plan's query.
 #![tactic(auto)]
 
 mod answer;
@@ -14,3 +14,4 @@ mod work;
 
 pub use law::network_runs;
 pub use net::{NetFault, SerialNet};
+pub use queue::{Queue, pop_at};

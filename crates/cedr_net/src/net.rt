@@ -1,22 +1,22 @@
 ghost use Rattle.std.specs.Prelude.{ℕ, ◌≡◌, ◌<◌, ◌↔◌, ◌++◌, ◌∷◌, [], List, All, true, false, OnOk, IfOk, IsErrOf, length, map, replicate};
 ghost use Rattle.cedr_base.specs.Messages.{MayCome, changes_of, mark_of, IsTableOf};
-ghost use Rattle.cedr_laws.specs.Kept.{forgot};
-ghost use Rattle.cedr_laws.specs.Lawful.{all_over};
-ghost use Rattle.cedr_laws.specs.Lists.{Lists, list_at, with_more};
+ghost use Rattle.node_laws.specs.Kept.{forgot};
+ghost use Rattle.node_laws.specs.Lawful.{all_over};
+ghost use Rattle.node_laws.specs.Lists.{Lists, list_at, with_more};
 ghost use Rattle.cedr_plan.specs.declared.plan.PlanNode.{PlanNode};
 ghost use Rattle.cedr_plan.specs.Rules.{IsPlan};
 ghost use Rattle.cedr_query.specs.Queries.{output_place};
-ghost use Rattle.cedr_runs.specs.Runs.{lists_at};
+ghost use Rattle.plan_runs.specs.Runs.{lists_at};
 ghost use Rattle.cedr_net.specs.declared.net.NetFault.TheVariants.{OutOfMemory as NoMemory, Spent};
 ghost use Rattle.cedr_net.specs.Flows.{IsSourceAt, no_ports};
-ghost use Rattle.cedr_net.specs.Networks.{is_spent, keeps_changes, NetStands, HasPort, IsNetTurn, IsSettled, IsScheduled};
+ghost use Rattle.cedr_net.specs.Networks.{is_net_spent, keeps_changes, NetStands, HasPort, IsNetTurn, HasSettled, IsScheduled};
 
 use crate::flow::Flow;
 use crate::work::{ended_at, forgotten_at};
 use cedr_base::{Change, Message, OutOfMemory, Time};
-use cedr_laws::Forgotten;
 use cedr_plan::Plan;
 use cedr_table::Table;
+use node_laws::Forgotten;
 use std::alloc::Global;
 use thiserror::Error;
 
@@ -35,11 +35,16 @@ pub enum NetFault {
 ///
 /// It stands for the lists of messages that went over its edges, which it doesn't keep. Each clause speaks of all such
 /// lists.
-#[derive(Drop)]
 pub struct SerialNet {
     pub(crate) flow: Flow,
     /// Whether memory ran out in a call.
     pub(crate) spent: bool,
+}
+
+impl Drop for SerialNet {
+    fn drop(self) {
+        let SerialNet { flow: _, spent: _ } = self;
+    }
 }
 
 impl SerialNet {
@@ -67,11 +72,11 @@ impl SerialNet {
     /// A message of a source, which may come after those before it, waits on each port that reads it. It is copied for
     /// each such port but the last one.
     pub fn feed(&mut self, alloc: Global, node: usize, message: Message) -> Result<(), NetFault>
-        requires { is_spent self.old ≡ false → (nodes : List PlanNode) × (ports : List Lists) × (given : Lists) × NetStands nodes self.old ports given × (node < length nodes) × IsSourceAt nodes node × MayCome (list_at given node) message }
+        requires { is_net_spent self.old ≡ false → (nodes : List PlanNode) × (ports : List Lists) × (given : Lists) × NetStands nodes self.old ports given × (node < length nodes) × IsSourceAt nodes node × MayCome (list_at given node) message }
         ensures fed { OnOk result ((nodes : List PlanNode) (ports : List Lists) (given : Lists) → NetStands nodes self.old ports given → node < length nodes → IsSourceAt nodes node → MayCome (list_at given node) message → NetStands nodes self.new ports (with_more given node (message ∷ []))) }
-        ensures spent { IsErrOf result Spent ↔ (is_spent self.old ≡ true) }
-        ensures spends { IsErrOf result NoMemory → is_spent self.new ≡ true }
-        ensures stays_spent { is_spent self.old ≡ true → is_spent self.new ≡ true }
+        ensures spent { IsErrOf result Spent ↔ (is_net_spent self.old ≡ true) }
+        ensures spends { IsErrOf result NoMemory → is_net_spent self.new ≡ true }
+        ensures stays_spent { is_net_spent self.old ≡ true → is_net_spent self.new ≡ true }
         ensures keeps { keeps_changes self.new ≡ keeps_changes self.old }
     {
         if self.spent {
@@ -89,11 +94,11 @@ impl SerialNet {
     /// The node takes the first message of its first port on which one waits, and what it gives waits on the ports that
     /// read it, or is the output's. Whether a message waited: a source has no port, so it never takes one.
     pub fn turn(&mut self, alloc: Global, node: usize) -> Result<bool, NetFault>
-        requires { is_spent self.old ≡ false → (nodes : List PlanNode) × (ports : List Lists) × (given : Lists) × NetStands nodes self.old ports given × (node < length nodes) }
+        requires { is_net_spent self.old ≡ false → (nodes : List PlanNode) × (ports : List Lists) × (given : Lists) × NetStands nodes self.old ports given × (node < length nodes) }
         ensures turned { IfOk result (λ moved. (nodes : List PlanNode) (ports : List Lists) (given : Lists) → NetStands nodes self.old ports given → node < length nodes → IsNetTurn nodes self.old self.new ports given node moved) }
-        ensures spent { IsErrOf result Spent ↔ (is_spent self.old ≡ true) }
-        ensures spends { IsErrOf result NoMemory → is_spent self.new ≡ true }
-        ensures stays_spent { is_spent self.old ≡ true → is_spent self.new ≡ true }
+        ensures spent { IsErrOf result Spent ↔ (is_net_spent self.old ≡ true) }
+        ensures spends { IsErrOf result NoMemory → is_net_spent self.new ≡ true }
+        ensures stays_spent { is_net_spent self.old ≡ true → is_net_spent self.new ≡ true }
         ensures keeps { keeps_changes self.new ≡ keeps_changes self.old }
     {
         if self.spent {
@@ -111,11 +116,11 @@ impl SerialNet {
     /// Nodes are turned until no message waits. They go in the order of the plan, so that each takes all that waits on its
     /// ports once and for good.
     pub fn settle(&mut self, alloc: Global) -> Result<(), NetFault>
-        requires { is_spent self.old ≡ false → (nodes : List PlanNode) × (ports : List Lists) × (given : Lists) × NetStands nodes self.old ports given }
-        ensures settled { OnOk result ((nodes : List PlanNode) (ports : List Lists) (given : Lists) → NetStands nodes self.old ports given → IsSettled nodes self.new given) }
-        ensures spent { IsErrOf result Spent ↔ (is_spent self.old ≡ true) }
-        ensures spends { IsErrOf result NoMemory → is_spent self.new ≡ true }
-        ensures stays_spent { is_spent self.old ≡ true → is_spent self.new ≡ true }
+        requires { is_net_spent self.old ≡ false → (nodes : List PlanNode) × (ports : List Lists) × (given : Lists) × NetStands nodes self.old ports given }
+        ensures settled { OnOk result ((nodes : List PlanNode) (ports : List Lists) (given : Lists) → NetStands nodes self.old ports given → HasSettled nodes self.new given) }
+        ensures spent { IsErrOf result Spent ↔ (is_net_spent self.old ≡ true) }
+        ensures spends { IsErrOf result NoMemory → is_net_spent self.new ≡ true }
+        ensures stays_spent { is_net_spent self.old ≡ true → is_net_spent self.new ≡ true }
         ensures keeps { keeps_changes self.new ≡ keeps_changes self.old }
     {
         if self.spent {
@@ -132,11 +137,11 @@ impl SerialNet {
 
     /// The nodes are turned in this order, each as [`SerialNet::turn`] does.
     pub fn run_schedule(&mut self, alloc: Global, schedule: &[usize]) -> Result<(), NetFault>
-        requires { is_spent self.old ≡ false → (nodes : List PlanNode) × (ports : List Lists) × (given : Lists) × NetStands nodes self.old ports given × All (λ (place : ℕ). place < length nodes) schedule.now }
-        ensures turned { OnOk result (is_spent self.old ≡ false → (nodes : List PlanNode) (ports : List Lists) (given : Lists) → NetStands nodes self.old ports given → All (λ (place : ℕ). place < length nodes) schedule.now → IsScheduled nodes self.old self.new ports given schedule.now) }
-        ensures spent { IsErrOf result Spent ↔ (is_spent self.old ≡ true) }
-        ensures spends { IsErrOf result NoMemory → is_spent self.new ≡ true }
-        ensures stays_spent { is_spent self.old ≡ true → is_spent self.new ≡ true }
+        requires { is_net_spent self.old ≡ false → (nodes : List PlanNode) × (ports : List Lists) × (given : Lists) × NetStands nodes self.old ports given × All (λ (place : ℕ). place < length nodes) schedule.now }
+        ensures turned { OnOk result (is_net_spent self.old ≡ false → (nodes : List PlanNode) (ports : List Lists) (given : Lists) → NetStands nodes self.old ports given → All (λ (place : ℕ). place < length nodes) schedule.now → IsScheduled nodes self.old self.new ports given schedule.now) }
+        ensures spent { IsErrOf result Spent ↔ (is_net_spent self.old ≡ true) }
+        ensures spends { IsErrOf result NoMemory → is_net_spent self.new ≡ true }
+        ensures stays_spent { is_net_spent self.old ≡ true → is_net_spent self.new ≡ true }
         ensures keeps { keeps_changes self.new ≡ keeps_changes self.old }
     {
         if self.spent {

@@ -1,5 +1,5 @@
 ghost use Rattle.std.specs.Prelude.{◌≡◌, ◌<◌, ◌++◌, ◌∷◌, [], OnOk, IfOk, IfSome, IfNone, length, replicate, slice_set};
-ghost use Rattle.cedr_laws.specs.Lists.{list_at, with_more};
+ghost use Rattle.node_laws.specs.Lists.{list_at, with_more};
 ghost use Rattle.cedr_net.specs.Edges.{IsPulled, NothingWaits};
 
 use cedr_base::{Message, OutOfMemory};
@@ -7,9 +7,9 @@ use std::alloc::Global;
 use std::collections::VecDeque;
 use std::marker::Model;
 
-/// Messages that wait, first in and first out.
+/// Messages in order, first in and first out: what waits on a port, or what a source has still to give.
 #[derive(Drop)]
-pub(crate) struct Queue {
+pub struct Queue {
     messages: VecDeque<Message>,
 }
 
@@ -28,6 +28,15 @@ impl Queue {
     {
         Queue {
             messages: VecDeque::new(alloc),
+        }
+    }
+
+    /// These messages, in order. It takes no memory.
+    pub fn from_vec(messages: Vec<Message>) -> Queue
+        ensures { result ≡ messages.items }
+    {
+        Queue {
+            messages: VecDeque::from_vec(messages),
         }
     }
 
@@ -55,7 +64,7 @@ pub(crate) struct Queues {
 }
 
 impl Model for Queues {
-    ghost use Rattle.cedr_laws.specs.Lists.{Lists};
+    ghost use Rattle.node_laws.specs.Lists.{Lists};
 
     ghost Value = { Lists };
 
@@ -69,12 +78,13 @@ fn push_on(ports: &mut Vec<Queue>, port: usize, message: Message) -> Result<(), 
     ports[port].push(message)
 }
 
-fn pop_on(ports: &mut Vec<Queue>, port: usize) -> Option<Message>
-    requires { port < length ports.old.items }
-    ensures some { IfSome result (λ m. (list_at ports.old.items port ≡ m ∷ list_at ports.new.items port) × (ports.new.items ≡ slice_set ports.old.items port (list_at ports.new.items port))) }
-    ensures none { IfNone result ((list_at ports.old.items port ≡ []) × (ports.new.items ≡ ports.old.items)) }
+/// Takes the first message of the queue at a place.
+pub fn pop_at(queues: &mut Vec<Queue>, place: usize) -> Option<Message>
+    requires { place < length queues.old.items }
+    ensures some { IfSome result (λ m. (list_at queues.old.items place ≡ m ∷ list_at queues.new.items place) × (queues.new.items ≡ slice_set queues.old.items place (list_at queues.new.items place))) }
+    ensures none { IfNone result ((list_at queues.old.items place ≡ []) × (queues.new.items ≡ queues.old.items)) }
 {
-    ports[port].pop()
+    queues[place].pop()
 }
 
 impl Queues {
@@ -103,7 +113,7 @@ impl Queues {
         ensures none { IfNone result (NothingWaits self.old × (self.new ≡ self.old)) }
     {
         for port in 0..self.ports.len() {
-            if let Some(message) = pop_on(&mut self.ports, port) {
+            if let Some(message) = pop_at(&mut self.ports, port) {
                 return Some((port, message));
             }
         }

@@ -1,19 +1,20 @@
 ghost use Rattle.std.specs.Prelude.{◌≡◌, ◌<◌, ◌++◌, ◌∷◌, [], List, false, true, OnOk, IfOk, length, slice_index_or};
 ghost use Rattle.cedr_base.specs.declared.change.Message.{Message};
-ghost use Rattle.cedr_drive.specs.Driving.{MayTake};
-ghost use Rattle.cedr_laws.specs.Kept.{forgot};
-ghost use Rattle.cedr_laws.specs.Lawful.{all_over};
-ghost use Rattle.cedr_laws.specs.Lists.{Lists, list_at, with_more};
-ghost use Rattle.cedr_laws.specs.Pass.{IsLevel};
+ghost use Rattle.op_driver.specs.Driving.{MayTake};
+ghost use Rattle.node_laws.specs.Kept.{forgot};
+ghost use Rattle.node_laws.specs.Lawful.{all_over};
+ghost use Rattle.node_laws.specs.Lists.{Lists, list_at, with_more};
+ghost use Rattle.node_laws.specs.Pass.{HasBlockWithin};
 ghost use Rattle.cedr_plan.specs.declared.plan.PlanNode.{PlanNode};
 ghost use Rattle.op_node.specs.Ready.{is_source, IsReady};
 ghost use Rattle.cedr_net.specs.declared.work.Work.{Work};
 ghost use Rattle.cedr_net.specs.Flows.{WorksAt, PortAt, no_ports};
 
 use cedr_base::{Message, OutOfMemory};
-use cedr_laws::Forgotten;
 use cedr_node::Node;
-use cedr_plan::{NodeKind, PlanNode};
+use cedr_plan::PlanNode;
+use node_laws::Forgotten;
+use op_node::is_source;
 use std::alloc::Global;
 
 /// The node that works at a place of a plan. A source has none.
@@ -22,17 +23,11 @@ pub(crate) struct Work {
     pub(crate) node: Option<Node>,
 }
 
-fn is_source(kind: &NodeKind) -> bool
-    ensures { result ≡ is_source kind.now }
-{
-    matches!(kind, NodeKind::Source { .. })
-}
-
 impl Work {
     /// What works as a node of a plan, to which nothing came.
     pub(crate) fn new(alloc: Global, node: &PlanNode) -> Result<Work, OutOfMemory>
         requires ready { is_source node.now.kind ≡ false → IsReady node.now.kind (length node.now.inputs.items) }
-        requires level { IsLevel node.now.level }
+        requires level { HasBlockWithin node.now.level }
         ensures { IfOk result (λ work. WorksAt work node.now (no_ports node.now) []) }
     {
         if is_source(&node.kind) {

@@ -5,16 +5,16 @@ use Rattle.cedr_base.specs.declared.change.Change.{Change}
 use Rattle.cedr_base.specs.declared.change.Message.{Message}
 use Rattle.cedr_base.specs.declared.change.Message.TheVariants as message
 use Rattle.cedr_base.specs.Messages.{changes_of, mark_of, MayCome}
-use Rattle.cedr_stream.proofs.Legal.{legal-push}
+use Rattle.change_laws.proofs.Legal.{legal-push}
 use Rattle.cedr_base.specs.declared.level.Level.{Level}
-use Rattle.cedr_laws.specs.Pass.{passed_of, front, pass, itself, gained, additions, closing, answer}
-use Rattle.cedr_stream.specs.Repairs.{wrapped}
-use Rattle.cedr_laws.specs.Lists.{mark_above, Lists, list_at, with_more}
-use Rattle.cedr_laws.specs.Lawful.{passes_of, is_over}
-use Rattle.cedr_node.specs.Standing.{is_broken, is_closing, AllStand, levels_of, waiting_of, ending}
-use Rattle.cedr_laws.proofs.Grows.{pass-push}
-use Rattle.cedr_laws.proofs.Strong.{changes_answer}
-use Rattle.cedr_laws.proofs.Passes.{passes, adds, additions_wrapped, wrapped-append}
+use Rattle.node_laws.specs.Pass.{passed_of, front, pass, itself, gained, additions, closing, answer}
+use Rattle.change_laws.specs.Repairs.{wrapped}
+use Rattle.node_laws.specs.Lists.{mark_above, Lists, list_at, with_more}
+use Rattle.node_laws.specs.Lawful.{passes_of, is_over}
+use Rattle.cedr_node.specs.Standing.{is_broken, is_closing, AllStand, levels_of, waiting_of, end_of_ports}
+use Rattle.node_laws.proofs.Grows.{pass-push}
+use Rattle.node_laws.proofs.Strong.{changes_answer}
+use Rattle.node_laws.proofs.Passes.{passes, adds, additions_wrapped, wrapped-append}
 use Rattle.cedr_node.specs.declared.port.Port.{Port}
 use Rattle.cedr_node.proofs.PortLists.{over_pushed}
 
@@ -55,7 +55,7 @@ pub echo_single : (ports : List Port) (lists : Lists) (port : ℕ) (m : Message)
     → passes_of (levels_of ports) lists ≡ given ∷ [] → sent ≡ mark_of given → waiting ≡ waiting_of (with_more lists port (m ∷ []))
     → passed ≡ passed_of (get_or ports port d).aligner.level (list_at lists port) m
     → marks ≡ map mark_of (with_more (passes_of (levels_of ports) lists) port passed) → marks ≡ sent' ∷ [] → gain ≡ wrapped (changes_of passed) ++ mark_above sent sent'
-    → with_more (passes_of (levels_of ports) lists) port passed ≡ (given ++ (gain ++ ending waiting)) ∷ []
+    → with_more (passes_of (levels_of ports) lists) port passed ≡ (given ++ (gain ++ end_of_ports waiting)) ∷ []
 echo_single [] [] port m d given gain passed marks sent sent' waiting h within may whole was sent_is waiting_is passed_is marks_are only gain_is = absurd (omega arith)
 echo_single [] (l ∷ ls) port m d given gain passed marks sent sent' waiting h within may whole was sent_is waiting_is passed_is marks_are only gain_is = absurd h
 echo_single (p ∷ ps) [] port m d given gain passed marks sent sent' waiting h within may whole was sent_is waiting_is passed_is marks_are only gain_is = absurd h
@@ -71,11 +71,11 @@ echo_single (p ∷ []) (l ∷ []) zero m d given gain passed marks sent sent' wa
     let sent_front : sent ≡ front v l = sent_is ∙ (ap (λ (ms : List Message). mark_of ms) (sym given_is) ∙ (passes v l legal).mark) in
     let grown : pass v l ++ passed ≡ pass v (l ++ m ∷ []) = ap (λ (ms : List Message). pass v l ++ ms) passed_is ∙ sym (pass-push v l m) in
     let sent_next : sent' ≡ front v (l ++ m ∷ []) = head_is _ _ _ _ (sym only ∙ marks_are) ∙ (ap (λ (ms : List Message). mark_of ms) grown ∙ (passes v (l ++ m ∷ []) (legal-push l m legal may)).mark) in
-    let ending_is : ending waiting ≡ closing m =
+    let ending_is : end_of_ports waiting ≡ closing m =
     ap (λ (n : ℕ). cond (nat_eq n 0) (message.End ∷ []) []) waiting_is
     ∙ (ap (λ (b : Bool). cond b (message.End ∷ []) []) (zero_is (is_over (l ++ m ∷ [])) ∙ over_pushed l m may.0) ∙ sym (closing_is m whole)) in
-    let piece : gain ++ ending waiting ≡ passed =
-    ap (λ (ms : List Message). ms ++ ending waiting) gain_is
+    let piece : gain ++ end_of_ports waiting ≡ passed =
+    ap (λ (ms : List Message). ms ++ end_of_ports waiting) gain_is
     ∙ (ap (λ (ms : List Message). (wrapped (changes_of passed) ++ mark_above sent sent') ++ ms) ending_is
     ∙ (ap (λ (n : ℕ). (wrapped (changes_of passed) ++ mark_above n sent') ++ closing m) sent_front
     ∙ (ap (λ (n : ℕ). (wrapped (changes_of passed) ++ mark_above (front v l) n) ++ closing m) sent_next

@@ -5,12 +5,12 @@ use Rattle.cedr_base.specs.declared.change.Message.{Message}
 use Rattle.cedr_base.specs.Messages.{mark_of}
 use Rattle.cedr_table.specs.Operators.{Tables, Meaning}
 use Rattle.cedr_base.specs.declared.level.Level.{Level}
-use Rattle.cedr_laws.specs.Lists.{Lists}
-use Rattle.cedr_laws.specs.Lawful.{passes_of}
+use Rattle.node_laws.specs.Lists.{Lists}
+use Rattle.node_laws.specs.Lawful.{passes_of}
 use Rattle.cedr_node.specs.declared.port.Port.{Port}
 use Rattle.cedr_node.specs.Standing.{PortStands, AllStand, levels_of, waiting_of, StandsBetween}
-use Rattle.cedr_drive.specs.Driving.{Drives}
-use Rattle.cedr_laws.proofs.Giving.{unbroken_none, passes_none}
+use Rattle.op_driver.specs.Driving.{Drives}
+use Rattle.node_laws.proofs.Giving.{unbroken_none, passes_none}
 
 -- where ports stand for their lists and one more does for its own, all of them do
 pub all-push : (ps : List Port) (ls : Lists) (p : Port) (l : List Message) → AllStand ps ls → PortStands p l → AllStand (ps ++ p ∷ []) (ls ++ l ∷ [])

@@ -9,18 +9,18 @@ use Rattle.cedr_base.specs.declared.change.Message.TheVariants as message
 use Rattle.cedr_base.specs.Rows.{count_of}
 use Rattle.cedr_base.specs.Changes.{all_puts}
 use Rattle.cedr_base.specs.Messages.{changes_of, mark_of, IsOpen, IsTableOf, IsLegal}
-use Rattle.cedr_stream.proofs.Legal.{legal-push, changes-append, mark-append, table_stays}
+use Rattle.change_laws.proofs.Legal.{legal-push, changes-append, mark-append, table_stays}
 use Rattle.cedr_table.specs.Operators.{SameTables, Tables, Meaning, OnlyHolds}
 use Rattle.cedr_base.specs.declared.level.Level.{Level}
-use Rattle.cedr_laws.specs.Pass.{has_end}
-use Rattle.cedr_laws.specs.Lists.{Lists, list_at, IsReal, AreTables, with_more}
-use Rattle.cedr_laws.specs.Lawful.{tables_of, fronts_of, passes_of, has_broken, any_broken, all_end, all_over, IsRight, Step, AreRightBehind, lists_after, lists_behind, given_by, no_lists, AreOnPorts, IsLawful}
-use Rattle.cedr_laws.proofs.Grows.{end-pushed}
-use Rattle.cedr_laws.proofs.Holds.{open_is}
-use Rattle.cedr_drive.specs.Driving.{MayTake, Drives, Answers}
+use Rattle.node_laws.specs.Pass.{has_end}
+use Rattle.node_laws.specs.Lists.{Lists, list_at, IsReal, AreTables, with_more}
+use Rattle.node_laws.specs.Lawful.{tables_of, fronts_of, passes_of, has_broken, any_broken, all_end, all_over, IsRight, Step, AreRightBehind, lists_after, lists_behind, given_by, no_lists, AreOnPorts, IsLawful}
+use Rattle.node_laws.proofs.Grows.{end-pushed}
+use Rattle.node_laws.proofs.Holds.{open_is}
+use Rattle.op_driver.specs.Driving.{MayTake, Drives, Answers}
 use Rattle.cedr_node.specs.declared.port.Port.{Port}
-use Rattle.cedr_node.specs.Standing.{AllStand, levels_of, waiting_of, StandsBetween, IsPortTaken, HoldsAtFronts, ending, breaking}
-use Rattle.cedr_laws.proofs.Ends.{open_unbroken, broken-append, ends_over}
+use Rattle.cedr_node.specs.Standing.{AllStand, levels_of, waiting_of, StandsBetween, IsPortTaken, HoldsAtFronts, end_of_ports, breaking}
+use Rattle.node_laws.proofs.Ends.{open_unbroken, broken-append, ends_over}
 use Rattle.cedr_node.proofs.PortLists.{all_length, all_set, levels_set, passes_more, tables_same, fronts_are, over_is}
 
 -- one more step
@@ -111,20 +111,20 @@ module _ (meaning : Meaning) (stands stands' : Tables → List ℕ → Type 0) (
 
   -- a message that leaves no list broken
   module _ (none : any_broken (with_more lists port (m ∷ [])) ≡ false) (a : Answers meaning stands' held marks' sent sent' (passes_of (levels_of ports) lists) port passed given before after)
-      (echo_next : meaning.echoes ≡ true → passes_of (levels_of (set ports port p')) (with_more lists port (m ∷ [])) ≡ (given ++ (a.gained ++ ending waiting')) ∷ []) where
+      (echo_next : meaning.echoes ≡ true → passes_of (levels_of (set ports port p')) (with_more lists port (m ∷ [])) ≡ (given ++ (a.gained ++ end_of_ports waiting')) ∷ []) where
     same_now : SameTables a.drives.works.tables (tables_of (levels_of (set ports port p')) (with_more lists port (m ∷ [])))
     same_now = tables_same (set ports port p') (with_more lists port (m ∷ [])) a.drives.works.tables ports_now (subst (λ (ls : Lists). AreTables ls a.drives.works.tables) passes_now a.drives.works.are)
 
     marks_now : marks' ≡ fronts_of (levels_of (set ports port p')) (with_more lists port (m ∷ []))
     marks_now = a.drives.works.marks_are ∙ (ap (λ (ls : Lists). map mark_of ls) passes_now ∙ fronts_are (set ports port p') (with_more lists port (m ∷ [])) ports_now)
 
-    ended_now : IsEnded (given ++ a.gained) (meaning.result (tables_of (levels_of (set ports port p')) (with_more lists port (m ∷ [])))) (meaning.bound (tables_of (levels_of (set ports port p')) (with_more lists port (m ∷ []))) (fronts_of (levels_of (set ports port p')) (with_more lists port (m ∷ [])))) (all_end (with_more lists port (m ∷ []))) (given ++ (a.gained ++ ending waiting'))
+    ended_now : IsEnded (given ++ a.gained) (meaning.result (tables_of (levels_of (set ports port p')) (with_more lists port (m ∷ [])))) (meaning.bound (tables_of (levels_of (set ports port p')) (with_more lists port (m ∷ []))) (fronts_of (levels_of (set ports port p')) (with_more lists port (m ∷ [])))) (all_end (with_more lists port (m ∷ []))) (given ++ (a.gained ++ end_of_ports waiting'))
     ended_now =
         let ts = tables_of (levels_of (set ports port p')) (with_more lists port (m ∷ [])) in
         let t : mark_of (given ++ a.gained) ≡ meaning.bound (tables_of (levels_of (set ports port p')) (with_more lists port (m ∷ []))) (fronts_of (levels_of (set ports port p')) (with_more lists port (m ∷ []))) = a.bound_is ts same_now ∙ ap (λ (ns : List ℕ). meaning.bound ts ns) marks_now in
         let over : nat_eq waiting' 0 ≡ all_end (with_more lists port (m ∷ [])) = ap (λ n. nat_eq n 0) waiting_now ∙ (sym (over_is (with_more lists port (m ∷ []))) ∙ sym (ends_over (with_more lists port (m ∷ [])) none)) in
-        subst (λ (b : Bool). IsEnded (given ++ a.gained) (meaning.result ts) (meaning.bound ts (fronts_of (levels_of (set ports port p')) (with_more lists port (m ∷ [])))) b (given ++ (a.gained ++ ending waiting'))) over
-        (subst (λ (g : List Message). IsEnded (given ++ a.gained) (meaning.result ts) (meaning.bound ts (fronts_of (levels_of (set ports port p')) (with_more lists port (m ∷ [])))) (nat_eq waiting' 0) g) (append_assoc given a.gained (ending waiting'))
+        subst (λ (b : Bool). IsEnded (given ++ a.gained) (meaning.result ts) (meaning.bound ts (fronts_of (levels_of (set ports port p')) (with_more lists port (m ∷ [])))) b (given ++ (a.gained ++ end_of_ports waiting'))) over
+        (subst (λ (g : List Message). IsEnded (given ++ a.gained) (meaning.result ts) (meaning.bound ts (fronts_of (levels_of (set ports port p')) (with_more lists port (m ∷ [])))) (nat_eq waiting' 0) g) (append_assoc given a.gained (end_of_ports waiting'))
         (ended_at (given ++ a.gained) (meaning.result ts) _ (nat_eq waiting' 0) a.drives.works.legal a.drives.works.opened (a.table_is ts same_now) t))
 
     -- the operator holds only rows that it may hold at the passed tables and the fronts
@@ -133,7 +133,7 @@ module _ (meaning : Meaning) (stands stands' : Tables → List ℕ → Type 0) (
         let ts = tables_of (levels_of (set ports port p')) (with_more lists port (m ∷ [])) in
         subst (λ (ns : List ℕ). OnlyHolds meaning (tables_of (levels_of (set ports port p')) (with_more lists port (m ∷ []))) ns held) marks_now (a.holds ts same_now)
 
-    right_now : IsRight meaning (levels_of (set ports port p')) (with_more lists port (m ∷ [])) (given ++ (a.gained ++ ending waiting')) (a.gained ++ ending waiting')
+    right_now : IsRight meaning (levels_of (set ports port p')) (with_more lists port (m ∷ [])) (given ++ (a.gained ++ end_of_ports waiting')) (a.gained ++ end_of_ports waiting')
     right_now =
         let e = ended_now in
         record {
@@ -155,12 +155,12 @@ module _ (meaning : Meaning) (stands stands' : Tables → List ℕ → Type 0) (
     no_end false e = ap (λ (g : List Message). given ++ g) (append-nil a.gained)
 
     pub goes : (broken' : Bool) → broken' ≡ any_broken (with_more lists port (m ∷ []))
-        → StandsBetween meaning stands' (set ports port p') marks' sent' waiting' broken' (with_more lists port (m ∷ [])) (given ++ (a.gained ++ ending waiting'))
+        → StandsBetween meaning stands' (set ports port p') marks' sent' waiting' broken' (with_more lists port (m ∷ [])) (given ++ (a.gained ++ end_of_ports waiting'))
     goes broken' broken_is = record {
       ports_stand = ports_now;
       waiting_is = waiting_now;
       broken_is = broken_is;
-      lawful = lawful_push meaning (levels_of (set ports port p')) lists given port m (a.gained ++ ending waiting') within_now lawful_now right_now;
+      lawful = lawful_push meaning (levels_of (set ports port p')) lists given port m (a.gained ++ end_of_ports waiting') within_now lawful_now right_now;
       drives = λ _ not_over.
           let zero : nat_eq waiting' 0 ≡ false = ap (λ n. nat_eq n 0) waiting_now ∙ (sym (over_is (with_more lists port (m ∷ []))) ∙ not_over) in
           subst (λ (g : List Message). Drives meaning stands' marks' sent' (passes_of (levels_of (set ports port p')) (with_more lists port (m ∷ []))) g) (sym (no_end (nat_eq waiting' 0) zero))

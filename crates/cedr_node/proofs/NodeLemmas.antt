@@ -7,10 +7,10 @@ use Rattle.cedr_base.specs.Messages.{IsLegal}
 use Rattle.cedr_table.specs.Operators.{Meaning}
 use Rattle.cedr_plan.specs.Drawn.{Node as DrawnNode, node_of}
 use Rattle.cedr_plan.specs.declared.plan.PlanNode.{PlanNode}
-use Rattle.cedr_laws.specs.declared.forgotten.Forgotten.{Forgotten}
-use Rattle.cedr_laws.specs.Kept.{forgot}
-use Rattle.cedr_laws.specs.Lists.{Lists, list_at}
-use Rattle.cedr_laws.specs.Lawful.{IsLawful}
+use Rattle.node_laws.specs.declared.forgotten.Forgotten.{Forgotten}
+use Rattle.node_laws.specs.Kept.{forgot}
+use Rattle.node_laws.specs.Lists.{Lists, list_at}
+use Rattle.node_laws.specs.Lawful.{IsLawful}
 use Rattle.op_node.specs.Meanings.{meaning_of, port_levels}
 use Rattle.cedr_node.specs.declared.node.Node.{Node}
 use Rattle.cedr_node.specs.declared.port.Port.{Port}

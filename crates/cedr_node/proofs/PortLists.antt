@@ -7,14 +7,14 @@ use Rattle.cedr_base.specs.declared.change.Message.TheVariants as message
 use Rattle.cedr_base.specs.Messages.{mark_of, IsOpen}
 use Rattle.cedr_table.specs.Operators.{SameTables, Tables}
 use Rattle.cedr_base.specs.declared.level.Level.{Level}
-use Rattle.cedr_laws.specs.Pass.{has_end, passed_of, passed_table, pass}
-use Rattle.cedr_laws.specs.Lists.{Lists, list_at, AreTables, with_more}
-use Rattle.cedr_laws.specs.Lawful.{tables_of, fronts_of, passes_of, has_broken, is_over, any_broken, all_over}
+use Rattle.node_laws.specs.Pass.{has_end, passed_of, passed_table, pass}
+use Rattle.node_laws.specs.Lists.{Lists, list_at, AreTables, with_more}
+use Rattle.node_laws.specs.Lawful.{tables_of, fronts_of, passes_of, has_broken, is_over, any_broken, all_over}
 use Rattle.cedr_node.specs.Standing.{is_broken, is_closing, PortStands, AllStand, levels_of, waiting_of}
-use Rattle.cedr_laws.proofs.Grows.{pass-push, end-append}
-use Rattle.cedr_laws.proofs.Ends.{open_unbroken, broken-append, over_open}
-use Rattle.cedr_laws.proofs.Holds.{open_is}
-use Rattle.cedr_laws.proofs.Passes.{passes, one_table}
+use Rattle.node_laws.proofs.Grows.{pass-push, end-append}
+use Rattle.node_laws.proofs.Ends.{open_unbroken, broken-append, over_open}
+use Rattle.node_laws.proofs.Holds.{open_is}
+use Rattle.node_laws.proofs.Passes.{passes, one_table}
 use Rattle.cedr_node.specs.declared.port.Port.{Port}
 
 -- there are as many ports as lists for which they stand

@@ -3,17 +3,17 @@ use Rattle.std.proofs.Common.{◌≡◌, ℕ, ◌+◌, ◌-◌, ◌<◌, ◌≤�
 use Rattle.std.proofs.lemmas.Bool.{or_parts}
 use Rattle.cedr_base.specs.declared.change.Message.{Message}
 use Rattle.cedr_base.specs.Messages.{IsLegalBehind, IsLegal}
-use Rattle.cedr_stream.proofs.Legal.{legal-push, legal_rest}
-use Rattle.cedr_laws.specs.Pass.{passed_of, pass}
+use Rattle.change_laws.proofs.Legal.{legal-push, legal_rest}
+use Rattle.node_laws.specs.Pass.{passed_of, pass}
 use Rattle.cedr_table.specs.Operators.{Tables, Meaning}
-use Rattle.cedr_laws.specs.Lists.{Lists, list_at, with_more}
-use Rattle.cedr_laws.specs.Lawful.{passes_of, any_broken}
-use Rattle.cedr_node.specs.Standing.{is_broken, is_closing, levels_of, waiting_of, StandsBetween, IsPortTaken, IsTakenOn, HoldsAtFronts, ending, breaking}
-use Rattle.cedr_laws.proofs.Grows.{pass-push}
-use Rattle.cedr_laws.proofs.Passes.{passes}
+use Rattle.node_laws.specs.Lists.{Lists, list_at, with_more}
+use Rattle.node_laws.specs.Lawful.{passes_of, any_broken}
+use Rattle.cedr_node.specs.Standing.{is_broken, is_closing, levels_of, waiting_of, StandsBetween, IsPortTaken, IsTakenOn, HoldsAtFronts, end_of_ports, breaking}
+use Rattle.node_laws.proofs.Grows.{pass-push}
+use Rattle.node_laws.proofs.Passes.{passes}
 use Rattle.cedr_node.specs.declared.port.Port.{Port}
-use Rattle.cedr_drive.specs.Driving.{MayTake, Drives, Answers}
-use Rattle.cedr_laws.proofs.Ends.{open_not_over}
+use Rattle.op_driver.specs.Driving.{MayTake, Drives, Answers}
+use Rattle.node_laws.proofs.Ends.{open_not_over}
 use Rattle.cedr_node.proofs.PortLists.{all_at, passes_length, passes_at, broken_set, waiting_set}
 use Rattle.cedr_node.proofs.Echo.{echo_single}
 use Rattle.cedr_node.proofs.Goes.{goes, breaks_off, passes_now, holds_now}
@@ -75,15 +75,15 @@ module _ (meaning : Meaning) (stands : Tables → List ℕ → Type 0) (ports po
 
     module _ (stands' : Tables → List ℕ → Type 0) (held : Tables) (marks' : List ℕ) (sent' : ℕ) (before after : List Message)
         (a : Answers meaning stands' held marks' sent sent' (passes_of (levels_of ports) lists) port passed given before after) where
-      echo_next : meaning.echoes ≡ true → passes_of (levels_of (set ports port t.now)) (with_more lists port (m ∷ [])) ≡ (given ++ (a.gained ++ ending waiting')) ∷ []
+      echo_next : meaning.echoes ≡ true → passes_of (levels_of (set ports port t.now)) (with_more lists port (m ∷ [])) ≡ (given ++ (a.gained ++ end_of_ports waiting')) ∷ []
       echo_next e =
           sym (passes_now meaning stands stands' held ports marks marks' sent sent' waiting waiting' broken lists given port m t.was t.now passed before after h may taken_now waiting_now)
           ∙ echo_single ports lists port m t.was given a.gained passed marks' sent sent' waiting' h.ports_stand may.port_is may.comes m_whole (h.echo was_whole e) driven.sent_is waiting_now taken_now.passed_on a.drives.works.marks_are
           (a.echo_mark e) (a.echo e)
 
-      pub takes_whole : StandsBetween meaning stands' ports' marks' sent' waiting' broken' (with_more lists port (m ∷ [])) (given ++ (a.gained ++ ending waiting'))
+      pub takes_whole : StandsBetween meaning stands' ports' marks' sent' waiting' broken' (with_more lists port (m ∷ [])) (given ++ (a.gained ++ end_of_ports waiting'))
       takes_whole =
-          subst (λ (ps : List Port). StandsBetween meaning stands' ps marks' sent' waiting' broken' (with_more lists port (m ∷ [])) (given ++ (a.gained ++ ending waiting'))) (sym t.stands_at)
+          subst (λ (ps : List Port). StandsBetween meaning stands' ps marks' sent' waiting' broken' (with_more lists port (m ∷ [])) (given ++ (a.gained ++ end_of_ports waiting'))) (sym t.stands_at)
           (goes meaning stands stands' held ports marks marks' sent sent' waiting waiting' broken lists given port m t.was t.now passed before after h may taken_now waiting_now (sym broken_now ∙ whole) a echo_next broken' broken_now)
 
       -- the operator holds only rows that it may hold at its ports' fronts

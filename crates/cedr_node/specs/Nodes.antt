@@ -4,7 +4,7 @@ use Rattle.cedr_base.specs.declared.change.Message.{Message}
 use Rattle.cedr_base.specs.declared.level.Level.{Level}
 use Rattle.cedr_table.specs.Operators.{Tables, Meaning}
 use Rattle.cedr_plan.specs.declared.plan.PlanNode.{PlanNode}
-use Rattle.cedr_laws.specs.Lists.{Lists}
+use Rattle.node_laws.specs.Lists.{Lists}
 use Rattle.op_node.specs.Readings.{node_reading}
 use Rattle.op_node.specs.Meanings.{meaning_of, port_levels}
 use Rattle.cedr_node.specs.declared.node.Node.{Node}

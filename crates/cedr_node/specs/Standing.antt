@@ -4,13 +4,13 @@ use Rattle.cedr_base.specs.declared.change.Message.{Message}
 use Rattle.cedr_base.specs.declared.change.Message.TheVariants as message
 use Rattle.cedr_base.specs.declared.level.Level.{Level}
 use Rattle.cedr_table.specs.Operators.{Tables, Meaning, OnlyHolds}
-use Rattle.cedr_laws.specs.declared.forgotten.Forgotten.{Forgotten}
-use Rattle.cedr_laws.specs.Kept.{forgot}
-use Rattle.cedr_laws.specs.Pass.{passed_of}
-use Rattle.cedr_laws.specs.Lists.{Lists}
-use Rattle.cedr_laws.specs.Lawful.{tables_of, fronts_of, passes_of, is_over, any_broken, all_over, IsLawful}
+use Rattle.node_laws.specs.declared.forgotten.Forgotten.{Forgotten}
+use Rattle.node_laws.specs.Kept.{forgot}
+use Rattle.node_laws.specs.Pass.{passed_of}
+use Rattle.node_laws.specs.Lists.{Lists}
+use Rattle.node_laws.specs.Lawful.{tables_of, fronts_of, passes_of, is_over, any_broken, all_over, IsLawful}
 use Rattle.cedr_align.specs.Aligner.{Aligns}
-use Rattle.cedr_drive.specs.Driving.{Drives}
+use Rattle.op_driver.specs.Driving.{Drives}
 use Rattle.cedr_node.specs.declared.port.Port.{Port}
 
 -- a port stands for a list that it took
@@ -49,8 +49,8 @@ waiting_of [] = 0
 waiting_of (l ∷ ls) = cond (is_over l) 0 1 + waiting_of ls
 
 -- the end, where no port waits
-abbrev pub ending : ℕ → List Message
-ending waiting = if nat_eq waiting 0 then message.End ∷ [] else []
+abbrev pub end_of_ports : ℕ → List Message
+end_of_ports waiting = if nat_eq waiting 0 then message.End ∷ [] else []
 
 -- a break, where no port waits
 abbrev pub breaking : ℕ → List Message

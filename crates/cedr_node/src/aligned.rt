@@ -1,17 +1,17 @@
 ghost use Rattle.std.specs.Prelude.{◌≡◌, ◌<◌, ◌+◌, ◌-◌, ◌++◌, ◌∷◌, [], List, OnOk, OnErr, IfOk, cond, false, length, replicate, take};
 ghost use Rattle.std.specs.List.{All};
 ghost use Rattle.cedr_base.specs.declared.change.Message.{Message};
-ghost use Rattle.cedr_laws.specs.Pass.{IsLevel};
-ghost use Rattle.cedr_laws.specs.Lists.{Lists, list_at, with_more};
-ghost use Rattle.cedr_laws.specs.Lawful.{any_broken, all_over};
-ghost use Rattle.cedr_drive.specs.Driving.{MayTake};
-ghost use Rattle.cedr_node.specs.Standing.{AllStand, StandsBetween, IsTakenOn, IsForgottenAt, levels_of, waiting_of, is_broken, is_closing, ending, breaking, HoldsAtFronts};
+ghost use Rattle.node_laws.specs.Pass.{HasBlockWithin};
+ghost use Rattle.node_laws.specs.Lists.{Lists, list_at, with_more};
+ghost use Rattle.node_laws.specs.Lawful.{any_broken, all_over};
+ghost use Rattle.op_driver.specs.Driving.{MayTake};
+ghost use Rattle.cedr_node.specs.Standing.{AllStand, StandsBetween, IsTakenOn, IsForgottenAt, levels_of, waiting_of, is_broken, is_closing, end_of_ports, breaking, HoldsAtFronts};
 
 use crate::port::Port;
 use cedr_base::{Level, Message, OutOfMemory};
-use cedr_drive::Driver;
-use cedr_laws::Forgotten;
 use cedr_table::Operator;
+use node_laws::Forgotten;
+use op_driver::Driver;
 use std::alloc::Global;
 
 /// An operator with an aligner on each port.
@@ -57,7 +57,7 @@ fn count_down(waiting: usize, closed: bool) -> usize
 
 /// Appends the end where no port waits.
 fn push_end(waiting: usize, out: &mut Vec<Message>) -> Result<(), OutOfMemory>
-    ensures ok { OnOk result (out.new.items ≡ out.old.items ++ ending waiting) }
+    ensures ok { OnOk result (out.new.items ≡ out.old.items ++ end_of_ports waiting) }
     ensures kept { take (length out.old.items) out.new.items ≡ out.old.items }
 {
     if waiting == 0 {
@@ -94,7 +94,7 @@ fn take_on(
 }
 
 fn make_ports(alloc: Global, levels: &[Level]) -> Result<Vec<Port>, OutOfMemory>
-    requires { All IsLevel levels.now }
+    requires { All HasBlockWithin levels.now }
     ensures stand { IfOk result (λ ports. AllStand ports.items (replicate (length levels.now) [])) }
     ensures levels { IfOk result (λ ports. levels_of ports.items ≡ levels.now) }
 {
@@ -112,7 +112,7 @@ impl<O: Operator> Aligned<O> {
         O: Drop,
         requires count { length levels.now ≡ (O.meaning op).ports }
         requires stands { O.stands op (replicate (O.meaning op).ports []) (replicate (O.meaning op).ports 0) }
-        requires levels { All IsLevel levels.now }
+        requires levels { All HasBlockWithin levels.now }
         ensures meaning { IfOk result (λ a. O.meaning a.driver.op ≡ O.meaning op) }
         ensures levels { IfOk result (λ a. levels_of a.ports.items ≡ levels.now) }
         ensures stands { IfOk result (λ a. StandsBetween (O.meaning a.driver.op) (O.stands a.driver.op) a.ports.items a.driver.marks.items a.driver.sent a.waiting a.broken (replicate (length levels.now) []) []) }

@@ -1,9 +1,9 @@
 ghost use Rattle.std.specs.Prelude.{ℕ, ◌≡◌, List, false, length};
 ghost use Rattle.cedr_base.specs.declared.change.Message.{Message};
 ghost use Rattle.cedr_base.specs.Messages.{IsLegal};
-ghost use Rattle.cedr_laws.specs.Lists.{Lists, list_at};
-ghost use Rattle.cedr_laws.specs.Lawful.{IsLawful};
-ghost use Rattle.cedr_laws.specs.Pass.{IsLevel};
+ghost use Rattle.node_laws.specs.Lists.{Lists, list_at};
+ghost use Rattle.node_laws.specs.Lawful.{IsLawful};
+ghost use Rattle.node_laws.specs.Pass.{HasBlockWithin};
 ghost use Rattle.cedr_plan.specs.Drawn.{Node as DrawnNode, node_of};
 ghost use Rattle.cedr_plan.specs.Rules.{IsNode};
 ghost use Rattle.cedr_plan.specs.declared.plan.PlanNode.{PlanNode};
@@ -16,7 +16,7 @@ ghost use Rattle.op_node.specs.Ready.{is_source, IsReady};
 /// [`crate::Node::new`] asks of it.
 pub fn accepted_nodes()
     ensures ready { (earlier : List DrawnNode) (node : PlanNode) → IsNode earlier (node_of node) → is_source node.kind ≡ false → IsReady node.kind (length node.inputs.items) }
-    ensures level { (earlier : List DrawnNode) (node : PlanNode) → IsNode earlier (node_of node) → IsLevel node.level }
+    ensures level { (earlier : List DrawnNode) (node : PlanNode) → IsNode earlier (node_of node) → HasBlockWithin node.level }
 {}
 
 /// The law of standing nodes: a node that stands between lists isn't spent, and is lawful between them, as the plan's

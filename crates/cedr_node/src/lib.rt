@@ -1,7 +1,7 @@
 //! Nodes of a plan: the operator of a node's kind, with an aligner on each port.
 //!
 //! A node takes the messages of its ports one after the other, in any order between the ports. Each goes through its
-//! port's aligner, and what that passes on goes through the operator. `cedr_laws` says what a node owes (`IsLawful`),
+//! port's aligner, and what that passes on goes through the operator. `node_laws` says what a node owes (`IsLawful`),
 //! and [`Node::take`] that it is met after each message.
 #![tactic(auto)]
 

@@ -1,10 +1,10 @@
 ghost use Rattle.std.specs.Prelude.{◌≡◌, ◌<◌, ◌++◌, ◌∷◌, [], List, true, false, ◌↔◌, OnOk, OnErr, IfOk, IsErrOf, length, replicate};
 ghost use Rattle.cedr_base.specs.declared.change.Message.{Message};
-ghost use Rattle.cedr_laws.specs.Kept.{forgot};
-ghost use Rattle.cedr_laws.specs.Pass.{IsLevel};
-ghost use Rattle.cedr_laws.specs.Lists.{Lists, list_at, with_more};
-ghost use Rattle.cedr_laws.specs.Lawful.{any_broken, all_over};
-ghost use Rattle.cedr_drive.specs.Driving.{MayTake};
+ghost use Rattle.node_laws.specs.Kept.{forgot};
+ghost use Rattle.node_laws.specs.Pass.{HasBlockWithin};
+ghost use Rattle.node_laws.specs.Lists.{Lists, list_at, with_more};
+ghost use Rattle.node_laws.specs.Lawful.{any_broken, all_over};
+ghost use Rattle.op_driver.specs.Driving.{MayTake};
 ghost use Rattle.cedr_plan.specs.Drawn.{node_of};
 ghost use Rattle.cedr_node.specs.declared.fault.NodeFault.TheVariants.{OutOfMemory as NoMemory, Spent};
 ghost use Rattle.cedr_node.specs.Nodes.{made_of, is_spent, port_count, meaning_in, held_in, levels_in, NodeStands};
@@ -14,19 +14,28 @@ ghost use Rattle.op_node.specs.Ready.{IsReady};
 use crate::aligned::Aligned;
 use crate::fault::NodeFault;
 use cedr_base::{Level, Message, OutOfMemory};
-use cedr_laws::Forgotten;
 use cedr_plan::PlanNode;
+use node_laws::Forgotten;
 use op_node::{NodeOperator, node_operator};
 use std::alloc::Global;
 
 /// A node of a plan that takes messages: the operator of its kind, with an aligner of its level on each port.
-#[derive(Drop)]
 pub struct Node {
     /// The node of the plan.
     made_of: PlanNode,
     works: Box<Aligned<NodeOperator>>,
     /// Whether memory ran out in a call.
     spent: bool,
+}
+
+impl Drop for Node {
+    fn drop(self) {
+        let Node {
+            made_of: _,
+            works: _,
+            spent: _,
+        } = self;
+    }
 }
 
 /// The same level for each port.
@@ -44,7 +53,7 @@ impl Node {
     /// A node of a plan that took nothing. The node is no source, and is as an accepted plan has it.
     pub fn new(alloc: Global, node: &PlanNode) -> Result<Node, OutOfMemory>
         requires ready { IsReady node.now.kind (length node.now.inputs.items) }
-        requires level { IsLevel node.now.level }
+        requires level { HasBlockWithin node.now.level }
         ensures made_of { IfOk result (λ a. node_of (made_of a) ≡ node_of node.now) }
         ensures ports { IfOk result (λ a. port_count a ≡ length node.now.inputs.items) }
         ensures stands { IfOk result (λ a. NodeStands a (replicate (length node.now.inputs.items) []) []) }

@@ -1,11 +1,11 @@
 ghost use Rattle.std.specs.Prelude.{◌≡◌, ◌++◌, ◌∷◌, [], List, OnOk};
 ghost use Rattle.cedr_base.specs.declared.change.Message.{Message};
 ghost use Rattle.cedr_base.specs.Messages.{MayCome};
-ghost use Rattle.cedr_laws.specs.Pass.{IsLevel};
+ghost use Rattle.node_laws.specs.Pass.{HasBlockWithin};
 
 use cedr_align::{Aligner, Fate};
 use cedr_base::{Level, Message, OutOfMemory};
-use cedr_laws::Forgotten;
+use node_laws::Forgotten;
 use std::alloc::Global;
 
 /// An aligner and what it forgot.
@@ -20,7 +20,7 @@ impl Port {
 
     /// A port to which nothing came. Its block isn't over its memory. It takes no memory.
     pub(crate) fn new(alloc: Global, level: Level) -> Port
-        requires { IsLevel level }
+        requires { HasBlockWithin level }
         ensures stands { PortStands result [] }
         ensures level { result.aligner.level ≡ level }
     {

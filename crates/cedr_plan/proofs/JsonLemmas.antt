@@ -10,11 +10,11 @@ use Rattle.serde_json.specs.Read.{read}
 use Rattle.cedr_plan.specs.Plans.{json_of}
 use Rattle.serde_json.specs.View.{view, items_of}
 use Rattle.serde_json.specs.declared.value.Value.{Value}
-use Rattle.cedr_plan.specs.Json.{list_of, as_list}
+use Rattle.cedr_plan.specs.Json.{data_list, as_list}
 use Rattle.cedr_plan.proofs.ListLemmas.{all_of_map, any_of_map}
 
 -- the values of an array are those that it was made of
-pub list_of-items_of : (ds : List Data) → list_of (items_of ds) ≡ ds
+pub list_of-items_of : (ds : List Data) → data_list (items_of ds) ≡ ds
 list_of-items_of [] = refl
 list_of-items_of (d ∷ ds) = ap (λ rest. d ∷ rest) (list_of-items_of ds)
 

@@ -7,12 +7,12 @@ use Rattle.std.proofs.lemmas.List.Elements.{All-from_recursion}
 use Rattle.serde_json.specs.Data.{Data}
 use Rattle.cedr_base.specs.declared.field.FieldType.{FieldType}
 use Rattle.cedr_base.specs.declared.field.FieldType.TheVariants as field_type
-use Rattle.cedr_expr.specs.Columns.{kept}
+use Rattle.cedr_expr.specs.Columns.{kept_columns}
 use Rattle.cedr_plan.specs.Drawn.{Node}
 use Rattle.cedr_plan.specs.Json.{has, is_list, is_number, is_text, is_whole_within}
 use Rattle.cedr_plan.specs.Levels.{has_bad_bound}
-use Rattle.cedr_plan.specs.Nodes.{is_name_value, has_ports, input_values, inputs_at, ports_at, first_port, all_ports, number_at, tests_at, columns_at, truth_at, count_types, group_types, level_at, result_types, result_width, types_under, lacks_inputs, lacks_member, has_odd_level, has_missing_part, has_too_many, has_bad_number, has_bad_level, is_named_twice, has_unknown_input, is_too_wide, has_bad_column, has_type_difference, kind_from, node_from, first_fault, fault_under, untyped_faults, typed_faults, is_too_long, is_bad_number, is_bad_column, has_two_types, has_unlike_ports, same_types, is_text_column}
-use Rattle.cedr_plan.specs.Operators.{Row, operator_row, operator_of, key_of, form_of}
+use Rattle.cedr_plan.specs.Nodes.{is_name_value, has_ports, input_values, inputs_at, ports_at, first_port, all_ports, number_at, tests_at, columns_at, truth_at, count_types, group_types, level_at, result_types, result_width, types_under, lacks_inputs, lacks_member, has_odd_level, has_missing_part, has_too_many, has_bad_number, has_bad_level, is_named_twice, has_unknown_input, is_too_wide, has_bad_column, has_type_difference, kind_from, node_from, first_fault, fault_under, untyped_faults, typed_faults, is_too_long, is_bad_number, is_bad_column, member_has_two_types, has_unlike_ports, same_types, is_text_column}
+use Rattle.cedr_plan.specs.Operators.{Row, operator_row, operator_of, member_key, form_of}
 use Rattle.cedr_expr.specs.Types.{first_bad_column, first_differing, first_past_end}
 use Rattle.cedr_plan.specs.declared.operator.Form.TheVariants as form
 use Rattle.cedr_plan.specs.declared.operator.Member.TheVariants as member
@@ -78,14 +78,14 @@ unfolding has_missing_part
 parts_there row d h = four_parts (has (codes "name") is_name_value d) (lacks_inputs row d) (list_any (lacks_member d) row.members) (has_odd_level row d) h
 
 many_parts : (row : Row) (d : Data) → has_too_many row d ≡ false
-    → (nat_lt row.most (length (input_values row d)) ≡ false) × (list_any (λ m. has (key_of m) (is_too_long (form_of m)) d) row.members ≡ false)
+    → (nat_lt row.most (length (input_values row d)) ≡ false) × (list_any (λ m. has (member_key m) (is_too_long (form_of m)) d) row.members ≡ false)
 unfolding has_too_many
-many_parts row d h = or_parts (nat_lt row.most (length (input_values row d))) (list_any (λ m. has (key_of m) (is_too_long (form_of m)) d) row.members) h
+many_parts row d h = or_parts (nat_lt row.most (length (input_values row d))) (list_any (λ m. has (member_key m) (is_too_long (form_of m)) d) row.members) h
 
 number_parts : (row : Row) (d : Data) → has_bad_number row d ≡ false
-    → (list_any (λ m. has (key_of m) (is_bad_number (form_of m)) d) row.members ≡ false) × ((has_ports row && has (codes "level") has_bad_bound d) ≡ false)
+    → (list_any (λ m. has (member_key m) (is_bad_number (form_of m)) d) row.members ≡ false) × ((has_ports row && has (codes "level") has_bad_bound d) ≡ false)
 unfolding has_bad_number
-number_parts row d h = or_parts (list_any (λ m. has (key_of m) (is_bad_number (form_of m)) d) row.members) (has_ports row && has (codes "level") has_bad_bound d) h
+number_parts row d h = or_parts (list_any (λ m. has (member_key m) (is_bad_number (form_of m)) d) row.members) (has_ports row && has (codes "level") has_bad_bound d) h
 
 -- ---- ports
 
@@ -124,21 +124,21 @@ kind_is operator.Source d = refl
 kind_is o d = refl
 
 -- the numbers that its members ask for are such
-numbers_are : (o : Operator) (d : Data) → list_any (lacks_member d) (operator_row o).members ≡ false → list_any (λ m. has (key_of m) (is_bad_number (form_of m)) d) (operator_row o).members ≡ false → AllByRecursion IsNumber (numbers_of (kind_from o d))
+numbers_are : (o : Operator) (d : Data) → list_any (lacks_member d) (operator_row o).members ≡ false → list_any (λ m. has (member_key m) (is_bad_number (form_of m)) d) (operator_row o).members ≡ false → AllByRecursion IsNumber (numbers_of (kind_from o d))
 numbers_are operator.Window d there whole = ((member_number (codes "width") d false false there whole).0, tt)
 numbers_are operator.Shift d there whole = ((member_number (codes "by") d false false there whole).0, tt)
 numbers_are operator.Hop d there whole =
-    let first = member_number (codes "every") d (list_any (lacks_member d) (member.Width ∷ [])) (list_any (λ m. has (key_of m) (is_bad_number (form_of m)) d) (member.Width ∷ [])) there whole in
+    let first = member_number (codes "every") d (list_any (lacks_member d) (member.Width ∷ [])) (list_any (λ m. has (member_key m) (is_bad_number (form_of m)) d) (member.Width ∷ [])) there whole in
     (first.0, ((member_number (codes "width") d false false first.1 first.2).0, tt))
 numbers_are operator.Sequence d there whole =
-    ((member_number (codes "scope") d (list_any (lacks_member d) (member.Where ∷ [])) (list_any (λ m. has (key_of m) (is_bad_number (form_of m)) d) (member.Where ∷ [])) there whole).0, tt)
+    ((member_number (codes "scope") d (list_any (lacks_member d) (member.Where ∷ [])) (list_any (λ m. has (member_key m) (is_bad_number (form_of m)) d) (member.Where ∷ [])) there whole).0, tt)
 numbers_are operator.Unless d there whole =
-    let first = member_number (codes "scope") d (list_any (lacks_member d) (member.Hold ∷ member.Where ∷ [])) (list_any (λ m. has (key_of m) (is_bad_number (form_of m)) d) (member.Hold ∷ member.Where ∷ [])) there whole in
-    (first.0, ((member_number (codes "hold") d (list_any (lacks_member d) (member.Where ∷ [])) (list_any (λ m. has (key_of m) (is_bad_number (form_of m)) d) (member.Where ∷ [])) first.1 first.2).0, tt))
+    let first = member_number (codes "scope") d (list_any (lacks_member d) (member.Hold ∷ member.Where ∷ [])) (list_any (λ m. has (member_key m) (is_bad_number (form_of m)) d) (member.Hold ∷ member.Where ∷ [])) there whole in
+    (first.0, ((member_number (codes "hold") d (list_any (lacks_member d) (member.Where ∷ [])) (list_any (λ m. has (member_key m) (is_bad_number (form_of m)) d) (member.Where ∷ [])) first.1 first.2).0, tt))
 numbers_are o d there whole = tt
 
 -- what its members say of columns fits the ports
-fits_are : (o : Operator) (d : Data) (ports : List (List FieldType)) → list_any (λ m. has (key_of m) (is_too_long (form_of m)) d) (operator_row o).members ≡ false → list_any (is_bad_column (all_ports ports) d) (operator_row o).members ≡ false → (has_unlike_ports (operator_row o).outcome ports || list_any (has_two_types (all_ports ports) d) (operator_row o).members) ≡ false → FitsPorts (kind_from o d) ports
+fits_are : (o : Operator) (d : Data) (ports : List (List FieldType)) → list_any (λ m. has (member_key m) (is_too_long (form_of m)) d) (operator_row o).members ≡ false → list_any (is_bad_column (all_ports ports) d) (operator_row o).members ≡ false → (has_unlike_ports (operator_row o).outcome ports || list_any (member_has_two_types (all_ports ports) d) (operator_row o).members) ≡ false → FitsPorts (kind_from o d) ports
 fits_are operator.Select d ports few column types = tests_there d ports false false few column types
 fits_are operator.Project d ports few column types =
     columns_fit (columns_at (codes "keep") d) (all_ports ports) (or_parts (is_some (first_past_end (columns_at (codes "keep") d) (all_ports ports))) false column).0
@@ -176,7 +176,7 @@ word_is o = refl
 
 group_length : (keys sums : List ℕ) (count : Bool) (all : List FieldType) → length (group_types keys count sums all) ≤ length keys + (length (count_types count) + length sums)
 group_length keys sums count all =
-    omega (arith, length-append (kept keys all) (count_types count ++ map (λ _. field_type.Number) sums), length-append (count_types count) (map (λ _. field_type.Number) sums), length-map sums (λ _. field_type.Number), length-filter_map (slice_get all) keys)
+    omega (arith, length-append (kept_columns keys all) (count_types count ++ map (λ _. field_type.Number) sums), length-append (count_types count) (map (λ _. field_type.Number) sums), length-map sums (λ _. field_type.Number), length-filter_map (slice_get all) keys)
 
 -- a result has at most as many fields as it is wide
 width_covers : (result : Outcome) (d : Data) (first all : List FieldType) → length (result_types result d first all) ≤ result_width result d (result_types result d first all)

@@ -11,7 +11,7 @@ use Rattle.cedr_plan.specs.declared.operator.Outcome.{Outcome}
 use Rattle.cedr_plan.specs.declared.fault.PlanKind.{PlanKind}
 use Rattle.cedr_plan.specs.declared.fault.PlanKind.TheVariants.{TypeDiffers}
 use Rattle.cedr_plan.specs.NodeFaults.{column_fault}
-use Rattle.cedr_plan.specs.Nodes.{ports_at, first_port, all_ports, result_types, result_width, types_under, first_fault, typed_faults, is_too_wide, is_bad_column, has_bad_column, has_two_types, has_unlike_ports, has_type_difference}
+use Rattle.cedr_plan.specs.Nodes.{ports_at, first_port, all_ports, result_types, result_width, types_under, first_fault, typed_faults, is_too_wide, is_bad_column, has_bad_column, member_has_two_types, has_unlike_ports, has_type_difference}
 
 first_passes : (b c : Bool) (k l : PlanKind) → first_fault ((b, k) ∷ (c, l) ∷ []) ≡ None → b ≡ false
 first_passes true c k l h = cc
@@ -45,12 +45,12 @@ module _ (earlier : List Node) (row : Row) (d : Data) (outcome : Outcome) (ports
   unfolding has_bad_column
   no_bad_column none =
       ap (λ ts. list_any (is_bad_column ts d) row.members) (sym all_of)
-      ∙ first_passes (list_any (is_bad_column all d) row.members) (list_any (has_two_types all d) row.members) _ _ none
+      ∙ first_passes (list_any (is_bad_column all d) row.members) (list_any (member_has_two_types all d) row.members) _ _ none
 
   some_difference : has_unlike_ports outcome ports ≡ true → has_type_difference earlier row d ≡ true
   unfolding has_type_difference
   some_difference unlike =
-      ap (λ b. b || list_any (has_two_types (all_ports (ports_at earlier row d)) d) row.members)
+      ap (λ b. b || list_any (member_has_two_types (all_ports (ports_at earlier row d)) d) row.members)
       (ap (λ o. has_unlike_ports o (ports_at earlier row d)) (sym outcome_is) ∙ (ap (λ ps. has_unlike_ports outcome ps) (sym ports_are) ∙ unlike))
 
   -- its ports have different types, and nothing that is looked at before is wrong

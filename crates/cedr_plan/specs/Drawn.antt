@@ -30,8 +30,8 @@ abbrev pub drawn : Plan → Drawn
 drawn plan = record { nodes = map node_of plan.nodes.items; edge = plan.edge }
 
 -- the node is an output
-abbrev pub is_output : Node → Bool
-is_output node = is_output_kind node.kind where
+abbrev pub is_output_node : Node → Bool
+is_output_node node = is_output_kind node.kind where
   is_output_kind : NodeKind → Bool
   is_output_kind kind.Output = true
   is_output_kind other = false

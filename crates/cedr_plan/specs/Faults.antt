@@ -6,21 +6,21 @@ use Rattle.cedr_plan.specs.declared.fault.PlanKind.{PlanKind}
 use Rattle.cedr_plan.specs.declared.fault.PlanKind.TheVariants as fault
 
 -- the number of a fault, from 1 to 14
-abbrev pub number_of : PlanKind → ℕ
-number_of fault.TooLong = 1
-number_of fault.BadJson = 2
-number_of fault.MissingPart = 3
-number_of fault.UnknownOp = 4
-number_of fault.TooMany = 5
-number_of fault.BadNumber = 6
-number_of fault.BadLevel = 7
-number_of fault.TwiceNamed = 8
-number_of fault.UnknownNode = 9
-number_of fault.TooWide = 10
-number_of fault.BadColumn = 11
-number_of fault.TypeDiffers = 12
-number_of fault.NotOneOutput = 13
-number_of fault.Unused = 14
+abbrev pub plan_fault_number : PlanKind → ℕ
+plan_fault_number fault.TooLong = 1
+plan_fault_number fault.BadJson = 2
+plan_fault_number fault.MissingPart = 3
+plan_fault_number fault.UnknownOp = 4
+plan_fault_number fault.TooMany = 5
+plan_fault_number fault.BadNumber = 6
+plan_fault_number fault.BadLevel = 7
+plan_fault_number fault.TwiceNamed = 8
+plan_fault_number fault.UnknownNode = 9
+plan_fault_number fault.TooWide = 10
+plan_fault_number fault.BadColumn = 11
+plan_fault_number fault.TypeDiffers = 12
+plan_fault_number fault.NotOneOutput = 13
+plan_fault_number fault.Unused = 14
 
 -- the kind of a fault of types
 abbrev pub kind_of_types : TypeFault → PlanKind

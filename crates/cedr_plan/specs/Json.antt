@@ -6,13 +6,13 @@ use Rattle.serde_json.specs.Data.{Data, Items, no_items, item}
 use Rattle.serde_json.specs.Find.{get, as_str, as_array, as_number, as_u64}
 
 -- the values of an array
-abbrev pub list_of : Items → List Data
-list_of no_items = []
-list_of (item d ds) = d ∷ list_of ds
+abbrev pub data_list : Items → List Data
+data_list no_items = []
+data_list (item d ds) = d ∷ data_list ds
 
 -- the values of an array, and nothing where the value is no array
 abbrev pub as_list : Data → Option (List Data)
-as_list d = option_map list_of (as_array d)
+as_list d = option_map data_list (as_array d)
 
 -- a whole number of 64 bits without a sign: no fraction, no exponent
 abbrev pub as_whole : Data → Option ℕ

@@ -44,11 +44,11 @@ level_of d = if is_text d then (if is_word (codes "strong") d then strong else m
     else record { block = bound_at (codes "block") d; memory = bound_at (codes "memory") d }
 
 -- a block without limit is over each memory that has one
-abbrev pub is_over : Option ℕ → Option ℕ → Bool
-is_over block None = false
-is_over None (Some memory) = true
-is_over (Some block) (Some memory) = nat_lt memory block
+abbrev pub is_over_memory : Option ℕ → Option ℕ → Bool
+is_over_memory block None = false
+is_over_memory None (Some memory) = true
+is_over_memory (Some block) (Some memory) = nat_lt memory block
 
 -- the level's block is over its memory
 abbrev pub has_block_over_memory : Level → Bool
-has_block_over_memory level = is_over level.block level.memory
+has_block_over_memory level = is_over_memory level.block level.memory

@@ -9,17 +9,17 @@ use Rattle.std.specs.List.{slice_get, list_all, list_any, filter_map, flat_map, 
 use Rattle.cedr_base.specs.declared.field.FieldType.{FieldType}
 use Rattle.cedr_base.specs.declared.field.FieldType.TheVariants as field_type
 use Rattle.cedr_base.specs.declared.level.Level.{Level}
-use Rattle.cedr_expr.specs.Columns.{kept}
+use Rattle.cedr_expr.specs.Columns.{kept_columns}
 use Rattle.cedr_expr.specs.Types.{same_type, first_bad_column, first_differing, first_past_end}
 use Rattle.cedr_expr.specs.declared.test.Test.{Test}
 use Rattle.serde_json.specs.Data.{Data}
 use Rattle.serde_json.specs.Find.{get, as_bool, as_str}
 use Rattle.cedr_plan.specs.declared.plan.NodeKind.{NodeKind}
 use Rattle.cedr_plan.specs.declared.plan.NodeKind.TheVariants as kind
-use Rattle.cedr_plan.specs.Drawn.{Node, is_output}
+use Rattle.cedr_plan.specs.Drawn.{Node, is_output_node}
 use Rattle.cedr_plan.specs.Json.{as_list, as_whole, is_list, is_number, is_text, is_whole_within, has, values_of}
 use Rattle.cedr_plan.specs.Levels.{middle, is_level, has_bad_bound, is_unknown_level, level_of, has_block_over_memory}
-use Rattle.cedr_plan.specs.Operators.{Row, operator_row, operator_of, key_of, form_of}
+use Rattle.cedr_plan.specs.Operators.{Row, operator_row, operator_of, member_key, form_of}
 use Rattle.cedr_plan.specs.Tests.{is_test, is_bad_test, test_of}
 use Rattle.cedr_plan.specs.declared.fault.PlanKind.{PlanKind}
 use Rattle.cedr_plan.specs.declared.fault.PlanKind.TheVariants as fault
@@ -136,14 +136,14 @@ count_types false = []
 
 -- the types of keys, then of the count, then of the sums
 abbrev pub group_types : List ℕ → Bool → List ℕ → List FieldType → List FieldType
-group_types keys count sums types = kept keys types ++ (count_types count ++ map (λ _. field_type.Number) sums)
+group_types keys count sums types = kept_columns keys types ++ (count_types count ++ map (λ _. field_type.Number) sums)
 
 -- the types of the result's fields, where the first port has the types `first` and all ports together `all`
 abbrev pub result_types : Outcome → Data → List FieldType → List FieldType → List FieldType
 result_types outcome.Declared d first all = types_at d
 result_types outcome.First d first all = first
 result_types outcome.Alike d first all = first
-result_types outcome.Kept d first all = kept (columns_at (codes "keep") d) all
+result_types outcome.Kept d first all = kept_columns (columns_at (codes "keep") d) all
 result_types outcome.Joined d first all = all
 result_types outcome.Grouped d first all = group_types (columns_at (codes "keys") d) (truth_at (codes "count") d) (columns_at (codes "sum") d) all
 
@@ -174,7 +174,7 @@ has_form form.Number d = is_number d
 
 -- the member isn't there or isn't in its form
 abbrev pub lacks_member : Data → Member → Bool
-lacks_member d m = not (has (key_of m) (has_form (form_of m)) d)
+lacks_member d m = not (has (member_key m) (has_form (form_of m)) d)
 
 -- `from` isn't there, isn't an array of texts, or has too few of them
 abbrev pub lacks_inputs : Row → Data → Bool
@@ -200,7 +200,7 @@ is_too_long form.Number d = false
 
 -- 5
 unfoldable pub has_too_many : Row → Data → Bool
-has_too_many row d = nat_lt row.most (length (input_values row d)) || list_any (λ m. has (key_of m) (is_too_long (form_of m)) d) row.members
+has_too_many row d = nat_lt row.most (length (input_values row d)) || list_any (λ m. has (member_key m) (is_too_long (form_of m)) d) row.members
 
 -- a number in it isn't whole or isn't in its range
 abbrev pub is_bad_number : Form → Data → Bool
@@ -214,7 +214,7 @@ is_bad_number form.Number d = not (is_whole_within 1 (2 ^ 40) d)
 
 -- 6
 unfoldable pub has_bad_number : Row → Data → Bool
-has_bad_number row d = list_any (λ m. has (key_of m) (is_bad_number (form_of m)) d) row.members || (has_ports row && has (codes "level") has_bad_bound d)
+has_bad_number row d = list_any (λ m. has (member_key m) (is_bad_number (form_of m)) d) row.members || (has_ports row && has (codes "level") has_bad_bound d)
 
 -- 7: `level` is no level's name, or its block is over its memory
 unfoldable pub has_bad_level : Row → Data → Bool
@@ -226,7 +226,7 @@ is_named_twice earlier d = list_any (is_named (text_at (codes "name") d)) earlie
 
 -- no earlier node, or an output
 abbrev pub is_unknown : List Node → Data → Bool
-is_unknown earlier d = option_map_or (λ place. option_map_or is_output (slice_get earlier place) true) (place_of earlier d) true
+is_unknown earlier d = option_map_or (λ place. option_map_or is_output_node (slice_get earlier place) true) (place_of earlier d) true
 
 -- 9
 unfoldable pub has_unknown_input : List Node → Row → Data → Bool
@@ -266,19 +266,19 @@ same_types (x ∷ xs) (y ∷ ys) = same_type x y && same_types xs ys
 same_types xs ys = false
 
 -- the member has a test whose two sides differ in type, or sums a column of texts
-abbrev pub has_two_types : List FieldType → Data → Member → Bool
-has_two_types types d member.File = false
-has_two_types types d member.Fields = false
-has_two_types types d member.Where = is_some (first_differing (tests_at d) types [])
-has_two_types types d member.Keep = false
-has_two_types types d member.Keys = false
-has_two_types types d member.Count = false
-has_two_types types d member.Sum = list_any (is_text_column types) (columns_at (codes "sum") d)
-has_two_types types d member.Width = false
-has_two_types types d member.By = false
-has_two_types types d member.Every = false
-has_two_types types d member.Scope = false
-has_two_types types d member.Hold = false
+abbrev pub member_has_two_types : List FieldType → Data → Member → Bool
+member_has_two_types types d member.File = false
+member_has_two_types types d member.Fields = false
+member_has_two_types types d member.Where = is_some (first_differing (tests_at d) types [])
+member_has_two_types types d member.Keep = false
+member_has_two_types types d member.Keys = false
+member_has_two_types types d member.Count = false
+member_has_two_types types d member.Sum = list_any (is_text_column types) (columns_at (codes "sum") d)
+member_has_two_types types d member.Width = false
+member_has_two_types types d member.By = false
+member_has_two_types types d member.Every = false
+member_has_two_types types d member.Scope = false
+member_has_two_types types d member.Hold = false
 
 -- the node needs the same types on all ports, and its ports have different ones
 abbrev pub has_unlike_ports : Outcome → List (List FieldType) → Bool
@@ -291,7 +291,7 @@ has_unlike_ports outcome.Grouped ports = false
 
 -- 12
 unfoldable pub has_type_difference : List Node → Row → Data → Bool
-has_type_difference earlier row d = has_unlike_ports row.outcome (ports_at earlier row d) || list_any (has_two_types (all_ports (ports_at earlier row d)) d) row.members
+has_type_difference earlier row d = has_unlike_ports row.outcome (ports_at earlier row d) || list_any (member_has_two_types (all_ports (ports_at earlier row d)) d) row.members
 
 -- ---- the node
 

@@ -50,19 +50,19 @@ abbrev pub operator_of : List ℕ → Option Operator
 operator_of word = find (λ operator. bytes_eq (operator_row operator).word word) operators
 
 -- the name of a member
-abbrev pub key_of : Member → List ℕ
-key_of member.File = codes "file"
-key_of member.Fields = codes "fields"
-key_of member.Where = codes "where"
-key_of member.Keep = codes "keep"
-key_of member.Keys = codes "keys"
-key_of member.Count = codes "count"
-key_of member.Sum = codes "sum"
-key_of member.Width = codes "width"
-key_of member.By = codes "by"
-key_of member.Every = codes "every"
-key_of member.Scope = codes "scope"
-key_of member.Hold = codes "hold"
+abbrev pub member_key : Member → List ℕ
+member_key member.File = codes "file"
+member_key member.Fields = codes "fields"
+member_key member.Where = codes "where"
+member_key member.Keep = codes "keep"
+member_key member.Keys = codes "keys"
+member_key member.Count = codes "count"
+member_key member.Sum = codes "sum"
+member_key member.Width = codes "width"
+member_key member.By = codes "by"
+member_key member.Every = codes "every"
+member_key member.Scope = codes "scope"
+member_key member.Hold = codes "hold"
 
 -- what each member has to be
 abbrev pub form_of : Member → Form

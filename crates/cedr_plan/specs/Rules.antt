@@ -4,12 +4,12 @@ use Rattle.std.specs.List.{slice_get, list_any}
 use Rattle.cedr_base.specs.declared.field.FieldType.{FieldType}
 use Rattle.cedr_base.specs.declared.field.FieldType.TheVariants as field_type
 use Rattle.cedr_base.specs.declared.level.Level.{Level}
-use Rattle.cedr_expr.specs.Columns.{kept}
+use Rattle.cedr_expr.specs.Columns.{kept_columns}
 use Rattle.cedr_expr.specs.Types.{type_fault_of, keep_fault_of}
 use Rattle.cedr_expr.specs.declared.test.Test.{Test}
 use Rattle.cedr_plan.specs.declared.plan.NodeKind.{NodeKind}
 use Rattle.cedr_plan.specs.declared.plan.NodeKind.TheVariants as kind
-use Rattle.cedr_plan.specs.Drawn.{Node, Drawn, is_output, drawn}
+use Rattle.cedr_plan.specs.Drawn.{Node, Drawn, is_output_node, drawn}
 use Rattle.cedr_plan.specs.Levels.{middle, has_block_over_memory}
 use Rattle.cedr_plan.specs.Nodes.{is_name, is_named, types_of, first_port, all_ports, group_types}
 use Rattle.cedr_plan.specs.Operators.{Row, operator_row}
@@ -44,7 +44,7 @@ port_types earlier node = map (types_of earlier) node.inputs
 
 -- an earlier node that isn't an output
 abbrev pub IsInput : List Node → ℕ → Type 0
-IsInput earlier place = (place < length earlier) × IfSome (slice_get earlier place) (λ node. is_output node ≡ false)
+IsInput earlier place = (place < length earlier) × IfSome (slice_get earlier place) (λ node. is_output_node node ≡ false)
 
 -- a bound of a level is at most 2^40, or without limit
 abbrev pub IsBound : Option ℕ → Type 0
@@ -95,7 +95,7 @@ FitsPorts other ports = Unit {0}
 -- the field types of a result; a source's are its own
 abbrev pub HasTypes : NodeKind → List (List FieldType) → List FieldType → Type 0
 HasTypes (kind.Source file) ports types = Unit {0}
-HasTypes (kind.Project keep) ports types = types ≡ kept keep (all_ports ports)
+HasTypes (kind.Project keep) ports types = types ≡ kept_columns keep (all_ports ports)
 HasTypes (kind.Join tests) ports types = types ≡ all_ports ports
 HasTypes (kind.Group keys count sums) ports types = types ≡ group_types keys count sums (all_ports ports)
 HasTypes (kind.Sequence scope tests) ports types = types ≡ all_ports ports
@@ -133,7 +133,7 @@ is_read place nodes = list_any (λ (node : Node). list_any (λ input. input == p
 -- list stands at this place in the plan
 abbrev pub first_unused : ℕ → List Node → Option ℕ
 first_unused place [] = None
-first_unused place (node ∷ nodes) = if is_output node || is_read place nodes then first_unused (place + 1) nodes else Some (place + 1)
+first_unused place (node ∷ nodes) = if is_output_node node || is_read place nodes then first_unused (place + 1) nodes else Some (place + 1)
 
 -- the rules of a plan: each node reads earlier ones that fit, there is one output, and all else is used
 pub record IsSound (plan : Drawn) : Type 0 where
@@ -141,7 +141,7 @@ pub record IsSound (plan : Drawn) : Type 0 where
   pub count : length plan.nodes ≤ 64
   pub least_edge : 1 ≤ plan.edge
   pub most_edge : plan.edge ≤ 1024
-  pub one_output : count_by is_output plan.nodes ≡ 1
+  pub one_output : count_by is_output_node plan.nodes ≡ 1
   pub used : first_unused 0 plan.nodes ≡ None
 
 -- the plan keeps the rules

@@ -5,7 +5,7 @@ ghost use Rattle.cedr_plan.specs.Drawn.{node_of};
 ghost use Rattle.cedr_plan.specs.Nodes.{is_name, is_name_byte, is_named, has_ports, is_name_value, lacks_inputs, lacks_member, has_odd_level, has_missing_part, has_too_many, has_bad_number, has_bad_level, is_named_twice, is_unknown, has_unknown_input, is_too_long, is_bad_number, first_fault, untyped_faults, operator_at, fault_without_operator};
 ghost use Rattle.cedr_plan.specs.Json.{has, is_text, is_list};
 ghost use Rattle.cedr_plan.specs.Levels.{has_bad_bound};
-ghost use Rattle.cedr_plan.specs.Operators.{operator_row, key_of, form_of};
+ghost use Rattle.cedr_plan.specs.Operators.{operator_row, member_key, form_of};
 
 use crate::fault::PlanKind;
 use crate::form::{has_form, is_bad_number, is_too_long};
@@ -187,7 +187,7 @@ fn has_too_many(operator: Operator, node: &Value) -> bool
 }
 
 fn has_long_member(operator: Operator, node: &Value) -> bool
-    ensures { result ≡ list_any (λ m. has (key_of m) (is_too_long (form_of m)) (view node.now)) (operator_row operator).members }
+    ensures { result ≡ list_any (λ m. has (member_key m) (is_too_long (form_of m)) (view node.now)) (operator_row operator).members }
 {
     operator
         .row()
@@ -197,7 +197,7 @@ fn has_long_member(operator: Operator, node: &Value) -> bool
 }
 
 fn is_long_member(node: &Value, member: Member) -> bool
-    ensures { result ≡ has (key_of member) (is_too_long (form_of member)) (view node.now) }
+    ensures { result ≡ has (member_key member) (is_too_long (form_of member)) (view node.now) }
 {
     match node.get(member.key()) {
         Some(value) => is_too_long(member.form(), value),
@@ -213,7 +213,7 @@ fn has_bad_number(operator: Operator, node: &Value) -> bool
 }
 
 fn has_bad_member(operator: Operator, node: &Value) -> bool
-    ensures { result ≡ list_any (λ m. has (key_of m) (is_bad_number (form_of m)) (view node.now)) (operator_row operator).members }
+    ensures { result ≡ list_any (λ m. has (member_key m) (is_bad_number (form_of m)) (view node.now)) (operator_row operator).members }
 {
     operator
         .row()
@@ -223,7 +223,7 @@ fn has_bad_member(operator: Operator, node: &Value) -> bool
 }
 
 fn is_bad_member(node: &Value, member: Member) -> bool
-    ensures { result ≡ has (key_of member) (is_bad_number (form_of member)) (view node.now) }
+    ensures { result ≡ has (member_key member) (is_bad_number (form_of member)) (view node.now) }
 {
     match node.get(member.key()) {
         Some(value) => is_bad_number(member.form(), value),

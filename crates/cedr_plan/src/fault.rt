@@ -1,50 +1,37 @@
 ghost use Rattle.std.specs.Prelude.{◌≡◌};
-ghost use Rattle.cedr_plan.specs.Faults.{number_of, kind_of_types};
+ghost use Rattle.cedr_plan.specs.Faults.{plan_fault_number, kind_of_types};
 ghost use Rattle.cedr_plan.specs.declared.fault.NodeFault.TheVariants as node_fault;
 ghost use Rattle.cedr_plan.specs.declared.fault.PlanFault.TheVariants as plan_fault;
 
 use cedr_base::OutOfMemory;
 use cedr_expr::TypeFault;
 use std::alloc::AllocFailed;
+use std::fmt;
 use thiserror::Error;
 
 /// What is wrong with a plan. Where several hold of one node, the one with the least number counts.
-#[derive(Clone, Copy, Debug, PartialEq, Eq, Error)]
+#[derive(Clone, Copy, Debug, PartialEq, Eq)]
 pub enum PlanKind {
-    #[error("the plan is too long")]
     TooLong,
-    #[error("the plan isn't JSON")]
     BadJson,
-    #[error("a required member is missing or isn't in form")]
     MissingPart,
-    #[error("the operator isn't known")]
     UnknownOp,
-    #[error("there are too many nodes, ports, fields or tests")]
     TooMany,
-    #[error("a number isn't whole or isn't in its range")]
     BadNumber,
-    #[error("the level isn't known, or its block is over its memory")]
     BadLevel,
-    #[error("the name is an earlier node's")]
     TwiceNamed,
-    #[error("an input is no earlier node, or an output")]
     UnknownNode,
-    #[error("the result has too many fields")]
     TooWide,
-    #[error("a column isn't there")]
     BadColumn,
-    #[error("types differ")]
     TypeDiffers,
-    #[error("there isn't exactly one output")]
     NotOneOutput,
-    #[error("a node is never used")]
     Unused,
 }
 
 impl PlanKind {
     /// The fault's number, from 1 to 14, as messages show it.
     pub fn number(&self) -> u8
-        ensures { result ≡ number_of self.now }
+        ensures { result ≡ plan_fault_number self.now }
     {
         match self {
             PlanKind::TooLong => 1,
@@ -62,6 +49,32 @@ impl PlanKind {
             PlanKind::NotOneOutput => 13,
             PlanKind::Unused => 14,
         }
+    }
+
+    /// What is wrong, in words.
+    fn text(&self) -> &'static str {
+        match self {
+            PlanKind::TooLong => "the plan is too long",
+            PlanKind::BadJson => "the plan isn't JSON",
+            PlanKind::MissingPart => "a required member is missing or isn't in form",
+            PlanKind::UnknownOp => "the operator isn't known",
+            PlanKind::TooMany => "there are too many nodes, ports, fields or tests",
+            PlanKind::BadNumber => "a number isn't whole or isn't in its range",
+            PlanKind::BadLevel => "the level isn't known, or its block is over its memory",
+            PlanKind::TwiceNamed => "the name is an earlier node's",
+            PlanKind::UnknownNode => "an input is no earlier node, or an output",
+            PlanKind::TooWide => "the result has too many fields",
+            PlanKind::BadColumn => "a column isn't there",
+            PlanKind::TypeDiffers => "types differ",
+            PlanKind::NotOneOutput => "there isn't exactly one output",
+            PlanKind::Unused => "a node is never used",
+        }
+    }
+}
+
+impl fmt::Display for PlanKind {
+    fn fmt<W: fmt::Write>(&self, f: &mut fmt::Formatter<W>) -> fmt::Result {
+        f.write_str(self.text())
     }
 }
 

@@ -2,7 +2,7 @@ ghost use Rattle.std.specs.Prelude.{◌≡◌, IfOk, map, true};
 ghost use Rattle.std.specs.Option.{option_map_or};
 ghost use Rattle.std.specs.List.{filter_map, position, slice_get};
 ghost use Rattle.serde_json.specs.View.{view};
-ghost use Rattle.cedr_plan.specs.Drawn.{node_of, is_output};
+ghost use Rattle.cedr_plan.specs.Drawn.{node_of, is_output_node};
 ghost use Rattle.cedr_plan.specs.Nodes.{is_named, place_of, is_unknown, input_values, level_at, types_of, inputs_at, first_port, all_ports, has_ports};
 ghost use Rattle.cedr_plan.specs.Operators.{operator_row};
 
@@ -45,7 +45,7 @@ pub(crate) fn level_at(operator: Operator, node: &Value) -> Level
 }
 
 pub(crate) fn is_output(node: &PlanNode) -> bool
-    ensures { result ≡ is_output (node_of node.now) }
+    ensures { result ≡ is_output_node (node_of node.now) }
 {
     matches!(node.kind, NodeKind::Output)
 }
@@ -84,7 +84,7 @@ pub(crate) fn is_unknown(earlier: &[PlanNode], value: &Value) -> bool
 }
 
 fn is_output_at(earlier: &[PlanNode], place: usize) -> bool
-    ensures { result ≡ option_map_or is_output (slice_get (map node_of earlier.now) place) true }
+    ensures { result ≡ option_map_or is_output_node (slice_get (map node_of earlier.now) place) true }
 {
     match earlier.get(place) {
         Some(node) => is_output(node),

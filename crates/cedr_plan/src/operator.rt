@@ -1,8 +1,8 @@
 ghost use Rattle.std.specs.Prelude.{◌≡◌, option_copied};
-ghost use Rattle.cedr_plan.specs.Operators.{operator_row, operators, operator_of, key_of, form_of};
+ghost use Rattle.cedr_plan.specs.Operators.{operator_row, operators, operator_of, member_key, form_of};
 
 /// What a node does.
-#[derive(Clone, Copy, Debug, PartialEq, Eq)]
+#[derive(Clone, Copy, PartialEq, Eq)]
 pub(crate) enum Operator {
     Source,
     Select,
@@ -21,7 +21,7 @@ pub(crate) enum Operator {
 }
 
 /// A member that some operators ask for beside `name`, `op`, `from` and `level`.
-#[derive(Clone, Copy, Debug, PartialEq, Eq)]
+#[derive(Clone, Copy, PartialEq, Eq)]
 pub(crate) enum Member {
     File,
     Fields,
@@ -38,7 +38,7 @@ pub(crate) enum Member {
 }
 
 /// What a member has to be.
-#[derive(Clone, Copy, Debug, PartialEq, Eq)]
+#[derive(Clone, Copy, PartialEq, Eq)]
 pub(crate) enum Form {
     Text,
     Types,
@@ -51,7 +51,7 @@ pub(crate) enum Form {
 }
 
 /// Which field types a result has.
-#[derive(Clone, Copy, Debug, PartialEq, Eq)]
+#[derive(Clone, Copy, PartialEq, Eq)]
 pub(crate) enum Outcome {
     /// Those that the node declares.
     Declared,
@@ -181,7 +181,7 @@ impl Operator {
 impl Member {
     /// The member's name.
     pub(crate) fn key(self) -> &'static str
-        ensures { result.now ≡ key_of self }
+        ensures { result.now ≡ member_key self }
     {
         match self {
             Member::File => "file",

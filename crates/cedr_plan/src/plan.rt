@@ -27,7 +27,6 @@ pub enum NodeKind {
 }
 
 /// A node of a plan. Columns count from 0, in tests through the fields of all inputs in their order.
-#[derive(Drop)]
 pub struct PlanNode {
     pub name: Text,
     pub kind: NodeKind,
@@ -39,12 +38,29 @@ pub struct PlanNode {
     pub types: Vec<FieldType>,
 }
 
+impl Drop for PlanNode {
+    fn drop(self) {
+        let PlanNode {
+            name: _,
+            kind: _,
+            inputs: _,
+            level: _,
+            types: _,
+        } = self;
+    }
+}
+
 /// The nodes of a query, each after those that it reads, and how many messages an edge between two of them
 /// holds.
-#[derive(Drop)]
 pub struct Plan {
     pub nodes: Vec<PlanNode>,
     pub edge: usize,
+}
+
+impl Drop for Plan {
+    fn drop(self) {
+        let Plan { nodes: _, edge: _ } = self;
+    }
 }
 
 impl NodeKind {

@@ -2,7 +2,7 @@ ghost use Rattle.std.specs.Prelude.{◌≡◌, ◌+◌, ◌++◌, IfOk, OnOk, ma
 ghost use Rattle.std.specs.List.{list_any, slice_get};
 ghost use Rattle.serde_json.specs.View.{view};
 ghost use Rattle.cedr_base.specs.declared.field.FieldType.TheVariants as field_type;
-ghost use Rattle.cedr_expr.specs.Columns.{kept};
+ghost use Rattle.cedr_expr.specs.Columns.{kept_columns};
 ghost use Rattle.cedr_plan.specs.Drawn.{node_of};
 ghost use Rattle.cedr_plan.specs.Nodes.{columns_at, truth_at, types_of, first_port, all_ports, group_types, count_types, same_types, has_unlike_ports, result_types, result_width};
 
@@ -48,7 +48,7 @@ fn kept_types(
     columns: &[usize],
     types: &[FieldType],
 ) -> Result<Vec<FieldType>, OutOfMemory>
-    ensures { IfOk result (λ chosen. chosen.items ≡ kept columns.now types.now) }
+    ensures { IfOk result (λ chosen. chosen.items ≡ kept_columns columns.now types.now) }
 {
     let mut chosen = Vec::new(alloc);
     for column in columns {

@@ -10,12 +10,12 @@ use Rattle.cedr_base.specs.declared.time.TheConstants.{FOREVER}
 use Rattle.cedr_base.specs.Rows.{count_of, SameRows, IsRow, in_order, AreRows}
 use Rattle.cedr_base.proofs.Bags.{count_of-append, count_of-cons}
 use Rattle.cedr_base.proofs.Sorting.{in_order_counts}
-use Rattle.cedr_stream.specs.Repairs.{IsMoved, AreLegal, Leads}
-use Rattle.cedr_stream.proofs.BagSums.{count_of-itself, same_itself, same_back, same_along}
+use Rattle.change_laws.specs.Repairs.{IsMoved, AreLegal, Leads}
+use Rattle.change_laws.proofs.BagSums.{count_of-itself, same_itself, same_back, same_along}
 use Rattle.cedr_table.specs.Operators.{Tables, Meaning, table_at, mark_at, with_table, CanTake, Gains, AllRise, SameTables}
 use Rattle.cedr_table.specs.OperatorLaws.{OperatorLaws}
-use Rattle.cedr_query.specs.Asked.{Works, IsAnswer}
-use Rattle.cedr_query.proofs.Changing.{legal_alike, leads_alike, rows_led}
+use Rattle.cedr_query.specs.Asked.{MadeOfTables, IsAnswer}
+use Rattle.cedr_table.proofs.Changing.{legal_alike, leads_alike, rows_led}
 
 none_promised : (n k : ℕ) → mark_at (replicate n 0) k ≡ 0
 none_promised zero k = refl
@@ -32,7 +32,7 @@ pub added_moves : (row : Row) (rows : List Row) → IsMoved (Add row) rows (rows
 added_moves row rows = record { sums = record { each = λ r. omega (arith, count_of-append r (rows ++ row ∷ []) []) } }
 
 -- a row may come on each port of a state to which nothing was promised
-pub can_add : (meaning : Meaning) (stands : Tables → List ℕ → Type 0) (tables : Tables) (made : List Row) (port : ℕ) (row : Row) → OperatorLaws meaning stands → Works meaning stands tables made → port < meaning.ports → IsRow row
+pub can_add : (meaning : Meaning) (stands : Tables → List ℕ → Type 0) (tables : Tables) (made : List Row) (port : ℕ) (row : Row) → OperatorLaws meaning stands → MadeOfTables meaning stands tables made → port < meaning.ports → IsRow row
     → CanTake tables (replicate meaning.ports 0) port (Add row)
 can_add meaning stands tables made port row laws works within is = record {
   port_is = (let sized = laws.sized tables (replicate meaning.ports 0) works.stands_for in omega (arith, sized.0));
@@ -49,13 +49,13 @@ gained_leads old new t answers gains = subst (λ (cs : List Change). Leads old c
 
 -- a state works on, with a row more on a port
 pub works_on : (meaning next : Meaning) (stands nexts : Tables → List ℕ → Type 0) (tables after : Tables) (made new : List Row) (t : ℕ) (answers : List Change) → next ≡ meaning
-    → Works meaning stands tables made
+    → MadeOfTables meaning stands tables made
     → nexts after (replicate meaning.ports 0)
     → Gains (meaning.result tables) (meaning.result after) t [] answers
     → Leads made answers new
-    → Works next nexts after new
+    → MadeOfTables next nexts after new
 works_on meaning next stands nexts tables after made new t answers same works stands_next gains leads =
-    subst (λ (m : Meaning). Works m nexts after new) (sym same) (record {
+    subst (λ (m : Meaning). MadeOfTables m nexts after new) (sym same) (record {
       stands_for = stands_next;
       result = leads_alike made new (meaning.result tables) (meaning.result after) answers works.result leads (gained_leads (meaning.result tables) (meaning.result after) t answers gains);
       rows = rows_led made new answers works.rows (legal_answers (meaning.result tables) made (meaning.result after) t answers works.result gains) leads;
@@ -66,7 +66,7 @@ abbrev pub Repairs : Meaning → (Tables → List ℕ → Type 0) → ℕ → Ch
 Repairs meaning stands port change before after = (tables : Tables) (marks : List ℕ) (rows : List Row) → stands tables marks → CanTake tables marks port change → IsMoved change (table_at tables port) rows
     → Gains (meaning.result tables) (meaning.result (with_table tables port rows)) (meaning.bound tables marks) before after
 
-module _ (meaning : Meaning) (stands : Tables → List ℕ → Type 0) (laws : OperatorLaws meaning stands) (tables : Tables) (made : List Row) (works : Works meaning stands tables made) (port : ℕ) (within : port < meaning.ports) (row copied : Row) (is_row : IsRow row) (is_copy : copied ≡ row) where
+module _ (meaning : Meaning) (stands : Tables → List ℕ → Type 0) (laws : OperatorLaws meaning stands) (tables : Tables) (made : List Row) (works : MadeOfTables meaning stands tables made) (port : ℕ) (within : port < meaning.ports) (row copied : Row) (is_row : IsRow row) (is_copy : copied ≡ row) where
   can_copy : CanTake tables (replicate meaning.ports 0) port (Add copied)
   can_copy = subst (λ (x : Row). CanTake tables (replicate meaning.ports 0) port (Add x)) (sym is_copy) (can_add meaning stands tables made port row laws works within is_row)
 
@@ -93,7 +93,7 @@ module _ (meaning : Meaning) (stands : Tables → List ℕ → Type 0) (laws : O
   pub add_works : (next : Meaning) (nexts : Tables → List ℕ → Type 0) (new : List Row) (before after answers : List Change) → before ≡ [] → answers ≡ after → Repairs meaning stands port (Add copied) before after
       → ((ts : Tables) (marks : List ℕ) (rows : List Row) → stands ts marks → CanTake ts marks port (Add copied) → IsMoved (Add copied) (table_at ts port) rows → nexts (with_table ts port rows) marks)
       → next ≡ meaning → Leads made answers new
-      → Works next nexts (with_table tables port (table_at tables port ++ row ∷ [])) new
+      → MadeOfTables next nexts (with_table tables port (table_at tables port ++ row ∷ [])) new
   add_works next nexts new before after answers empty is repairs stands_on same leads =
       works_on meaning next stands nexts tables (with_table tables port (table_at tables port ++ row ∷ [])) made new (meaning.bound tables (replicate meaning.ports 0)) after same works
       (stands_on tables (replicate meaning.ports 0) (table_at tables port ++ row ∷ []) works.stands_for can_copy copy_moves)
@@ -189,7 +189,7 @@ fed_all tables inputs port fed long past was =
     (λ k h. subst (λ (t : List Row). SameRows (table_at fed k) t) (sym (get_or-map (table_at tables) inputs k 0 [] (omega (arith, long)))) (same_back (table_at tables (get_or inputs k 0)) (table_at fed k) (was.before k (omega (arith, long)))))
 
 -- a state that stands for tables works for the same bags
-pub works_alike : (meaning : Meaning) (stands : Tables → List ℕ → Type 0) (ts us : Tables) (made : List Row) → OperatorLaws meaning stands → SameTables ts us → Works meaning stands ts made → Works meaning stands us made
+pub works_alike : (meaning : Meaning) (stands : Tables → List ℕ → Type 0) (ts us : Tables) (made : List Row) → OperatorLaws meaning stands → SameTables ts us → MadeOfTables meaning stands ts made → MadeOfTables meaning stands us made
 works_alike meaning stands ts us made laws same works = record {
   stands_for = laws.alike ts us (replicate meaning.ports 0) same works.stands_for;
   result = same_along made (meaning.result ts) (meaning.result us) works.result (laws.same_rows ts us same);
@@ -198,13 +198,13 @@ works_alike meaning stands ts us made laws same works = record {
 
 -- a state that was fed all tables that are read works for tables that are the same bags as these
 pub works_fed : (meaning : Meaning) (stands : Tables → List ℕ → Type 0) (tables : Tables) (inputs : List ℕ) (port : ℕ) (fed others : Tables) (made : List Row) → OperatorLaws meaning stands → length inputs ≡ meaning.ports
-    → length inputs ≤ port → FedTo tables inputs port fed → Works meaning stands fed made → SameTables (map (table_at tables) inputs) others → Works meaning stands others made
+    → length inputs ≤ port → FedTo tables inputs port fed → MadeOfTables meaning stands fed made → SameTables (map (table_at tables) inputs) others → MadeOfTables meaning stands others made
 works_fed meaning stands tables inputs port fed others made laws ports past was works same =
     let sized = laws.sized fed (replicate meaning.ports 0) works.stands_for in
     works_alike meaning stands fed others made laws (same_tables_along fed (map (table_at tables) inputs) others (fed_all tables inputs port fed (sized.0 ∙ sym ports) past was) same) works
 
 -- a new state works
-pub works_new : (meaning : Meaning) (stands : Tables → List ℕ → Type 0) → OperatorLaws meaning stands → stands (replicate meaning.ports []) (replicate meaning.ports 0) → Works meaning stands (replicate meaning.ports []) []
+pub works_new : (meaning : Meaning) (stands : Tables → List ℕ → Type 0) → OperatorLaws meaning stands → stands (replicate meaning.ports []) (replicate meaning.ports 0) → MadeOfTables meaning stands (replicate meaning.ports []) []
 works_new meaning stands laws new = record {
   stands_for = new;
   result = same_back (meaning.result (replicate meaning.ports [])) [] laws.nothing;
@@ -218,7 +218,7 @@ rise_from_none (suc n) [] long = absurd (omega arith)
 rise_from_none (suc n) (m ∷ ms) long = (omega arith, rise_from_none n ms (omega arith))
 
 -- what works for tables stands for them and all marks
-pub stands_at : (meaning : Meaning) (stands : Tables → List ℕ → Type 0) (tables : Tables) (marks : List ℕ) (made : List Row) → OperatorLaws meaning stands → Works meaning stands tables made → length marks ≡ meaning.ports → stands tables marks
+pub stands_at : (meaning : Meaning) (stands : Tables → List ℕ → Type 0) (tables : Tables) (marks : List ℕ) (made : List Row) → OperatorLaws meaning stands → MadeOfTables meaning stands tables made → length marks ≡ meaning.ports → stands tables marks
 stands_at meaning stands tables marks made laws works long = laws.rising tables (replicate meaning.ports 0) marks works.stands_for (rise_from_none meaning.ports marks long)
 
 -- tables are the same bags as themselves
@@ -236,7 +236,7 @@ pub read_is : (tables : Tables) (place : ℕ) (t : List Row) → place < length 
 read_is tables place t within is = is ∙ at_any tables place t [] within
 
 -- what works for tables, and its bound, are what the operator means
-pub works_answer : (meaning next : Meaning) (stands : Tables → List ℕ → Type 0) (tables : Tables) (marks : List ℕ) (made : List Row) (mark : ℕ) → next ≡ meaning → Works next stands tables made → mark ≡ next.bound tables marks → mark ≤ FOREVER
+pub works_answer : (meaning next : Meaning) (stands : Tables → List ℕ → Type 0) (tables : Tables) (marks : List ℕ) (made : List Row) (mark : ℕ) → next ≡ meaning → MadeOfTables next stands tables made → mark ≡ next.bound tables marks → mark ≤ FOREVER
     → IsAnswer meaning tables marks made mark
 works_answer meaning next stands tables marks made mark same works is time = record {
   result = subst (λ (m : Meaning). SameRows made (m.result tables)) same works.result;

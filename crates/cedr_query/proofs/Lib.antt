@@ -1,4 +1,3 @@
-pub mod Changing
 pub mod Feeding
 pub mod NodeLemmas
 pub mod QueryLemmas

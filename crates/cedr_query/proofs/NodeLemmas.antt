@@ -7,7 +7,7 @@ use Rattle.std.proofs.lemmas.List.Elements.{All-get_or, All-from_get_or}
 use Rattle.cedr_base.specs.declared.row.Row.{Row}
 use Rattle.cedr_base.specs.Rows.{SameRows, AreRows}
 use Rattle.cedr_plan.specs.declared.plan.PlanNode.{PlanNode}
-use Rattle.cedr_plan.specs.Drawn.{Node, node_of, is_output as is_drawn_output}
+use Rattle.cedr_plan.specs.Drawn.{Node, node_of, is_output_node as is_drawn_output}
 use Rattle.cedr_plan.specs.Rules.{IsInput, IsNode, AreNodes}
 use Rattle.cedr_table.specs.Operators.{Tables, SameTables, table_at, HaveRows}
 use Rattle.cedr_query.specs.Queries.{each_node, source_count}

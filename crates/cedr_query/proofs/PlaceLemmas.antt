@@ -7,7 +7,7 @@ use Rattle.cedr_plan.specs.declared.plan.NodeKind.{NodeKind}
 use Rattle.cedr_plan.specs.declared.plan.NodeKind.TheVariants as kind
 use Rattle.cedr_plan.specs.declared.plan.Plan.{Plan}
 use Rattle.cedr_plan.specs.declared.plan.PlanNode.{PlanNode}
-use Rattle.cedr_plan.specs.Drawn.{Node, node_of, is_output as is_drawn_output}
+use Rattle.cedr_plan.specs.Drawn.{Node, node_of, is_output_node as is_drawn_output}
 use Rattle.cedr_plan.specs.Rules.{IsPlan}
 use Rattle.cedr_query.specs.Queries.{is_output, source_count, output_place}
 use Rattle.cedr_query.proofs.NodeLemmas.{counted}

@@ -6,7 +6,7 @@ use Rattle.cedr_base.specs.Rows.{AreRows, SameRows}
 use Rattle.cedr_table.specs.Operators.{Tables, Meaning}
 
 -- a state stands for tables of which nothing was promised yet, and a table has the rows of the result
-pub record Works (meaning : Meaning) (stands : Tables → List ℕ → Type 0) (tables : Tables) (made : List Row) : Type 0 where
+pub record MadeOfTables (meaning : Meaning) (stands : Tables → List ℕ → Type 0) (tables : Tables) (made : List Row) : Type 0 where
   pub stands_for : stands tables (replicate meaning.ports 0)
   pub result : SameRows made (meaning.result tables)
   pub rows : AreRows made

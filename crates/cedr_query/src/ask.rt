@@ -1,11 +1,10 @@
 ghost use Rattle.std.specs.Prelude.{ℕ, ◌≡◌, ◌<◌, ◌++◌, ◌∷◌, [], List, All, OnOk, IfOk, length, map, replicate, slice_index};
 ghost use Rattle.cedr_base.specs.Rows.{IsRow, AreRows};
 ghost use Rattle.cedr_table.specs.Operators.{Tables, AreTimes, SameTables, table_at, with_table, HaveRows};
-ghost use Rattle.cedr_query.specs.Asked.{Works, IsAnswer};
+ghost use Rattle.cedr_query.specs.Asked.{MadeOfTables, IsAnswer};
 
-use crate::applying::apply_all;
 use cedr_base::{Change, OutOfMemory, Row, Time};
-use cedr_table::{Operator, Table};
+use cedr_table::{Operator, Table, apply_all};
 use std::alloc::Global;
 
 /// What an operator makes of tables and marks on its ports.
@@ -27,8 +26,8 @@ fn add_row<O: Operator>(
 ) -> Result<(), OutOfMemory>
     requires row { IsRow row.now }
     requires port { port < (O.meaning op.old).ports }
-    requires works { (tables : Tables) × Works (O.meaning op.old) (O.stands op.old) tables made.old }
-    ensures works { OnOk result ((tables : Tables) → Works (O.meaning op.old) (O.stands op.old) tables made.old → Works (O.meaning op.new) (O.stands op.new) (with_table tables port (table_at tables port ++ row.now ∷ [])) made.new) }
+    requires works { (tables : Tables) × MadeOfTables (O.meaning op.old) (O.stands op.old) tables made.old }
+    ensures works { OnOk result ((tables : Tables) → MadeOfTables (O.meaning op.old) (O.stands op.old) tables made.old → MadeOfTables (O.meaning op.new) (O.stands op.new) (with_table tables port (table_at tables port ++ row.now ∷ [])) made.new) }
     ensures meaning { OnOk result (O.meaning op.new ≡ O.meaning op.old) }
 {
     let change = Change::Add(row.copy(alloc)?);
@@ -47,8 +46,8 @@ fn add_rows<O: Operator>(
 ) -> Result<(), OutOfMemory>
     requires rows { AreRows rows.now }
     requires port { port < (O.meaning op.old).ports }
-    requires works { (tables : Tables) × Works (O.meaning op.old) (O.stands op.old) tables made.old }
-    ensures works { OnOk result ((tables : Tables) → Works (O.meaning op.old) (O.stands op.old) tables made.old → Works (O.meaning op.new) (O.stands op.new) (with_table tables port (table_at tables port ++ rows.now)) made.new) }
+    requires works { (tables : Tables) × MadeOfTables (O.meaning op.old) (O.stands op.old) tables made.old }
+    ensures works { OnOk result ((tables : Tables) → MadeOfTables (O.meaning op.old) (O.stands op.old) tables made.old → MadeOfTables (O.meaning op.new) (O.stands op.new) (with_table tables port (table_at tables port ++ rows.now)) made.new) }
     ensures meaning { OnOk result (O.meaning op.new ≡ O.meaning op.old) }
 {
     for row in rows {
@@ -70,7 +69,7 @@ fn add_tables<O: Operator>(
     requires inputs { All (λ place. place < length tables.now) inputs.now }
     requires rows { HaveRows tables.now }
     requires empty { made.old ≡ [] }
-    ensures works { OnOk result ((others : Tables) → SameTables (map (table_at tables.now) inputs.now) others → Works (O.meaning op.new) (O.stands op.new) others made.new) }
+    ensures works { OnOk result ((others : Tables) → SameTables (map (table_at tables.now) inputs.now) others → MadeOfTables (O.meaning op.new) (O.stands op.new) others made.new) }
     ensures meaning { OnOk result (O.meaning op.new ≡ O.meaning op.old) }
 {
     for (port, input) in inputs.iter().enumerate() {

@@ -5,12 +5,10 @@
 //! node's table.
 #![tactic(auto)]
 
-mod applying;
 mod ask;
 mod law;
 mod node;
 mod query;
 
-pub use applying::{apply_all, apply_change};
 pub use law::plan_places;
 pub use query::{evaluate, find_output, reach};

@@ -4,23 +4,23 @@ use Rattle.std.specs.Prelude.{Option, Some, slice_index_or}
 use Rattle.std.specs.Io.KnownBytes.{Consumes}
 use Rattle.std.proofs.lemmas.Bool.{cases_Bool}
 use Rattle.std.proofs.lemmas.List.{append-nil}
-use Rattle.cedr_answer.specs.Finds.{AreFound}
-use Rattle.cedr_answer.proofs.EndLemmas.{bytes_left, count_other, count_source, files_other, files_source}
+use Rattle.plan_answer.specs.Finds.{AreFound}
+use Rattle.plan_workers.proofs.EndLemmas.{bytes_left, count_other, count_source, files_other, files_source}
 use Rattle.cedr_base.specs.declared.change.Message.{Message}
 use Rattle.cedr_base.specs.declared.change.Message.TheVariants as message
 use Rattle.cedr_guard.specs.Messages.{messages_behind}
 use Rattle.cedr_guard.specs.Sources.{ending, judged, messages_of}
-use Rattle.cedr_laws.specs.Lists.{Lists, list_at}
-use Rattle.cedr_outlet.specs.Outgoing.{last_message}
+use Rattle.node_laws.specs.Lists.{Lists, list_at}
+use Rattle.worker_outlets.specs.Outgoing.{last_message}
 use Rattle.cedr_plan.specs.declared.plan.PlanNode.{PlanNode}
 use Rattle.cedr_query.specs.Queries.{source_count}
 use Rattle.cedr_query.proofs.PlaceLemmas.{sources_behind}
-use Rattle.cedr_runs.specs.Runs.{IsPrefix, sources_in}
-use Rattle.cedr_serial.specs.Queries.{given_text, source_nodes}
-use Rattle.cedr_serial.specs.Sources.{AreTold, file_of, source_files}
+use Rattle.plan_runs.specs.Runs.{IsPrefix, sources_in}
+use Rattle.plan_answer.specs.Queries.{given_text, source_nodes}
+use Rattle.plan_answer.specs.Sources.{AreTold, file_of, source_files}
 use Rattle.cedr_text.specs.declared.event_line.Shape.{Shape}
-use Rattle.cedr_threads.specs.SoFar.{IsSoFar, SourceBegan, unbroken}
-use Rattle.cedr_threads.proofs.CutLemmas.{unbroken_behind}
+use Rattle.plan_threads.specs.SoFar.{IsSoFar, SourceBegan, unbroken}
+use Rattle.plan_threads.proofs.CutLemmas.{unbroken_behind}
 use Rattle.cedr_base.specs.declared.change.Change.{Change}
 use Rattle.cedr_worker.specs.declared.source.SourceEnd.{SourceEnd}
 use Rattle.cedr_worker.specs.declared.stop.SourceStop.{SourceStop}

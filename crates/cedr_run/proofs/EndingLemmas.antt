@@ -10,26 +10,26 @@ use Rattle.cedr_plan.specs.Plans.{plan_of}
 use Rattle.cedr_plan.specs.declared.fault.PlanKind.{PlanKind}
 use Rattle.cedr_plan.specs.declared.plan.Plan.{Plan}
 use Rattle.cedr_plan.specs.declared.plan.PlanNode.{PlanNode}
-use Rattle.cedr_serial.specs.Sources.{AsksFirst, AreTold, AreRead, source_files}
-use Rattle.cedr_laws.specs.Lists.{Lists}
+use Rattle.plan_answer.specs.Sources.{AsksFirst, AreTold, AreRead, source_files}
+use Rattle.node_laws.specs.Lists.{Lists}
 use Rattle.cedr_run.specs.declared.command.Job.{Job}
 use Rattle.cedr_run.specs.declared.command.Job.TheVariants.{History, Check, Serial, Run, Stream, Audit, Live, Make}
 use Rattle.cedr_run.specs.declared.outcome.Outcome.{Outcome}
 use Rattle.cedr_run.specs.declared.outcome.Outcome.TheVariants as outcome
 use Rattle.cedr_run.specs.declared.status.Status.{Status}
 use Rattle.cedr_run.specs.declared.status.Status.TheVariants as status
-use Rattle.cedr_laws.specs.Lists.{AreTables}
+use Rattle.node_laws.specs.Lists.{AreTables}
 use Rattle.cedr_query.specs.Queries.{source_count}
-use Rattle.cedr_runs.specs.Runs.{AllWhole, sources_in}
-use Rattle.cedr_serial.specs.Queries.{AreAccepted, source_nodes, IsAnswerText}
+use Rattle.plan_runs.specs.Runs.{AllWhole, sources_in}
+use Rattle.plan_answer.specs.Queries.{AreAcceptedSources, source_nodes, IsAnswerText}
 use Rattle.cedr_table.specs.Operators.{Tables}
 use Rattle.cedr_run.specs.Answers.{AnswersQuery, IsPlanOf, IsNoPlan, OfPlan, Gives, Refuses, Begins, RefusesPlan, RefusesSources, GivesPlan, BeginsPlan}
 use Rattle.cedr_run.specs.Commands.{Command, named_files}
-use Rattle.cedr_run.specs.Seen.{FilesSeen, SinkSeen, Tells}
-use Rattle.cedr_run.specs.Outcomes.{status_of, told_text, TellsLack, CommandEnds, AsksOnly, AsksPlan}
+use Rattle.cedr_run.specs.Seen.{FilesSeen, SinkSeen, SinkGains}
+use Rattle.cedr_run.specs.Outcomes.{status_of, outcome_text, TellsLack, CommandEnds, AsksOnly, AsksPlan}
 use Rattle.cedr_run.specs.Steps.{Texts, WritesText, Says, OpensPlan, OpensSources, StopsSources, CountsStep, ReadsSources, AreOpened, EndsWith, EndsSources}
 use Rattle.cedr_run.specs.Ending.{Ends}
-use Rattle.cedr_live.proofs.ShownLemmas.{front_all}
+use Rattle.plan_live.proofs.ShownLemmas.{front_all}
 
 -- ---- fronts
 
@@ -138,21 +138,21 @@ by_job P Check reads serial run audit stream = absurd reads
 by_job P Live reads serial run audit stream = absurd reads
 by_job P (Make n) reads serial run audit stream = absurd reads
 
-named_one : (job : Job) (content : List ℕ → Option (List ℕ)) (told : List ℕ → List ℕ) (file script : List ℕ) → ReadsSources job → AreTold content told (named_files (record { job = job; file = file; script = script })) → AreTold content told (file ∷ [])
+pub named_one : (job : Job) (content : List ℕ → Option (List ℕ)) (told : List ℕ → List ℕ) (file script : List ℕ) → ReadsSources job → AreTold content told (named_files (record { job = job; file = file; script = script })) → AreTold content told (file ∷ [])
 named_one job content told file script reads =
     by_job (λ (job : Job). AreTold content told (named_files (record { job = job; file = file; script = script })) → AreTold content told (file ∷ [])) job reads (λ h. h) (λ h. h) (λ h. h) (λ h. h)
 
 no_plan_of : (job : Job) (told : List ℕ → List ℕ) (file script : List ℕ) (kind : PlanKind) (node : ℕ) → ReadsSources job → IsNoPlan (told file) kind node → RefusesPlan told (record { job = job; file = file; script = script }) kind node
 no_plan_of job told file script kind node reads h = by_job (λ (job : Job). RefusesPlan told (record { job = job; file = file; script = script }) kind node) job reads h h h h
 
-refuses_of : (job : Job) (content : List ℕ → Option (List ℕ)) (told : List ℕ → List ℕ) (file script said : List ℕ) → ReadsSources job → OfPlan content told file (λ nodes. RefusesSources told nodes said) → Refuses content told (record { job = job; file = file; script = script }) [] said
+pub refuses_of : (job : Job) (content : List ℕ → Option (List ℕ)) (told : List ℕ → List ℕ) (file script said : List ℕ) → ReadsSources job → OfPlan content told file (λ nodes. RefusesSources told nodes said) → Refuses content told (record { job = job; file = file; script = script }) [] said
 refuses_of job content told file script said reads h = by_job (λ (job : Job). Refuses content told (record { job = job; file = file; script = script }) [] said) job reads (refl, h) (refl, h) (refl, h) (record { nodes = h.nodes; plan = h.plan; holding = λ known. (h.holding known, inl refl) })
 
-gives_of : (job : Job) (content : List ℕ → Option (List ℕ)) (told : List ℕ → List ℕ) (file script text : List ℕ) → ReadsSources job → OfPlan content told file (λ nodes. GivesPlan job told nodes text) → Gives content told (record { job = job; file = file; script = script }) text
+pub gives_of : (job : Job) (content : List ℕ → Option (List ℕ)) (told : List ℕ → List ℕ) (file script text : List ℕ) → ReadsSources job → OfPlan content told file (λ nodes. GivesPlan job told nodes text) → Gives content told (record { job = job; file = file; script = script }) text
 gives_of job content told file script text reads =
     by_job (λ (job : Job). OfPlan content told file (λ nodes. GivesPlan job told nodes text) → Gives content told (record { job = job; file = file; script = script }) text) job reads (λ h. h) (λ h. h) (λ h. h) (λ h. h)
 
-begins_of : (job : Job) (content : List ℕ → Option (List ℕ)) (told : List ℕ → List ℕ) (file script text : List ℕ) → ReadsSources job → OfPlan content told file (λ nodes. BeginsPlan job told nodes text) → Begins content told (record { job = job; file = file; script = script }) text
+pub begins_of : (job : Job) (content : List ℕ → Option (List ℕ)) (told : List ℕ → List ℕ) (file script text : List ℕ) → ReadsSources job → OfPlan content told file (λ nodes. BeginsPlan job told nodes text) → Begins content told (record { job = job; file = file; script = script }) text
 begins_of job content told file script text reads =
     by_job (λ (job : Job). OfPlan content told file (λ nodes. BeginsPlan job told nodes text) → Begins content told (record { job = job; file = file; script = script }) text) job reads (λ h. h) (λ h. h) (λ h. h) (λ h. h)
 
@@ -165,7 +165,7 @@ asks_plan job files files' file script reads h = by_job (λ (job : Job). AsksOnl
 
 -- what accepted sources have
 abbrev pub AcceptedLeft : (List ℕ → List ℕ) → List PlanNode → Lists → Type 0
-AcceptedLeft told nodes left = (histories : Tables) × AreAccepted told (source_nodes nodes) (sources_in nodes left) histories × AllWhole (source_count nodes) (sources_in nodes left) × AreTables (sources_in nodes left) histories
+AcceptedLeft told nodes left = (histories : Tables) × AreAcceptedSources told (source_nodes nodes) (sources_in nodes left) histories × AllWhole (source_count nodes) (sources_in nodes left) × AreTables (sources_in nodes left) histories
 
 -- no plan was opened
 pub sources_no_plan : (job : Job) (file script : List ℕ) (files files' : FilesSeen) (out : SinkSeen) (o : Outcome) → ReadsSources job → OpensPlan (Err o) (files.content file) → CountsStep {T = Plan} (Err o) files.faults files'.faults
@@ -269,14 +269,14 @@ rose_above old new rose below = let more = rose.more in search (rules, tests)
 -- a call ends as the command that its words name, where status and err are those of how that went
 pub ends_command : (command : Option Command) (named : Command) (files files' : FilesSeen) (out out' err err' : SinkSeen) (o : Outcome) (s : Status) → Some named ≡ command
     → CommandEnds named files files' out out' o → AsksOnly named files files' → ((name : List ℕ) → files'.content name ≡ files.content name)
-    → (s ≡ status_of o) ⊎ (s ≡ status.OutOfMemory) → (s ≢ status.OutOfMemory → Tells err err' (told_text o)) → (s ≡ status.OutOfMemory → TellsLack err err' (told_text o))
+    → (s ≡ status_of o) ⊎ (s ≡ status.OutOfMemory) → (s ≢ status.OutOfMemory → SinkGains err err' (outcome_text o)) → (s ≡ status.OutOfMemory → TellsLack err err' (outcome_text o))
     → Ends command files files' out out' err err' s
 ends_command command named files files' out out' err err' o s is ends asked contents at told lacking =
-    subst (λ (c : Option Command). Ends c files files' out out' err err' s) is (record { went = o; came = (ends, asked); answered = at; told = told; lacking = lacking; contents = contents })
+    subst (λ (c : Option Command). Ends c files files' out out' err err' s) is (record { went = o; came = (ends, asked); answered = at; reported = told; lacking = lacking; contents = contents })
 
 -- a call whose words match no command ends with the usage, or for want of memory; files and out stay
 pub ends_no_command : (command : Option Command) (files : FilesSeen) (out err err' : SinkSeen) (s : Status) → None ≡ command
-    → (s ≡ status.Usage) ⊎ (s ≡ status.OutOfMemory) → (s ≢ status.OutOfMemory → Tells err err' (told_text outcome.Usage)) → (s ≡ status.OutOfMemory → TellsLack err err' (told_text outcome.Usage))
+    → (s ≡ status.Usage) ⊎ (s ≡ status.OutOfMemory) → (s ≢ status.OutOfMemory → SinkGains err err' (outcome_text outcome.Usage)) → (s ≡ status.OutOfMemory → TellsLack err err' (outcome_text outcome.Usage))
     → Ends command files files out out err err' s
 ends_no_command command files out err err' s is at told lacking =
-    subst (λ (c : Option Command). Ends c files files out out err err' s) is (record { went = outcome.Usage; came = (inl refl, refl, refl); answered = at; told = told; lacking = lacking; contents = λ name. refl })
+    subst (λ (c : Option Command). Ends c files files out out err err' s) is (record { went = outcome.Usage; came = (inl refl, refl, refl); answered = at; reported = told; lacking = lacking; contents = λ name. refl })

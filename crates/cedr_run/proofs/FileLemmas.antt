@@ -14,9 +14,9 @@ use Rattle.cedr_guard.specs.declared.fault.GuardFault.{GuardFault}
 use Rattle.cedr_guard.specs.declared.fault.GuardFault.TheVariants as guard_fault
 use Rattle.cedr_guard.specs.declared.refusal.Refusal.{Refusal}
 use Rattle.cedr_guard.specs.declared.refusal.TheConstants.{FILE_LIMIT}
-use Rattle.cedr_guard.specs.Sources.{with_reading, line_reading, Judged, go_on, judged_behind, judged_lines, judged_front, whole_lines, unfinished_line, first_fault, limit_fault, judged}
+use Rattle.cedr_guard.specs.Sources.{with_reading, line_reading, Judged, go_on, judged_behind, judged_lines, judged_front, whole_lines, unfinished_line, first_refusal, limit_fault, judged}
 use Rattle.cedr_run.specs.declared.events.Events.{Events}
-use Rattle.cedr_live.specs.Scripts.{played, played_front, played_lines}
+use Rattle.plan_live.specs.Scripts.{played, played_front, played_lines}
 use Rattle.cedr_plan.specs.declared.plan.PlanNode.{PlanNode}
 use Rattle.cedr_text.specs.declared.event_line.Shape.{Shape}
 use Rattle.cedr_guard.specs.History.{history_of}
@@ -31,7 +31,7 @@ use Rattle.cedr_plan.specs.declared.fault.PlanKind.{PlanKind}
 use Rattle.cedr_plan.specs.declared.fault.PlanKind.TheVariants as kind
 use Rattle.cedr_run.specs.Files.{IsFileFront}
 use Rattle.cedr_run.specs.Refusals.{fault_at}
-use Rattle.cedr_run.specs.Events.{AreEventsOf, TakesLine, JudgesFile, parts_behind}
+use Rattle.cedr_run.specs.Events.{AreEventsOf, TakesEvent, JudgesFile, parts_behind}
 
 -- ---- the parts of a file
 
@@ -72,7 +72,7 @@ behind_fault : (count : ℕ) (good : List EventLine) (line : List ℕ) (lines : 
 behind_fault count good line lines fault reads = ap (λ r. go_on (count + 1) good r (λ then. judged_behind AnyText (count + 1) then lines)) reads
 
 abbrev at_limit : Judged → ℕ → LineFault → Judged
-at_limit file line fault = record { good = file.good; fault = Some (first_fault file.fault (record { line = line; fault = fault })) }
+at_limit file line fault = record { good = file.good; fault = Some (first_refusal file.fault (record { line = line; fault = fault })) }
 
 -- a line that is taken goes on; over the limit it isn't the last part
 pub taken : (over : Bool) (count : ℕ) (good now : List EventLine) (line : List ℕ) (lines : List (List ℕ)) → (over ≡ true → lines ≢ []) → with_reading good (line_reading AnyText line) ≡ Ok now
@@ -90,14 +90,14 @@ pub refused : (over : Bool) (count : ℕ) (good : List EventLine) (line : List �
 refused false count good line lines fault more reads = ap (λ (file : Judged). file.fault) (behind_fault count good line lines fault reads)
 refused true count good line [] fault more reads = absurd (more refl refl)
 refused true count good line (next ∷ lines) fault more reads =
-    ap (λ (file : Judged). Some (first_fault file.fault (record { line = count + length (line ∷ whole_lines (next ∷ lines)) + 1; fault = limit_fault (unfinished_line (next ∷ lines)) }))) (behind_fault count good line (whole_lines (next ∷ lines)) fault reads)
+    ap (λ (file : Judged). Some (first_refusal file.fault (record { line = count + length (line ∷ whole_lines (next ∷ lines)) + 1; fault = limit_fault (unfinished_line (next ∷ lines)) }))) (behind_fault count good line (whole_lines (next ∷ lines)) fault reads)
 
 -- the last part over the limit is the line that isn't finished
 pub unfinished : (count : ℕ) (good : List EventLine) (line : List ℕ) → (parts_behind true count good (line ∷ [])).fault ≡ Some (record { line = count + 1; fault = limit_fault line })
 unfinished count good line = ap {B = Option Refusal} (λ n. Some (record { line = n; fault = limit_fault line })) (omega arith)
 
 -- a line that isn't taken is the file's answer
-pub refused_file : (over : Bool) (count : ℕ) (good : List EventLine) (line : List ℕ) (lines : List (List ℕ)) (fault : GuardFault) (events : Events) → (over ≡ true → lines ≢ []) → TakesLine (Err fault) events (with_reading good (line_reading AnyText line))
+pub refused_file : (over : Bool) (count : ℕ) (good : List EventLine) (line : List ℕ) (lines : List (List ℕ)) (fault : GuardFault) (events : Events) → (over ≡ true → lines ≢ []) → TakesEvent (Err fault) events (with_reading good (line_reading AnyText line))
     → JudgesFile (Err (fault_at (count + 1) fault)) (parts_behind over count good (line ∷ lines))
 refused_file over count good line lines (guard_fault.Line fault) events more takes = refused over count good line lines fault more takes
 refused_file over count good line lines guard_fault.OutOfMemory events more takes = tt

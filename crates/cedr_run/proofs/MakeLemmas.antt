@@ -8,18 +8,20 @@ use Rattle.cedr_base.specs.declared.change.Message.{Message}
 use Rattle.cedr_base.specs.declared.field.FieldType.{FieldType}
 use Rattle.cedr_guard.specs.Sources.{judged}
 use Rattle.cedr_guard.specs.declared.refusal.Refusal.{Refusal}
-use Rattle.cedr_laws.specs.Lists.{Lists}
+use Rattle.node_laws.specs.Lists.{Lists}
 use Rattle.cedr_make.specs.BuiltIn.{event_types, built_in}
 use Rattle.cedr_make.specs.Generator.{made_text}
 use Rattle.cedr_plan.specs.Drawn.{Node, node_of}
 use Rattle.cedr_plan.specs.declared.plan.NodeKind.{NodeKind}
 use Rattle.cedr_plan.specs.declared.plan.NodeKind.TheVariants as kind
 use Rattle.cedr_plan.specs.declared.plan.PlanNode.{PlanNode}
-use Rattle.cedr_runs.specs.Without.{Remembers}
-use Rattle.cedr_serial.specs.declared.sources.FaultySource.{FaultySource}
-use Rattle.cedr_serial.specs.declared.sources.SourcesFault.{SourcesFault}
-use Rattle.cedr_serial.specs.declared.sources.SourcesFault.TheVariants.{Events}
-use Rattle.cedr_serial.specs.Sources.{file_of, files_of, source_files, AreTold, HasTypes, HasGiven, AllHaveGiven, AnswersSources, fault_here, faulty_from}
+use Rattle.plan_runs.specs.Without.{Remembers}
+use Rattle.plan_answer.specs.declared.faulty.FaultySource.{FaultySource}
+use Rattle.plan_serial.specs.declared.sources.SourcesFault.{SourcesFault}
+use Rattle.plan_serial.specs.declared.sources.SourcesFault.TheVariants.{Events}
+use Rattle.plan_serial.specs.Sources.{AnswersSources}
+use Rattle.plan_answer.specs.Sources.{file_of, files_of, source_files, AreTold, HasGiven, AllHaveGiven, fault_here, faulty_from}
+use Rattle.cedr_text.specs.Shapes.{ShapeHasTypes}
 use Rattle.cedr_text.specs.declared.event_line.Shape.{Shape}
 use Rattle.cedr_text.specs.declared.event_line.Shape.TheVariants.{AnyText, Fields}
 use Rattle.op_node.specs.Ready.{is_source}
@@ -93,7 +95,7 @@ text_accepted accepted n types true most are = accepted 0 n types most are
 text_accepted accepted n types false most are = accepted 1 n types most are
 
 -- so the file of each name is
-file_accepted : AreAcceptable → (n : ℕ) (name : List ℕ) (shape : Shape) (types : List FieldType) → n ≤ 100000 → types ≡ event_types → HasTypes shape types → (judged shape (made_file n name)).fault ≡ None
+file_accepted : AreAcceptable → (n : ℕ) (name : List ℕ) (shape : Shape) (types : List FieldType) → n ≤ 100000 → types ≡ event_types → ShapeHasTypes shape types → (judged shape (made_file n name)).fault ≡ None
 file_accepted accepted n name AnyText types most are has = absurd has
 file_accepted accepted n name (Fields fields) types most are has = text_accepted accepted n fields (bytes_eq name (codes "a")) most (has ∙ are)
 

@@ -1,13 +1,14 @@
 -- How `run` and `stream` end, by how the run of their plan ends.
-use Rattle.std.proofs.Common.{◌≡◌, ◌≢◌, ℕ, ◌⊎◌, inl, inr, List, [], ◌∷◌, ◌++◌, Bool, false, true, length, take, Option, None, Some, Err, refl, ap, sym, ◌∙◌, subst, arith}
+use Rattle.std.proofs.Common.{◌≡◌, ◌≢◌, ℕ, ◌⊎◌, inl, inr, List, [], ◌∷◌, ◌++◌, false, length, take, Option, None, Some, Err, refl, ap, sym, ◌∙◌, subst, arith}
 use Rattle.std.specs.Io.KnownBytes.{Appends, Keeps}
 use Rattle.std.proofs.lemmas.List.{append-nil, take_all}
 use Rattle.cedr_edge.specs.Ends.{Carried}
 use Rattle.cedr_plan.specs.declared.plan.PlanNode.{PlanNode}
-use Rattle.cedr_serial.specs.Sources.{AreTold, AsksFirst, source_files}
-use Rattle.cedr_wires.specs.Wires.{carried, ports_of}
+use Rattle.plan_answer.specs.Sources.{AreTold, AsksFirst, source_files}
+use Rattle.plan_edges.specs.Wires.{carried, ports_of}
 use Rattle.cedr_worker.specs.declared.ran.Ran.{Ran}
-use Rattle.cedr_run.specs.declared.command.Job.TheVariants.{Live, Stream}
+use Rattle.cedr_run.specs.declared.command.Job.{Job}
+use Rattle.cedr_run.specs.declared.command.Job.TheVariants.{History, Check, Serial, Run, Stream, Audit, Live, Make}
 use Rattle.cedr_run.specs.declared.outcome.Outcome.{Outcome}
 use Rattle.cedr_run.specs.declared.outcome.Outcome.TheVariants as outcome
 use Rattle.cedr_run.specs.declared.status.Status.{Status}
@@ -17,8 +18,8 @@ use Rattle.cedr_run.specs.Commands.{Command, named_files}
 use Rattle.cedr_run.specs.Outcomes.{CommandEnds, IsSilentAtRead, Wrote, WroteFront, status_of}
 use Rattle.cedr_run.specs.Seen.{FilesSeen, SinkSeen}
 use Rattle.cedr_run.specs.Steps.{OpensPlan, ReadsSources}
-use Rattle.cedr_run.specs.Threads.{AnswersBy, BeganRun, BeginsBy, GaveRun, HasRun, IsSilentBy, RunEnds, WroteRun, job_by}
-use Rattle.cedr_run.proofs.EndingLemmas.{IsOpened, opened_told, told_same}
+use Rattle.cedr_run.specs.Threads.{AnswersBy, BeganRun, BeginsBy, GaveRun, HasRun, IsSilentBy, IsThreaded, RunEnds, WroteRun}
+use Rattle.cedr_run.proofs.EndingLemmas.{IsOpened, begins_of, gives_of, named_one, opened_told, refuses_of, told_same}
 
 -- a sink that kept what it had gained nothing
 appends_nothing : (old new : Option (List ℕ)) → Keeps old new → Appends old new []
@@ -51,45 +52,37 @@ stream_changes told nodes edges ran text answers = record {
 
 -- ---- either way
 
+-- what `run` and `stream` have, each of the two commands has
+by_threaded : (P : Job → Type 0) (job : Job) → IsThreaded job → P Run → P Stream → P job
+by_threaded P Run is run stream = run
+by_threaded P Stream is run stream = stream
+by_threaded P History is run stream = absurd is
+by_threaded P Check is run stream = absurd is
+by_threaded P Serial is run stream = absurd is
+by_threaded P Audit is run stream = absurd is
+by_threaded P Live is run stream = absurd is
+by_threaded P (Make n) is run stream = absurd is
+
+-- the one that isn't `stream` is `run`
+pub by_run : (P : Job → Type 0) (job : Job) → IsThreaded job → job ≢ Stream → P Run → P job
+by_run P job is other run = by_threaded (λ (job : Job). job ≢ Stream → P job) job is (λ _. run) (λ no. absurd (no refl)) other
+
 -- what the command gives
-answers_as : (streams : Bool) (told : List ℕ → List ℕ) (nodes : List PlanNode) (edges : List Carried) (ran : List Ran) (text : List ℕ) → AnswersBy streams told nodes edges ran text → GivesPlan (job_by streams) told nodes text
-answers_as false told nodes edges ran text h = run_query told nodes edges ran text h
-answers_as true told nodes edges ran text h = stream_changes told nodes edges ran text h
+answers_as : (job : Job) → IsThreaded job → (told : List ℕ → List ℕ) (nodes : List PlanNode) (edges : List Carried) (ran : List Ran) (text : List ℕ) → AnswersBy job told nodes edges ran text → GivesPlan job told nodes text
+answers_as job is told nodes edges ran text = by_threaded (λ (job : Job). AnswersBy job told nodes edges ran text → GivesPlan job told nodes text) job is (run_query told nodes edges ran text) (stream_changes told nodes edges ran text)
 
 -- and of which a front may be written
-begins_as : (streams : Bool) (told : List ℕ → List ℕ) (nodes : List PlanNode) (edges : List Carried) (ran : List Ran) (text : List ℕ) → BeginsBy streams told nodes edges ran text → BeginsPlan (job_by streams) told nodes text
-begins_as false told nodes edges ran text h = run_query told nodes edges ran text h
-begins_as true told nodes edges ran text h = h
-
--- both of the plan that the command's file describes
-gives_of_plan : (streams : Bool) (content : Contents) (told : List ℕ → List ℕ) (file script text : List ℕ) → OfPlan content told file (λ nodes. GivesPlan (job_by streams) told nodes text) → Gives content told (record { job = job_by streams; file = file; script = script }) text
-gives_of_plan false content told file script text h = h
-gives_of_plan true content told file script text h = h
-
-begins_of_plan : (streams : Bool) (content : Contents) (told : List ℕ → List ℕ) (file script text : List ℕ) → OfPlan content told file (λ nodes. BeginsPlan (job_by streams) told nodes text) → Begins content told (record { job = job_by streams; file = file; script = script }) text
-begins_of_plan false content told file script text h = h
-begins_of_plan true content told file script text h = h
-
--- the plan alone is named
-named_alone : (streams : Bool) (content : Contents) (told : List ℕ → List ℕ) (file script : List ℕ) → AreTold content told (named_files (record { job = job_by streams; file = file; script = script })) → AreTold content told (file ∷ [])
-named_alone false content told file script h = h
-named_alone true content told file script h = h
+begins_as : (job : Job) → IsThreaded job → (told : List ℕ → List ℕ) (nodes : List PlanNode) (edges : List Carried) (ran : List Ran) (text : List ℕ) → BeginsBy job told nodes edges ran text → BeginsPlan job told nodes text
+begins_as job is told nodes edges ran text = by_threaded (λ (job : Job). BeginsBy job told nodes edges ran text → BeginsPlan job told nodes text) job is (run_query told nodes edges ran text) (λ h. h)
 
 -- the command reads the sources of its plan
-pub reads_by : (streams : Bool) → ReadsSources (job_by streams)
-reads_by false = tt
-reads_by true = tt
+pub reads_by : (job : Job) → IsThreaded job → ReadsSources job
+reads_by job is = by_threaded ReadsSources job is tt tt
 
 -- nothing was written, where the rows are written at the end
-silent_as : (streams : Bool) (content : Contents) (nodes : List PlanNode) (out out' : SinkSeen) → IsSilentBy streams content nodes out out' → job_by streams ≢ Live → job_by streams ≢ Stream → Keeps out.written out'.written
-silent_as false content nodes out out' (inl keeps) live stream = keeps
-silent_as false content nodes out out' (inr some) live stream = absurd (cc (some.0))
-silent_as true content nodes out out' silent live stream = absurd (stream refl)
-
--- some source isn't accepted, and nothing was written
-refuses_silent : (streams : Bool) (content : Contents) (told : List ℕ → List ℕ) (file script said : List ℕ) → OfPlan content told file (λ nodes. RefusesSources told nodes said) → Refuses content told (record { job = job_by streams; file = file; script = script }) [] said
-refuses_silent false content told file script said h = (refl, h)
-refuses_silent true content told file script said h = record { nodes = h.nodes; plan = h.plan; holding = λ known. (h.holding known, inl refl) }
+silent_as : (job : Job) (content : Contents) (nodes : List PlanNode) (out out' : SinkSeen) → IsSilentBy job content nodes out out' → job ≢ Live → job ≢ Stream → Keeps out.written out'.written
+silent_as job content nodes out out' (inl keeps) live stream = keeps
+silent_as job content nodes out out' (inr some) live stream = absurd (stream some.0)
 
 -- without a plan nothing is done
 pub none_done : (o : Outcome) (content : Option (List ℕ)) → OpensPlan (Err o) content → o ≡ outcome.Done → ⊥
@@ -106,47 +99,50 @@ done_alone outcome.Write s (inl at) done = absurd (cc (at, done))
 done_alone outcome.OutOfMemory s (inl at) done = absurd (cc (at, done))
 done_alone o s (inr lacks) done = absurd (cc (lacks, done))
 
-module _ (streams : Bool) (files now files' : FilesSeen) (file script : List ℕ) (nodes : List PlanNode) (opened : IsOpened files file nodes) (same : now.faults ≡ files.faults) (contents : (name : List ℕ) → now.content name ≡ files.content name) (out out' : SinkSeen) (edges : List Carried) (ran : List Ran) where
+module _ (job : Job) (is : IsThreaded job) (files now files' : FilesSeen) (file script : List ℕ) (nodes : List PlanNode) (opened : IsOpened files file nodes) (same : now.faults ≡ files.faults) (contents : (name : List ℕ) → now.content name ≡ files.content name) (out out' : SinkSeen) (edges : List Carried) (ran : List Ran) where
   abbrev command : Command
-  command = record { job = job_by streams; file = file; script = script }
+  command = record { job = job; file = file; script = script }
+
+  reads : ReadsSources job
+  reads = reads_by job is
 
   -- what holds of the plan where it is known what the sources' files hold
   of_plan : (told : List ℕ → List ℕ) (holds : List PlanNode → Type 0) → AreTold files.content told (named_files command) → (AreTold now.content told (source_files nodes) → holds nodes) → OfPlan files.content told file holds
-  of_plan told holds is all = record {
+  of_plan told holds known_one all = record {
     nodes = nodes;
-    plan = opened_told files file nodes opened told (named_alone streams files.content told file script is);
+    plan = opened_told files file nodes opened told (named_one job files.content told file script reads known_one);
     holding = λ known. all (told_same files.content now.content told (source_files nodes) contents known);
   }
 
   -- a text was written
-  gave : GaveRun streams now.content nodes edges ran out out' → Wrote files command out out' (λ told text. Gives files.content told command text)
-  gave h told is = (h.text, gives_of_plan streams files.content told file script h.text (of_plan told (λ (ns : List PlanNode). GivesPlan (job_by streams) told ns h.text) is (λ known. answers_as streams told nodes edges ran h.text (h.answers told known))), h.wrote)
+  gave : GaveRun job now.content nodes edges ran out out' → Wrote files command out out' (λ told text. Gives files.content told command text)
+  gave h told named = (h.text, gives_of job files.content told file script h.text reads (of_plan told (λ (ns : List PlanNode). GivesPlan job told ns h.text) named (λ known. answers_as job is told nodes edges ran h.text (h.answers told known))), h.wrote)
 
   -- or begun
-  began : BeganRun streams now.content nodes edges ran out out' → WroteFront files command out out' (λ told text. Begins files.content told command text)
-  began h told is = (h.text, begins_of_plan streams files.content told file script h.text (of_plan told (λ (ns : List PlanNode). BeginsPlan (job_by streams) told ns h.text) is (λ known. begins_as streams told nodes edges ran h.text (h.begins told known))), h.wrote)
+  began : BeganRun job now.content nodes edges ran out out' → WroteFront files command out out' (λ told text. Begins files.content told command text)
+  began h told named = (h.text, begins_of job files.content told file script h.text reads (of_plan told (λ (ns : List PlanNode). BeginsPlan job told ns h.text) named (λ known. begins_as job is told nodes edges ran h.text (h.begins told known))), h.wrote)
 
   -- what was written where a read was refused
-  at_read : IsSilentBy streams now.content nodes out out' → IsSilentAtRead command files out out'
+  at_read : IsSilentBy job now.content nodes out out' → IsSilentAtRead command files out out'
   at_read (inl keeps) = inl keeps
-  at_read (inr some) = inr (ap job_by some.0, λ told is. (some.1.text, of_plan told (λ (ns : List PlanNode). StreamsSoFar told ns some.1.text) is (some.1.begins told), some.1.wrote))
+  at_read (inr some) = inr (some.0, λ told named. (some.1.text, of_plan told (λ (ns : List PlanNode). StreamsSoFar told ns some.1.text) named (some.1.begins told), some.1.wrote))
 
   -- and where some source isn't accepted
-  refused : (said : List ℕ) → IsSilentBy streams now.content nodes out out' → ((told : List ℕ → List ℕ) → AreTold now.content told (source_files nodes) → RefusesSources told nodes said) → Wrote files command out out' (λ told text. Refuses files.content told command text said)
-  refused said (inl keeps) refuses told is = ([], refuses_silent streams files.content told file script said (of_plan told (λ (ns : List PlanNode). RefusesSources told ns said) is (refuses told)), appends_nothing out.written out'.written keeps)
-  refused said (inr some) refuses told is =
+  refused : (said : List ℕ) → IsSilentBy job now.content nodes out out' → ((told : List ℕ → List ℕ) → AreTold now.content told (source_files nodes) → RefusesSources told nodes said) → Wrote files command out out' (λ told text. Refuses files.content told command text said)
+  refused said (inl keeps) refuses told named = ([], refuses_of job files.content told file script said reads (of_plan told (λ (ns : List PlanNode). RefusesSources told ns said) named (refuses told)), appends_nothing out.written out'.written keeps)
+  refused said (inr some) refuses told named =
       let front : List ℕ = take some.1.wrote.count some.1.text in (
         front,
-        subst (λ (b : Bool). Refuses files.content told (record { job = job_by b; file = file; script = script }) front said) (sym some.0)
-            (of_plan told (λ (ns : List PlanNode). RefusesSources told ns said × ((front ≡ []) ⊎ StreamsFront told ns front)) is
+        subst (λ (j : Job). Refuses files.content told (record { job = j; file = file; script = script }) front said) (sym some.0)
+            (of_plan told (λ (ns : List PlanNode). RefusesSources told ns said × ((front ≡ []) ⊎ StreamsFront told ns front)) named
             (λ known. (refuses told known, inr (record { whole = some.1.text; begins = some.1.begins told known; count = some.1.wrote.count; text_is = refl })))),
         some.1.wrote.grows,
       )
 
   -- the command ends as the run of its plan
-  pub plan_ended : (o : Outcome) → RunEnds streams nodes now files' out out' edges ran o → CommandEnds command files files' out out' o
+  pub plan_ended : (o : Outcome) → RunEnds job nodes now files' out out' edges ran o → CommandEnds command files files' out out' o
   plan_ended outcome.Done h = (record { files_count = h.0.files_count ∙ same; out_count = h.0.out_count }, gave h.1)
-  plan_ended (outcome.Events said) h = (record { files_count = h.0.files_count ∙ same; out_count = h.0.out_count }, silent_as streams now.content nodes out out' h.1, refused said.items h.1 h.2)
+  plan_ended (outcome.Events said) h = (record { files_count = h.0.files_count ∙ same; out_count = h.0.out_count }, silent_as job now.content nodes out out' h.1, refused said.items h.1 h.2)
   plan_ended outcome.Read h = (omega (arith, same, h.0), at_read h.1)
   plan_ended outcome.Write h = (h.0, began h.1)
   plan_ended outcome.OutOfMemory (inl keeps) = inl keeps
@@ -155,32 +151,32 @@ module _ (streams : Bool) (files now files' : FilesSeen) (file script : List ℕ
   plan_ended (outcome.BadPlan kind node) h = absurd h
 
   -- where it is done, its text is that of what went over the edges
-  pub wrote_run : (o : Outcome) → o ≡ outcome.Done → RunEnds streams nodes now files' out out' edges ran o → WroteRun streams files command out out' edges ran
+  pub wrote_run : (o : Outcome) → o ≡ outcome.Done → RunEnds job nodes now files' out out' edges ran o → WroteRun files command out out' edges ran
   wrote_run o done h =
-      let gave = (subst (λ (o : Outcome). RunEnds streams nodes now files' out out' edges ran o) done h).1 in
-      λ told is. (gave.text, of_plan told (λ (ns : List PlanNode). AnswersBy streams told ns edges ran gave.text) is (gave.answers told), gave.wrote)
+      let gave = (subst (λ (o : Outcome). RunEnds job nodes now files' out out' edges ran o) done h).1 in
+      λ told named. (gave.text, of_plan told (λ (ns : List PlanNode). AnswersBy job told ns edges ran gave.text) named (gave.answers told), gave.wrote)
 
 -- what is answered of the edges and the turns where it is done
-pub has_run_by : (streams : Bool) (files : FilesSeen) (file script : List ℕ) (out out' : SinkSeen) (s : Status) (edges : List Carried) (ran : List Ran) → (s ≡ status.Done → WroteRun streams files (record { job = job_by streams; file = file; script = script }) out out' edges ran)
-    → HasRun (Some (record { job = job_by streams; file = file; script = script })) files out out' s edges ran
-has_run_by false files file script out out' s edges ran wrote = wrote
-has_run_by true files file script out out' s edges ran wrote = wrote
+pub has_run_by : (job : Job) → IsThreaded job → (files : FilesSeen) (file script : List ℕ) (out out' : SinkSeen) (s : Status) (edges : List Carried) (ran : List Ran) → (s ≡ status.Done → WroteRun files (record { job = job; file = file; script = script }) out out' edges ran)
+    → HasRun (Some (record { job = job; file = file; script = script })) files out out' s edges ran
+has_run_by job is files file script out out' s edges ran =
+    by_threaded (λ (job : Job). (s ≡ status.Done → WroteRun files (record { job = job; file = file; script = script }) out out' edges ran) → HasRun (Some (record { job = job; file = file; script = script })) files out out' s edges ran) job is (λ wrote. wrote) (λ wrote. wrote)
 
 -- ---- the files as they were before
 
-module _ (streams : Bool) (files now files' : FilesSeen) (nodes : List PlanNode) (same : now.faults ≡ files.faults) (contents : (name : List ℕ) → now.content name ≡ files.content name) (out out' : SinkSeen) (edges : List Carried) (ran : List Ran) where
+module _ (job : Job) (files now files' : FilesSeen) (nodes : List PlanNode) (same : now.faults ≡ files.faults) (contents : (name : List ℕ) → now.content name ≡ files.content name) (out out' : SinkSeen) (edges : List Carried) (ran : List Ran) where
   told_now : (told : List ℕ → List ℕ) → AreTold files.content told (source_files nodes) → AreTold now.content told (source_files nodes)
   told_now told known = told_same files.content now.content told (source_files nodes) contents known
 
-  began_later : BeganRun streams now.content nodes edges ran out out' → BeganRun streams files.content nodes edges ran out out'
+  began_later : BeganRun job now.content nodes edges ran out out' → BeganRun job files.content nodes edges ran out out'
   began_later h = record { text = h.text; begins = λ told known. h.begins told (told_now told known); wrote = h.wrote }
 
-  silent_later : IsSilentBy streams now.content nodes out out' → IsSilentBy streams files.content nodes out out'
+  silent_later : IsSilentBy job now.content nodes out out' → IsSilentBy job files.content nodes out out'
   silent_later (inl keeps) = inl keeps
   silent_later (inr some) = inr (some.0, record { text = some.1.text; begins = λ told known. some.1.begins told (told_now told known); wrote = some.1.wrote })
 
   -- a run ends so for the files as they were before its sources were found
-  pub ends_later : (o : Outcome) → RunEnds streams nodes now files' out out' edges ran o → RunEnds streams nodes files files' out out' edges ran o
+  pub ends_later : (o : Outcome) → RunEnds job nodes now files' out out' edges ran o → RunEnds job nodes files files' out out' edges ran o
   ends_later outcome.Done h = (
     record { files_count = h.0.files_count ∙ same; out_count = h.0.out_count },
     record { text = h.1.text; answers = λ told known. h.1.answers told (told_now told known); wrote = h.1.wrote },

@@ -4,59 +4,61 @@ use Rattle.std.specs.Prelude.{Option, None, Some, ◌||◌, cond, if◌then◌el
 use Rattle.std.specs.Io.KnownBytes.{Keeps}
 use Rattle.std.specs.List.{list_any}
 use Rattle.std.proofs.lemmas.List.Elements.{All-tail}
-use Rattle.cedr_answer.specs.Finds.{count_with}
-use Rattle.cedr_answer.specs.Tellings.{AreEnded, fault_in, node_faults, source_in, source_lists}
-use Rattle.cedr_answer.proofs.EndLemmas.{all_given, all_judged, all_read, ended_kept, ended_rose, same_sources, so_went, some_faulty}
+use Rattle.plan_answer.specs.Finds.{count_with}
+use Rattle.plan_workers.specs.Tellings.{AreEnded, refusal_in, node_faults, source_left_in, source_lists}
+use Rattle.plan_workers.proofs.EndLemmas.{all_given, all_judged, all_read, ended_kept, ended_rose, same_sources, so_went}
 use Rattle.cedr_base.specs.declared.change.Change.{Change}
 use Rattle.cedr_base.specs.declared.change.Message.{Message}
 use Rattle.cedr_base.specs.declared.row.Row.{Row}
 use Rattle.cedr_base.specs.Messages.{IsTableOf}
 use Rattle.cedr_base.specs.Rows.{in_order}
-use Rattle.cedr_crew.specs.declared.forgotten.PortForgotten.{PortForgotten}
-use Rattle.cedr_crew.specs.Forgettings.{told as as_told}
-use Rattle.cedr_crew.specs.Stopping.{is_short, is_unread, stop_in}
-use Rattle.cedr_crew.specs.Wents.{HaveClosed, SourceWent}
+use Rattle.plan_answer.specs.declared.forgotten.PortForgotten.{PortForgotten}
+use Rattle.plan_answer.specs.Forgettings.{port_forgot}
+use Rattle.plan_workers.specs.Stopping.{is_short, is_unread, stop_in}
+use Rattle.plan_workers.specs.Wents.{HaveClosed, SourceWent}
 use Rattle.cedr_edge.specs.Ends.{Carried}
 use Rattle.cedr_guard.specs.Sources.{messages_of}
 use Rattle.cedr_io.specs.Counts.{last_count}
-use Rattle.cedr_laws.specs.declared.forgotten.Forgotten.{Forgotten}
-use Rattle.cedr_laws.specs.Lists.{AreTables, Lists, list_at}
+use Rattle.node_laws.specs.declared.forgotten.Forgotten.{Forgotten}
+use Rattle.node_laws.specs.Lists.{AreTables, Lists, list_at}
 use Rattle.cedr_plan.specs.declared.plan.Plan.{Plan}
 use Rattle.cedr_plan.specs.declared.plan.PlanNode.{PlanNode}
 use Rattle.cedr_plan.specs.Rules.{IsPlan}
 use Rattle.cedr_query.specs.Queries.{output_place, source_count}
 use Rattle.cedr_query.proofs.PlaceLemmas.{place_within, sources_behind}
-use Rattle.cedr_runs.specs.Runs.{AllWhole, IsRun, IsWhole, sources_in}
-use Rattle.cedr_runs.specs.Without.{forgot_in}
-use Rattle.cedr_runs.proofs.Closed.{closed_table, closed_whole}
-use Rattle.cedr_serial.specs.Answers.{answer_text, has_memory}
-use Rattle.cedr_serial.specs.Queries.{AreAccepted, LeadsTo, changes_text, rows_without, source_nodes}
-use Rattle.cedr_serial.specs.Sources.{AreRead, AreTold, source_files}
-use Rattle.cedr_serial.proofs.AcceptedLemmas.{one_canonical}
+use Rattle.plan_runs.specs.Runs.{AllWhole, IsRun, IsWhole, sources_in}
+use Rattle.plan_runs.specs.Without.{forgot_in}
+use Rattle.plan_runs.proofs.Closed.{closed_table, closed_whole, forgot_length}
+use Rattle.plan_answer.specs.Answers.{answer_text, has_memory}
+use Rattle.plan_answer.specs.Queries.{AreAcceptedSources, LeadsTo, changes_text, rows_without, source_nodes}
+use Rattle.plan_answer.specs.declared.faulty.FaultySource.{FaultySource}
+use Rattle.plan_answer.specs.Sources.{AreRead, AreTold, faulty_from, source_files}
+use Rattle.node_laws.proofs.Order.{one_canonical}
 use Rattle.cedr_table.specs.Operators.{Tables}
-use Rattle.cedr_threads.specs.declared.report.Outcome.{Outcome as Came}
-use Rattle.cedr_threads.specs.declared.report.Outcome.TheVariants as came
-use Rattle.cedr_threads.specs.declared.report.Report.{Report}
-use Rattle.cedr_threads.specs.declared.report.SourceFault.{SourceFault}
-use Rattle.cedr_threads.specs.Reports.{CameTo, IsDone, faults_from}
-use Rattle.cedr_wires.specs.Wires.{carried, ports_of}
+use Rattle.plan_threads.specs.declared.report.Outcome.{Outcome as Came}
+use Rattle.plan_threads.specs.declared.report.Outcome.TheVariants as came
+use Rattle.plan_threads.specs.declared.report.Report.{Report}
+use Rattle.plan_threads.specs.Reports.{HasOutcome, IsDone}
+use Rattle.plan_edges.specs.Wires.{carried, ports_of}
 use Rattle.cedr_worker.specs.declared.ran.Ran.{Ran}
 use Rattle.cedr_worker.specs.declared.source.SourceEnd.{SourceEnd}
 use Rattle.cedr_worker.specs.declared.stop.SourceStop.{SourceStop}
 use Rattle.cedr_worker.specs.declared.stop.SourceStop.TheVariants as stop
 use Rattle.cedr_worker.specs.Stops.{StoppedAs, meant}
 use Rattle.op_node.specs.Ready.{is_source}
+use Rattle.cedr_run.specs.declared.command.Job.{Job}
+use Rattle.cedr_run.specs.declared.command.Job.TheVariants.{Run}
 use Rattle.cedr_run.specs.declared.outcome.Outcome.{Outcome}
 use Rattle.cedr_run.specs.declared.outcome.Outcome.TheVariants as outcome
 use Rattle.cedr_run.specs.Answers.{AnswersRun, AnswersStream, Contents, RefusesSources}
 use Rattle.cedr_run.specs.Seen.{FilesSeen, SinkSeen}
-use Rattle.cedr_run.specs.Steps.{Says, WritesText}
-use Rattle.cedr_run.specs.Threads.{CanTell, CanTellTail, IsReported, IsSilentBy, RunEnds, Tells, WritesRun, faults_said, tail_of}
+use Rattle.cedr_run.specs.Steps.{Says, WritesText, faulty_text}
+use Rattle.cedr_run.specs.Threads.{CanTell, CanTellTail, IsReported, IsSilentBy, RunEnds, EndsRun, WritesRun, tail_of}
 use Rattle.cedr_run.proofs.EndingLemmas.{AcceptedLeft, kept_itself}
-use Rattle.cedr_run.proofs.FaultLemmas.{any_stop, said_all, some_listed}
-use Rattle.cedr_serial.proofs.TextLemmas.{forgot_length}
-use Rattle.cedr_crew.proofs.CountLemmas.{count_more}
-use Rattle.cedr_laws.proofs.Passes.{one_table}
+use Rattle.cedr_run.proofs.FaultLemmas.{any_stop}
+use Rattle.cedr_run.proofs.SayingLemmas.{named_faults}
+use Rattle.plan_answer.proofs.FindLemmas.{count_more}
+use Rattle.node_laws.proofs.Passes.{one_table}
 
 -- where none is faulty the sources of a plan are accepted
 abbrev pub Accepts : Type 0
@@ -127,21 +129,21 @@ pub can_tell_as : (nodes seen_nodes : List PlanNode) (changes seen_changes : Lis
 can_tell_as nodes seen_nodes changes seen_changes forgotten seen given listed nodes_are changes_are seen_are can = record {
   legal = can.legal;
   changes_are = changes_are ∙ can.changes_are;
-  forgotten_are = ap (map as_told) seen_are ∙ can.forgotten_are;
+  forgotten_are = ap (map port_forgot) seen_are ∙ can.forgotten_are;
   count = can.count ∙ sym (ap (λ (ns : List PlanNode). length ns) nodes_are);
 }
 
 -- and what was written of them as they are handed on was written of them
 pub tells_as : (how : Came) (nodes seen_nodes : List PlanNode) (changes seen_changes : List Change) (forgotten seen : List PortForgotten) (out out' : SinkSeen) (o : Outcome) → seen_nodes ≡ nodes → seen_changes ≡ changes → seen ≡ forgotten
-    → Tells how seen_nodes seen_changes seen out out' o → Tells how nodes changes forgotten out out' o
+    → EndsRun how seen_nodes seen_changes seen out out' o → EndsRun how nodes changes forgotten out out' o
 tells_as how nodes seen_nodes changes seen_changes forgotten seen out out' o nodes_are changes_are seen_are tells =
-    subst (λ (ns : List PlanNode). Tells how ns changes forgotten out out' o) nodes_are
-    (subst (λ (cs : List Change). Tells how seen_nodes cs forgotten out out' o) changes_are (subst (λ (ps : List PortForgotten). Tells how seen_nodes seen_changes ps out out' o) seen_are tells))
+    subst (λ (ns : List PlanNode). EndsRun how ns changes forgotten out out' o) nodes_are
+    (subst (λ (cs : List Change). EndsRun how seen_nodes cs forgotten out out' o) changes_are (subst (λ (ps : List PortForgotten). EndsRun how seen_nodes seen_changes ps out out' o) seen_are tells))
 
 -- ---- how a run ends
 
 -- a text was written, or a front of it
-pub wrote_ends : (nodes : List PlanNode) (files files' : FilesSeen) (out out' : SinkSeen) (edges : List Carried) (ran : List Ran) (text : List ℕ) (o : Outcome) → files'.faults ≡ files.faults → ((told : List ℕ → List ℕ) → AreTold files.content told (source_files nodes) → AnswersRun told nodes edges ran text) → WritesText o out out' text → RunEnds false nodes files files' out out' edges ran o
+pub wrote_ends : (nodes : List PlanNode) (files files' : FilesSeen) (out out' : SinkSeen) (edges : List Carried) (ran : List Ran) (text : List ℕ) (o : Outcome) → files'.faults ≡ files.faults → ((told : List ℕ → List ℕ) → AreTold files.content told (source_files nodes) → AnswersRun told nodes edges ran text) → WritesText o out out' text → RunEnds Run nodes files files' out out' edges ran o
 wrote_ends nodes files files' out out' edges ran text outcome.Done same answers h = (record { files_count = same; out_count = h.0 }, record { text = text; answers = answers; wrote = h.1 })
 wrote_ends nodes files files' out out' edges ran text outcome.Write same answers h = (h.0, record { text = text; begins = answers; wrote = h.1 })
 wrote_ends nodes files files' out out' edges ran text outcome.OutOfMemory same answers h = inr (record { text = text; begins = answers; wrote = h })
@@ -154,18 +156,18 @@ wrote_ends nodes files files' out out' edges ran text outcome.Read same answers 
 pub kept_same : (out out' : SinkSeen) → out' ≡ out → Keeps out.written out'.written
 kept_same out out' same = subst (λ (o : SinkSeen). Keeps out.written o.written) (sym same) (kept_itself out.written)
 
-module _ (streams : Bool) (nodes : List PlanNode) (files files' : FilesSeen) (out out' : SinkSeen) (edges : List Carried) (ran : List Ran) where
+module _ (job : Job) (nodes : List PlanNode) (files files' : FilesSeen) (out out' : SinkSeen) (edges : List Carried) (ran : List Ran) where
   -- memory ran out
-  pub lacking_ends : (o : Outcome) → o ≡ outcome.OutOfMemory → RunEnds streams nodes files files' out out' edges ran outcome.OutOfMemory → RunEnds streams nodes files files' out out' edges ran o
-  lacking_ends o lacks ends = subst (λ (o : Outcome). RunEnds streams nodes files files' out out' edges ran o) (sym lacks) ends
+  pub lacking_ends : (o : Outcome) → o ≡ outcome.OutOfMemory → RunEnds job nodes files files' out out' edges ran outcome.OutOfMemory → RunEnds job nodes files files' out out' edges ran o
+  lacking_ends o lacks ends = subst (λ (o : Outcome). RunEnds job nodes files files' out out' edges ran o) (sym lacks) ends
 
   -- a find or a read was refused
-  pub read_ends : (o : Outcome) → o ≡ outcome.Read → files.faults < files'.faults → IsSilentBy streams files.content nodes out out' → RunEnds streams nodes files files' out out' edges ran o
-  read_ends o refused rose silent = subst (λ (o : Outcome). RunEnds streams nodes files files' out out' edges ran o) (sym refused) (rose, silent)
+  pub read_ends : (o : Outcome) → o ≡ outcome.Read → files.faults < files'.faults → IsSilentBy job files.content nodes out out' → RunEnds job nodes files files' out out' edges ran o
+  read_ends o refused rose silent = subst (λ (o : Outcome). RunEnds job nodes files files' out out' edges ran o) (sym refused) (rose, silent)
 
   -- some source isn't accepted
-  pub said_ends : (text : List ℕ) (o : Outcome) → files'.faults ≡ files.faults → out'.faults ≡ out.faults → IsSilentBy streams files.content nodes out out' → RunEnds streams nodes files files' out out' edges ran outcome.OutOfMemory
-      → ((said : List ℕ) → said ≡ text → (told : List ℕ → List ℕ) → AreTold files.content told (source_files nodes) → RefusesSources told nodes said) → Says o text → RunEnds streams nodes files files' out out' edges ran o
+  pub said_ends : (text : List ℕ) (o : Outcome) → files'.faults ≡ files.faults → out'.faults ≡ out.faults → IsSilentBy job files.content nodes out out' → RunEnds job nodes files files' out out' edges ran outcome.OutOfMemory
+      → ((said : List ℕ) → said ≡ text → (told : List ℕ → List ℕ) → AreTold files.content told (source_files nodes) → RefusesSources told nodes said) → Says o text → RunEnds job nodes files files' out out' edges ran o
   said_ends text (outcome.Events said) counted same silent lacks refuses h = (record { files_count = counted; out_count = same }, silent, refuses said.items h)
   said_ends text outcome.OutOfMemory counted same silent lacks refuses h = lacks
   said_ends text outcome.Done counted same silent lacks refuses h = absurd h
@@ -212,12 +214,12 @@ module _ {S : Type 0} (rest : S → Option (List ℕ)) (faults : S → ℕ) (acc
     }
 
     -- the sources are accepted, and their lists have these tables
-    accepted_so : (told : List ℕ → List ℕ) → AreTold content told (source_files nodes) → (histories : Tables) × AreAccepted told (source_nodes nodes) (sources_in nodes given) histories × AreTables (sources_in nodes given) histories
+    accepted_so : (told : List ℕ → List ℕ) → AreTold content told (source_files nodes) → (histories : Tables) × AreAcceptedSources told (source_nodes nodes) (sources_in nodes given) histories × AreTables (sources_in nodes given) histories
     accepted_so told known =
         let read = all_read rest faults content told nodes reported.sources given ends (reported.count, reported.reported.count) (so_went rest faults nodes reported.sources given ends ended) reported.found known is_done.closed in
         let got = accepts told nodes (source_lists nodes given) read in
         let same = same_sources nodes given in
-        (got.0, subst (λ (ls : Lists). AreAccepted told (source_nodes nodes) ls got.0) same got.1, subst (λ (ls : Lists). AreTables ls got.0) same got.3)
+        (got.0, subst (λ (ls : Lists). AreAcceptedSources told (source_nodes nodes) ls got.0) same got.1, subst (λ (ls : Lists). AreTables ls got.0) same got.3)
 
     -- and the text is that of the run
     pub answers_so : (rows : List Row) → IsTableOf (list_at given (output_place nodes)) rows → (told : List ℕ → List ℕ) → AreTold content told (source_files nodes) → AnswersRun told nodes report.edges.items report.ran.items (answer_text (has_memory nodes) nodes (in_order rows) (forgot_in nodes ports))
@@ -254,54 +256,55 @@ module _ {S : Type 0} (rest : S → Option (List ℕ)) (faults : S → ℕ) (acc
         }
 
     -- none of its sources was refused a read
-    pub none_rose : (count : ℕ) → count ≤ last_count → count_with faults count (map source_in ends) ≡ count
+    pub none_rose : (count : ℕ) → count ≤ last_count → count_with faults count (map source_left_in ends) ≡ count
     none_rose count few = ended_kept rest faults nodes reported.sources given ends count ended (closed_unread ends is_done.closed) few
 
   -- ---- a run with a refused read
 
-  pub some_rose : list_any (λ (e : SourceEnd S). is_unread e.stop) ends ≡ true → (count : ℕ) → count < last_count → count < count_with faults count (map source_in ends)
+  pub some_rose : list_any (λ (e : SourceEnd S). is_unread e.stop) ends ≡ true → (count : ℕ) → count < last_count → count < count_with faults count (map source_left_in ends)
   some_rose unread count few = ended_rose rest faults nodes reported.sources given ends count ended (sym (any_stop is_unread ends) ∙ unread) few
 
   -- ---- a run with faulty sources
 
   module _ (read : list_any (λ (e : SourceEnd S). is_unread e.stop) ends ≡ false) where
-    pub faulty_kept : (count : ℕ) → count ≤ last_count → count_with faults count (map source_in ends) ≡ count
+    pub faulty_kept : (count : ℕ) → count ≤ last_count → count_with faults count (map source_left_in ends) ≡ count
     faulty_kept count few = ended_kept rest faults nodes reported.sources given ends count ended (sym (any_stop is_unread ends) ∙ read) few
 
     -- all of them are reported
-    pub refuses_so : list_any (λ (e : SourceEnd S). is_short e.stop) ends ≡ false → (listed : List SourceFault) → listed ≡ faults_from 0 ends → 0 < length listed → (said : List ℕ) → said ≡ faults_said (source_nodes nodes) listed
+    pub refuses_so : list_any (λ (e : SourceEnd S). is_short e.stop) ends ≡ false → (listed : List FaultySource) → listed ≡ faulty_from 0 (node_faults nodes (map refusal_in ends)) → 0 < length listed → (said : List ℕ) → said ≡ faulty_text nodes listed
         → (told : List ℕ → List ℕ) → AreTold content told (source_files nodes) → RefusesSources told nodes said
     refuses_so found listed listed_are some said said_is told known =
         let judged = all_judged rest faults ends (sym (any_stop is_short ends) ∙ found) (sym (any_stop is_unread ends) ∙ read) in
+        let gave = all_given rest faults content told nodes reported.sources given ends (reported.count, reported.reported.count) (so_went rest faults nodes reported.sources given ends ended) reported.found known judged in
         record {
           left = source_lists nodes given;
-          faults = node_faults nodes (map fault_in ends);
-          given = all_given rest faults content told nodes reported.sources given ends (reported.count, reported.reported.count) (so_went rest faults nodes reported.sources given ends ended) reported.found known judged;
-          some = some_faulty rest faults nodes 0 ends reported.reported.count (some_listed 0 ends (subst (λ (fs : List SourceFault). 0 < length fs) listed_are some));
-          said_is = said_is ∙ (ap (faults_said (source_nodes nodes)) listed_are ∙ said_all nodes ends reported.reported.count);
+          faults = node_faults nodes (map refusal_in ends);
+          given = gave;
+          some = subst (λ (fs : List FaultySource). 0 < length fs) listed_are some;
+          said_is = said_is ∙ (ap (faulty_text nodes) listed_are ∙ named_faults told nodes (source_lists nodes given) (node_faults nodes (map refusal_in ends)) gave);
         }
 
 module _ {S : Type 0} (rest : S → Option (List ℕ)) (faults : S → ℕ) (accepts : Accepts) (plan : Plan) (is : IsPlan plan) (files files' : FilesSeen) (out out' : SinkSeen) (report : Report S) (reported : IsReported rest faults files.content plan.nodes.items report)
-    (few : files.faults < last_count) (counted : files'.faults ≡ count_with faults files.faults (map source_in report.sources.items)) (o : Outcome) where
+    (few : files.faults < last_count) (counted : files'.faults ≡ count_with faults files.faults (map source_left_in report.sources.items)) (o : Outcome) where
   abbrev Ends : Outcome → Type 0
-  Ends o = RunEnds false plan.nodes.items files files' out out' report.edges.items report.ran.items o
+  Ends o = RunEnds Run plan.nodes.items files files' out out' report.edges.items report.ran.items o
 
   -- a run that is done ends with its text
   done_ends : report.outcome ≡ came.Done → WritesRun plan.nodes.items (list_at reported.reported.given (output_place plan.nodes.items)) (forgot_in plan.nodes.items (ports_of plan.nodes.items (carried report.edges.items))) out out' o → Ends o
-  done_ends done (inl lacks) = lacking_ends false plan.nodes.items files files' out out' report.edges.items report.ran.items o lacks.0 (inl (kept_same out out' lacks.1))
+  done_ends done (inl lacks) = lacking_ends Run plan.nodes.items files files' out out' report.edges.items report.ran.items o lacks.0 (inl (kept_same out out' lacks.1))
   done_ends done (inr wrote) =
       wrote_ends plan.nodes.items files files' out out' report.edges.items report.ran.items _ o (counted ∙ none_rose rest faults accepts plan is files.content report reported done files.faults (omega (arith, few)))
       (answers_so rest faults accepts plan is files.content report reported done wrote.0 wrote.1.0) wrote.1.1
 
-  ends_as : (how : Came) → report.outcome ≡ how → (short : Bool) → CameTo report.sources.items short how → Tells how plan.nodes.items report.changes.items report.forgotten.items out out' o → Ends o
+  ends_as : (how : Came) → report.outcome ≡ how → (short : Bool) → HasOutcome plan.nodes.items report.sources.items short how → EndsRun how plan.nodes.items report.changes.items report.forgotten.items out out' o → Ends o
   ends_as came.Done is_how short so tells = done_ends is_how (tells (list_at reported.reported.given (output_place plan.nodes.items)) (forgot_in plan.nodes.items (ports_of plan.nodes.items (carried report.edges.items))) (can_tell rest faults accepts plan is files.content report reported is_how))
-  ends_as came.Memory is_how short so tells = lacking_ends false plan.nodes.items files files' out out' report.edges.items report.ran.items o tells.0 (inl (kept_same out out' tells.1))
+  ends_as came.Memory is_how short so tells = lacking_ends Run plan.nodes.items files files' out out' report.edges.items report.ran.items o tells.0 (inl (kept_same out out' tells.1))
   ends_as came.Read is_how short so tells =
-      read_ends false plan.nodes.items files files' out out' report.edges.items report.ran.items o tells.0 (subst (λ (n : ℕ). files.faults < n) (sym counted) (some_rose rest faults accepts plan is files.content report reported so.2 files.faults few)) (inl (kept_same out out' tells.1))
+      read_ends Run plan.nodes.items files files' out out' report.edges.items report.ran.items o tells.0 (subst (λ (n : ℕ). files.faults < n) (sym counted) (some_rose rest faults accepts plan is files.content report reported so.2 files.faults few)) (inl (kept_same out out' tells.1))
   ends_as (came.Events listed) is_how short so tells =
-      said_ends false plan.nodes.items files files' out out' report.edges.items report.ran.items (faults_said (source_nodes plan.nodes.items) listed.items) o (counted ∙ faulty_kept rest faults accepts plan is files.content report reported so.2 files.faults (omega (arith, few)))
+      said_ends Run plan.nodes.items files files' out out' report.edges.items report.ran.items (faulty_text plan.nodes.items listed.items) o (counted ∙ faulty_kept rest faults accepts plan is files.content report reported so.2 files.faults (omega (arith, few)))
       (ap (λ (o : SinkSeen). o.faults) tells.1) (inl (kept_same out out' tells.1)) (inl (kept_same out out' tells.1)) (refuses_so rest faults accepts plan is files.content report reported so.2 so.1 listed.items so.3 so.4) tells.0
 
   -- a run ends by what is written or said of it
-  pub run_ends : Tells report.outcome plan.nodes.items report.changes.items report.forgotten.items out out' o → Ends o
+  pub run_ends : EndsRun report.outcome plan.nodes.items report.changes.items report.forgotten.items out out' o → Ends o
   run_ends tells = ends_as report.outcome refl reported.reported.short reported.reported.came tells

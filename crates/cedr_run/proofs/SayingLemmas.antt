@@ -3,10 +3,10 @@ use Rattle.std.proofs.Common.{◌≡◌, ℕ, ◌+◌, ◌<◌, List, [], ◌∷
 use Rattle.std.specs.List.{slice_get}
 use Rattle.std.proofs.lemmas.List.{append-nil, length-append, take_more}
 use Rattle.cedr_guard.specs.declared.refusal.Refusal.{Refusal}
-use Rattle.cedr_laws.specs.Lists.{Lists}
+use Rattle.node_laws.specs.Lists.{Lists}
 use Rattle.cedr_plan.specs.declared.plan.PlanNode.{PlanNode}
-use Rattle.cedr_serial.specs.declared.sources.FaultySource.{FaultySource}
-use Rattle.cedr_serial.specs.Sources.{AllHaveGiven, AreRead, fault_here, faulty_from}
+use Rattle.plan_answer.specs.declared.faulty.FaultySource.{FaultySource}
+use Rattle.plan_answer.specs.Sources.{AllHaveGiven, AreRead, fault_here, faulty_from}
 use Rattle.cedr_run.specs.Answers.{fault_text, faults_text}
 use Rattle.cedr_run.specs.declared.outcome.Outcome.{Outcome}
 use Rattle.cedr_run.specs.declared.outcome.Outcome.TheVariants as outcome

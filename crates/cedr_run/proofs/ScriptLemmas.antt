@@ -6,12 +6,12 @@ use Rattle.std.proofs.lemmas.List.{take_all}
 use Rattle.cedr_io.specs.Asked.{AppendsFront}
 use Rattle.cedr_guard.specs.declared.refusal.Refusal.{Refusal}
 use Rattle.cedr_guard.specs.declared.refusal.TheConstants.{FILE_LIMIT}
-use Rattle.cedr_live.specs.Plays.{IsPlayed, IsPlayedSoFar}
-use Rattle.cedr_live.specs.Scripts.{Accepted, Played, played}
-use Rattle.cedr_live.specs.Shown.{AreShown, AreShownFirst}
+use Rattle.plan_live.specs.Plays.{IsPlayed, IsPlayedSoFar}
+use Rattle.plan_live.specs.Scripts.{Accepted, Played, played}
+use Rattle.plan_live.specs.Shown.{AreShown, AreShownFirst}
 use Rattle.cedr_plan.specs.declared.plan.Plan.{Plan}
 use Rattle.cedr_plan.specs.declared.plan.PlanNode.{PlanNode}
-use Rattle.cedr_serial.specs.Sources.{AreTold}
+use Rattle.plan_answer.specs.Sources.{AreTold}
 use Rattle.cedr_run.specs.declared.command.Job.TheVariants.{Live}
 use Rattle.cedr_run.specs.declared.outcome.Outcome.{Outcome}
 use Rattle.cedr_run.specs.declared.outcome.Outcome.TheVariants as outcome
@@ -23,7 +23,7 @@ use Rattle.cedr_run.specs.Seen.{FilesSeen, SinkSeen}
 use Rattle.cedr_run.specs.Steps.{Says, OpensPlan}
 use Rattle.cedr_run.proofs.EndingLemmas.{opened_plan}
 use Rattle.cedr_run.proofs.FileLemmas.{played_known}
-use Rattle.cedr_live.proofs.ShownLemmas.{front_all}
+use Rattle.plan_live.proofs.ShownLemmas.{front_all}
 
 -- what was played of the bytes that were read is what is played of the file
 pub known_played : (before after : Option (List ℕ)) (bytes front seen : List ℕ) (nodes : List PlanNode) (text : List ℕ) (fault : Option Refusal) → after ≡ before → before ≡ Some bytes → IfSome after (λ all. IsFileFront FILE_LIMIT all front) → seen ≡ front

@@ -1,51 +1,52 @@
 -- How a stream ends, by what was written of it and by what is reported of its run.
-use Rattle.std.proofs.Common.{◌≡◌, ℕ, ◌<◌, inl, inr, List, Bool, true, length, map, refl, ap, sym, ◌∙◌, subst, arith}
+use Rattle.std.proofs.Common.{◌≡◌, ℕ, ◌<◌, inl, inr, List, Bool, length, map, refl, ap, sym, ◌∙◌, subst, arith}
 use Rattle.std.specs.Prelude.{Option}
 use Rattle.std.proofs.KnownBytes.{Appends-trans}
 use Rattle.std.specs.List.{All}
-use Rattle.cedr_answer.specs.Finds.{AreFound, count_with}
-use Rattle.cedr_answer.specs.Tellings.{source_in}
+use Rattle.plan_answer.specs.Finds.{AreFound, count_with}
+use Rattle.plan_workers.specs.Tellings.{source_left_in}
 use Rattle.cedr_base.specs.declared.change.Change.{Change}
-use Rattle.cedr_crew.specs.declared.forgotten.PortForgotten.{PortForgotten}
+use Rattle.plan_answer.specs.declared.forgotten.PortForgotten.{PortForgotten}
 use Rattle.cedr_io.specs.Asked.{AppendsFront}
 use Rattle.cedr_io.specs.Counts.{last_count}
-use Rattle.cedr_laws.specs.declared.forgotten.Forgotten.{Forgotten}
+use Rattle.node_laws.specs.declared.forgotten.Forgotten.{Forgotten}
 use Rattle.cedr_plan.specs.declared.plan.Plan.{Plan}
 use Rattle.cedr_plan.specs.declared.plan.PlanNode.{PlanNode}
 use Rattle.cedr_plan.specs.Rules.{IsPlan}
 use Rattle.cedr_query.specs.Queries.{source_count}
-use Rattle.cedr_runs.specs.Without.{forgot_in}
-use Rattle.cedr_serial.specs.Queries.{changes_text, given_text, source_nodes}
-use Rattle.cedr_serial.specs.Sources.{AreTold, source_files}
-use Rattle.cedr_threads.specs.declared.report.Outcome.{Outcome as Came}
-use Rattle.cedr_threads.specs.declared.report.Outcome.TheVariants as came
-use Rattle.cedr_threads.specs.declared.report.Report.{Report}
-use Rattle.cedr_threads.specs.Reports.{CameTo, IsReport}
-use Rattle.cedr_threads.specs.SoFar.{IsSoFar}
-use Rattle.cedr_wires.specs.Wires.{carried, ports_of}
+use Rattle.plan_runs.specs.Without.{forgot_in}
+use Rattle.plan_answer.specs.Queries.{changes_text, given_text, source_nodes}
+use Rattle.plan_answer.specs.Sources.{AreTold, source_files}
+use Rattle.plan_threads.specs.declared.report.Outcome.{Outcome as Came}
+use Rattle.plan_threads.specs.declared.report.Outcome.TheVariants as came
+use Rattle.plan_threads.specs.declared.report.Report.{Report}
+use Rattle.plan_threads.specs.Reports.{HasOutcome, IsReport}
+use Rattle.plan_threads.specs.SoFar.{IsSoFar}
+use Rattle.plan_edges.specs.Wires.{carried, ports_of}
 use Rattle.cedr_run.specs.declared.outcome.Outcome.{Outcome}
 use Rattle.cedr_run.specs.declared.outcome.Outcome.TheVariants as outcome
 use Rattle.cedr_run.specs.declared.progress.Progress.{Progress}
 use Rattle.cedr_run.specs.declared.progress.Progress.TheVariants as progress
 use Rattle.cedr_run.specs.Answers.{Contents, StreamsSoFar}
 use Rattle.cedr_run.specs.Seen.{FilesSeen, SinkSeen}
-use Rattle.cedr_run.specs.Steps.{WritesText}
-use Rattle.cedr_run.specs.Threads.{BeganRun, CanTellTail, IsSilentBy, IsStreamed, RunEnds, TellsStream, WritesTail, WroteList, faults_said, tail_of}
+use Rattle.cedr_run.specs.Steps.{WritesText, faulty_text}
+use Rattle.cedr_run.specs.declared.command.Job.TheVariants.{Stream}
+use Rattle.cedr_run.specs.Threads.{BeganRun, CanTellTail, IsSilentBy, IsStreamed, RunEnds, EndsStream, WritesTail, WroteList, tail_of}
 use Rattle.cedr_run.proofs.BegunLemmas.{streams_so_far}
 use Rattle.cedr_run.proofs.EndingLemmas.{rose_above}
 use Rattle.cedr_run.proofs.PlanLemmas.{stream_changes}
 use Rattle.cedr_run.proofs.RunLemmas.{Accepts, Leads, can_tell_tail, faulty_kept, lacking_ends, none_rose, read_ends, refuses_so, said_ends, some_rose, streams_so}
 use Rattle.cedr_run.proofs.StreamLemmas.{lines_longer, wrote_front}
-use Rattle.cedr_live.proofs.ShownLemmas.{front_along}
+use Rattle.plan_live.proofs.ShownLemmas.{front_along}
 
 -- what was forgotten can be listed as it is handed on
 pub can_tell_tail_as : (nodes seen_nodes : List PlanNode) (forgotten seen : List PortForgotten) (listed : List (List (List Forgotten))) → seen_nodes ≡ nodes → seen ≡ forgotten → CanTellTail nodes forgotten listed → CanTellTail seen_nodes seen listed
 can_tell_tail_as nodes seen_nodes forgotten seen listed nodes_are seen_are can = subst (λ (ns : List PlanNode). CanTellTail ns seen listed) (sym nodes_are) (subst (λ (ps : List PortForgotten). CanTellTail nodes ps listed) (sym seen_are) can)
 
 -- and what was written of it as it is handed on was written of it
-pub tells_stream_as : (how : Came) (by : Progress) (nodes seen_nodes : List PlanNode) (forgotten seen : List PortForgotten) (out out' : SinkSeen) (o : Outcome) → seen_nodes ≡ nodes → seen ≡ forgotten → TellsStream how by seen_nodes seen out out' o → TellsStream how by nodes forgotten out out' o
+pub tells_stream_as : (how : Came) (by : Progress) (nodes seen_nodes : List PlanNode) (forgotten seen : List PortForgotten) (out out' : SinkSeen) (o : Outcome) → seen_nodes ≡ nodes → seen ≡ forgotten → EndsStream how by seen_nodes seen out out' o → EndsStream how by nodes forgotten out out' o
 tells_stream_as how by nodes seen_nodes forgotten seen out out' o nodes_are seen_are tells =
-    subst (λ (ns : List PlanNode). TellsStream how by ns forgotten out out' o) nodes_are (subst (λ (ps : List PortForgotten). TellsStream how by seen_nodes ps out out' o) seen_are tells)
+    subst (λ (ns : List PlanNode). EndsStream how by ns forgotten out out' o) nodes_are (subst (λ (ps : List PortForgotten). EndsStream how by seen_nodes ps out out' o) seen_are tells)
 
 -- what is reported of a stream, and what its watcher stands for
 pub streamed_so : {S : Type 0} (rest : S → Option (List ℕ)) (faults : S → ℕ) (content : Contents) (nodes : List PlanNode) (sources : List S) (report : Report S) (by : Progress) (start out : SinkSeen) (count : ℕ)
@@ -68,7 +69,7 @@ whole_counts rest faults content nodes report by start out streamed whole =
     subst (λ (n : ℕ). n < last_count) (sym wrote.0) streamed.counts
 
 module _ {S : Type 0} (rest : S → Option (List ℕ)) (faults : S → ℕ) (accepts : Accepts) (leads : Leads) (plan : Plan) (is : IsPlan plan) (files files' : FilesSeen) (start out out' : SinkSeen) (report : Report S) (by : Progress)
-    (streamed : IsStreamed rest faults files.content plan.nodes.items report by start out) (few : files.faults < last_count) (counted : files'.faults ≡ count_with faults files.faults (map source_in report.sources.items)) (o : Outcome) where
+    (streamed : IsStreamed rest faults files.content plan.nodes.items report by start out) (few : files.faults < last_count) (counted : files'.faults ≡ count_with faults files.faults (map source_left_in report.sources.items)) (o : Outcome) where
   abbrev nodes : List PlanNode
   nodes = plan.nodes.items
 
@@ -76,7 +77,7 @@ module _ {S : Type 0} (rest : S → Option (List ℕ)) (faults : S → ℕ) (acc
   listed = forgot_in nodes (ports_of nodes (carried report.edges.items))
 
   abbrev Ends : Outcome → Type 0
-  Ends o = RunEnds true nodes files files' start out' report.edges.items report.ran.items o
+  Ends o = RunEnds Stream nodes files files' start out' report.edges.items report.ran.items o
 
   -- ---- what was written by now
 
@@ -96,14 +97,14 @@ module _ {S : Type 0} (rest : S → Option (List ℕ)) (faults : S → ℕ) (acc
     front_now : AppendsFront start.written out'.written begun_text
     front_now = subst (λ (s : SinkSeen). AppendsFront start.written s.written begun_text) (sym same) front
 
-    began : BeganRun true files.content nodes report.edges.items report.ran.items start out'
+    began : BeganRun Stream files.content nodes report.edges.items report.ran.items start out'
     began = record { text = begun_text; begins = λ told known. inl (begins told known); wrote = front_now }
 
-    silent : IsSilentBy true files.content nodes start out'
+    silent : IsSilentBy Stream files.content nodes start out'
     silent = inr (refl, record { text = begun_text; begins = begins; wrote = front_now })
 
     lacked : o ≡ outcome.OutOfMemory → Ends o
-    lacked lacks = lacking_ends true nodes files files' start out' report.edges.items report.ran.items o lacks (inr began)
+    lacked lacks = lacking_ends Stream nodes files files' start out' report.edges.items report.ran.items o lacks (inr began)
 
     refused : start.faults < out.faults → o ≡ outcome.Write → Ends o
     refused rose is_write = subst (λ (o : Outcome). Ends o) (sym is_write) (subst (λ (s : SinkSeen). start.faults < s.faults) (sym same) rose, began)
@@ -149,7 +150,7 @@ module _ {S : Type 0} (rest : S → Option (List ℕ)) (faults : S → ℕ) (acc
   above : WroteList progress.Refused start out streamed.list → start.faults < out.faults
   above wrote = rose_above start.faults out.faults wrote.0 streamed.counts
 
-  ends_as : (how : Came) (so : Progress) → report.outcome ≡ how → by ≡ so → (short : Bool) → CameTo report.sources.items short how → TellsStream how so nodes report.forgotten.items out out' o → Ends o
+  ends_as : (how : Came) (so : Progress) → report.outcome ≡ how → by ≡ so → (short : Bool) → HasOutcome nodes report.sources.items short how → EndsStream how so nodes report.forgotten.items out out' o → Ends o
   ends_as how progress.Lacked is_how is_by short so_came tells = lacked tells.1 tells.0
   ends_as came.Done progress.Refused is_how is_by short so_came tells = refused tells.1 (above (subst (λ (b : Progress). WroteList b start out streamed.list) is_by streamed.wrote)) tells.0
   ends_as came.Memory progress.Refused is_how is_by short so_came tells = lacked tells.1 tells.0
@@ -159,12 +160,12 @@ module _ {S : Type 0} (rest : S → Option (List ℕ)) (faults : S → ℕ) (acc
       done_ends is_how (subst (λ (b : Progress). WroteList b start out report.changes.items) is_by (streamed.whole is_how)) (tells listed (can_tell_tail rest faults accepts plan is files.content report streamed.run is_how))
   ends_as came.Memory progress.Whole is_how is_by short so_came tells = lacked tells.1 tells.0
   ends_as came.Read progress.Whole is_how is_by short so_came tells =
-      read_ends true nodes files files' start out' report.edges.items report.ran.items o tells.0 (subst (λ (n : ℕ). files.faults < n) (sym counted) (some_rose rest faults accepts plan is files.content report streamed.run so_came.2 files.faults few)) (silent tells.1)
+      read_ends Stream nodes files files' start out' report.edges.items report.ran.items o tells.0 (subst (λ (n : ℕ). files.faults < n) (sym counted) (some_rose rest faults accepts plan is files.content report streamed.run so_came.2 files.faults few)) (silent tells.1)
   ends_as (came.Events faulty) progress.Whole is_how is_by short so_came tells =
       let wrote = subst (λ (b : Progress). WroteList b start out streamed.list) is_by streamed.wrote in
-      said_ends true nodes files files' start out' report.edges.items report.ran.items (faults_said (source_nodes nodes) faulty.items) o (counted ∙ faulty_kept rest faults accepts plan is files.content report streamed.run so_came.2 files.faults (omega (arith, few)))
+      said_ends Stream nodes files files' start out' report.edges.items report.ran.items (faulty_text nodes faulty.items) o (counted ∙ faulty_kept rest faults accepts plan is files.content report streamed.run so_came.2 files.faults (omega (arith, few)))
       (ap (λ (s : SinkSeen). s.faults) tells.1 ∙ wrote.0) (silent tells.1) (inr (began tells.1)) (refuses_so rest faults accepts plan is files.content report streamed.run so_came.2 so_came.1 faulty.items so_came.3 so_came.4) tells.0
 
   -- a stream ends by what is written or said of it
-  pub stream_ends : TellsStream report.outcome by nodes report.forgotten.items out out' o → Ends o
+  pub stream_ends : EndsStream report.outcome by nodes report.forgotten.items out out' o → Ends o
   stream_ends tells = ends_as report.outcome by refl refl streamed.run.reported.short streamed.run.reported.came tells

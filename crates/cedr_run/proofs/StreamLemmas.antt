@@ -10,13 +10,13 @@ use Rattle.cedr_base.specs.declared.change.Change.{Change}
 use Rattle.cedr_history.specs.Ends.{part}
 use Rattle.cedr_io.specs.Asked.{AppendsFront}
 use Rattle.cedr_io.specs.Counts.{Rose}
-use Rattle.cedr_serial.specs.Queries.{changes_text}
+use Rattle.plan_answer.specs.Queries.{changes_text}
 use Rattle.cedr_text.specs.Texts.{change_text}
 use Rattle.cedr_run.specs.declared.progress.Progress.{Progress}
 use Rattle.cedr_run.specs.declared.progress.Progress.TheVariants as progress
 use Rattle.cedr_run.specs.Seen.{SinkSeen}
 use Rattle.cedr_run.specs.Threads.{WroteList}
-use Rattle.cedr_live.proofs.ShownLemmas.{front_along}
+use Rattle.plan_live.proofs.ShownLemmas.{front_along}
 
 -- ---- fronts of texts
 

@@ -9,8 +9,8 @@ use Rattle.cedr_base.specs.Rows.{in_order}
 use Rattle.cedr_guard.specs.declared.refusal.Refusal.{Refusal}
 use Rattle.cedr_guard.specs.History.{history_of}
 use Rattle.cedr_guard.specs.Sources.{judged, messages_of}
-use Rattle.cedr_laws.specs.Lists.{Lists}
-use Rattle.cedr_live.specs.Plays.{IsPlayed, IsPlayedSoFar}
+use Rattle.node_laws.specs.Lists.{Lists}
+use Rattle.plan_live.specs.Plays.{IsPlayed, IsPlayedSoFar}
 use Rattle.cedr_make.specs.BuiltIn.{built_in}
 use Rattle.cedr_make.specs.Generator.{made_text}
 use Rattle.cedr_make.specs.Summary.{summary_text}
@@ -20,15 +20,16 @@ use Rattle.cedr_plan.specs.CheckTexts.{check_text}
 use Rattle.cedr_plan.specs.declared.fault.PlanKind.{PlanKind}
 use Rattle.cedr_plan.specs.declared.plan.PlanNode.{PlanNode}
 use Rattle.cedr_query.specs.Queries.{output_place, query}
-use Rattle.cedr_crew.specs.Wents.{AreRan}
+use Rattle.plan_workers.specs.Wents.{AreRan}
 use Rattle.cedr_edge.specs.Ends.{Carried}
-use Rattle.cedr_runs.specs.Runs.{IsPartialRun, IsPrefix, IsRun}
-use Rattle.cedr_runs.specs.Without.{forgot_in}
-use Rattle.cedr_serial.specs.Answers.{has_memory, answer_text, tail_text}
-use Rattle.cedr_serial.specs.Queries.{source_nodes, AreAccepted, IsAnswerText, IsStreamText, LeadsTo, given_text, rows_without}
-use Rattle.cedr_wires.specs.Wires.{carried, ports_of}
+use Rattle.plan_runs.specs.Runs.{IsPartialRun, IsPrefix, IsRun}
+use Rattle.plan_runs.specs.Without.{forgot_in}
+use Rattle.plan_answer.specs.Answers.{has_memory, answer_text, tail_text}
+use Rattle.plan_answer.specs.Queries.{source_nodes, AreAcceptedSources, IsAnswerText, IsStreamText, LeadsTo, given_text, rows_without}
+use Rattle.plan_edges.specs.Wires.{carried, ports_of}
 use Rattle.cedr_worker.specs.declared.ran.Ran.{Ran}
-use Rattle.cedr_serial.specs.Sources.{source_files, AreTold, AllHaveGiven, HasTypes, faulty_from, file_of}
+use Rattle.plan_answer.specs.Sources.{source_files, AreTold, AllHaveGiven, faulty_from, file_of}
+use Rattle.cedr_text.specs.Shapes.{ShapeHasTypes}
 use Rattle.cedr_table.specs.Operators.{Tables, table_at}
 use Rattle.cedr_run.specs.declared.command.Job.{Job}
 use Rattle.cedr_run.specs.declared.command.Job.TheVariants.{History, Check, Serial, Run, Stream, Audit, Live, Make}
@@ -76,7 +77,7 @@ pub record GivesNodes (bytes text : List ℕ) : Type 0 where
 pub record AnswersQuery (always : Bool) (told : List ℕ → List ℕ) (nodes : List PlanNode) (text : List ℕ) : Type 0 where
   pub sources : Lists
   pub histories : Tables
-  pub accepted : AreAccepted told (source_nodes nodes) sources histories
+  pub accepted : AreAcceptedSources told (source_nodes nodes) sources histories
   pub text_is : IsAnswerText always nodes sources histories text
 
 -- The same of a run whose workers sent this over its edges. That is a run of the plan over the messages of the sources,
@@ -84,7 +85,7 @@ pub record AnswersQuery (always : Bool) (told : List ℕ → List ℕ) (nodes : 
 pub record AnswersRun (told : List ℕ → List ℕ) (nodes : List PlanNode) (edges : List Carried) (ran : List Ran) (text : List ℕ) : Type 0 where
   pub sources : Lists
   pub histories : Tables
-  pub accepted : AreAccepted told (source_nodes nodes) sources histories
+  pub accepted : AreAcceptedSources told (source_nodes nodes) sources histories
   pub given : Lists
   pub run : IsRun nodes sources (ports_of nodes (carried edges)) given
   pub text_is : text ≡ answer_text (has_memory nodes) nodes (in_order (rows_without nodes (ports_of nodes (carried edges)) histories)) (forgot_in nodes (ports_of nodes (carried edges)))
@@ -95,7 +96,7 @@ pub record AnswersRun (told : List ℕ → List ℕ) (nodes : List PlanNode) (ed
 pub record AnswersChanges (told : List ℕ → List ℕ) (nodes : List PlanNode) (text : List ℕ) : Type 0 where
   pub sources : Lists
   pub histories : Tables
-  pub accepted : AreAccepted told (source_nodes nodes) sources histories
+  pub accepted : AreAcceptedSources told (source_nodes nodes) sources histories
   pub text_is : IsStreamText nodes sources text
   pub leads : LeadsTo nodes histories text_is.ports text_is.given
 
@@ -103,7 +104,7 @@ pub record AnswersChanges (told : List ℕ → List ℕ) (nodes : List PlanNode)
 pub record AnswersStream (told : List ℕ → List ℕ) (nodes : List PlanNode) (edges : List Carried) (ran : List Ran) (text : List ℕ) : Type 0 where
   pub sources : Lists
   pub histories : Tables
-  pub accepted : AreAccepted told (source_nodes nodes) sources histories
+  pub accepted : AreAcceptedSources told (source_nodes nodes) sources histories
   pub given : Lists
   pub run : IsRun nodes sources (ports_of nodes (carried edges)) given
   pub text_is : text ≡ given_text nodes given ++ (if has_memory nodes then tail_text nodes (forgot_in nodes (ports_of nodes (carried edges))) else [])
@@ -115,7 +116,7 @@ pub record AnswersStream (told : List ℕ → List ℕ) (nodes : List PlanNode) 
 -- these are the first messages of the good lines of a source; the end is among them only where all its lines are good
 pub record HasBegun (told : List ℕ → List ℕ) (node : PlanNode) (ms : List Message) : Type 0 where
   pub shape : Shape
-  pub types : HasTypes shape node.types.items
+  pub types : ShapeHasTypes shape node.types.items
   pub first : IsPrefix ms (messages_of shape (told (file_of node.kind)))
 
 -- the same of each of some sources, in order
@@ -203,7 +204,7 @@ pub record GivesSummary (n : ℕ) (text : List ℕ) : Type 0 where
   pub nodes_are : map node_of nodes ≡ built_in.nodes
   pub sources : Lists
   pub histories : Tables
-  pub accepted : AreAccepted (made_file n) (source_nodes nodes) sources histories
+  pub accepted : AreAcceptedSources (made_file n) (source_nodes nodes) sources histories
   pub text_is : text ≡ summary_text (in_order (table_at (query histories nodes) (output_place nodes)))
 
 -- ---- each command

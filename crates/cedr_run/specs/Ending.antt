@@ -5,8 +5,8 @@ use Rattle.cedr_run.specs.declared.outcome.Outcome.TheVariants as outcome
 use Rattle.cedr_run.specs.declared.status.Status.{Status}
 use Rattle.cedr_run.specs.declared.status.Status.TheVariants as status
 use Rattle.cedr_run.specs.Commands.{Command}
-use Rattle.cedr_run.specs.Outcomes.{status_of, told_text, TellsLack, CommandEnds, AsksOnly}
-use Rattle.cedr_run.specs.Seen.{FilesSeen, SinkSeen, Tells}
+use Rattle.cedr_run.specs.Outcomes.{status_of, outcome_text, TellsLack, CommandEnds, AsksOnly}
+use Rattle.cedr_run.specs.Seen.{FilesSeen, SinkSeen, SinkGains}
 
 -- what the words led to: where they match no command, only that
 abbrev pub CameTo : Option Command → FilesSeen → FilesSeen → SinkSeen → SinkSeen → Outcome → Type 0
@@ -20,6 +20,6 @@ pub record Ends (command : Option Command) (files files' : FilesSeen) (out out' 
   pub went : Outcome
   pub came : CameTo command files files' out out' went
   pub answered : (s ≡ status_of went) ⊎ (s ≡ status.OutOfMemory)
-  pub told : s ≢ status.OutOfMemory → Tells err err' (told_text went)
-  pub lacking : s ≡ status.OutOfMemory → TellsLack err err' (told_text went)
+  pub reported : s ≢ status.OutOfMemory → SinkGains err err' (outcome_text went)
+  pub lacking : s ≡ status.OutOfMemory → TellsLack err err' (outcome_text went)
   pub contents : (name : List ℕ) → files'.content name ≡ files.content name

@@ -10,8 +10,8 @@ use Rattle.cedr_guard.specs.declared.fault.GuardFault.{GuardFault}
 use Rattle.cedr_guard.specs.declared.fault.GuardFault.TheVariants as guard_fault
 use Rattle.cedr_base.specs.declared.interval.Interval.{Interval}
 use Rattle.cedr_guard.specs.History.{rows_among}
-use Rattle.cedr_guard.specs.Sources.{judged, Judged, judged_behind, whole_lines, unfinished_line, first_fault, limit_fault}
-use Rattle.cedr_guard.specs.Standing.{StandsFor, payload_of}
+use Rattle.cedr_guard.specs.Sources.{judged, Judged, judged_behind, whole_lines, unfinished_line, first_refusal, limit_fault}
+use Rattle.cedr_guard.specs.Standing.{StandsFor, row_payload}
 use Rattle.cedr_run.specs.Answers.{GivesHistory}
 use Rattle.cedr_run.specs.declared.events.Events.{Events}
 use Rattle.cedr_run.specs.declared.refusal.JudgeFault.{JudgeFault}
@@ -20,7 +20,7 @@ use Rattle.cedr_run.specs.declared.refusal.JudgeFault.TheVariants as judge_fault
 -- the valid interval of each event of these lines, and its payload
 pub record AreEventsOf (events : Events) (lines : List EventLine) : Type 0 where
   pub judge : StandsFor events.judge lines
-  pub payloads : events.payloads.items ≡ map payload_of (rows_among lines lines)
+  pub payloads : events.payloads.items ≡ map row_payload (rows_among lines lines)
 
 -- the rows with these valid intervals and payloads, without the empty ones
 abbrev pub living_rows : List Interval → List (List Field) → List Row
@@ -31,10 +31,10 @@ living_rows (i ∷ intervals) (payload ∷ payloads) =
     else living_rows intervals payloads
 
 -- one more line of a file after accepted ones: the events of these lines with it, or its fault
-abbrev pub TakesLine : Result (Unit {0}) GuardFault → Events → Result (List EventLine) LineFault → Type 0
-TakesLine (Ok done) events lines = (now : List EventLine) × (lines ≡ Ok now) × AreEventsOf events now
-TakesLine (Err (guard_fault.Line line)) events lines = lines ≡ Err line
-TakesLine (Err guard_fault.OutOfMemory) events lines = Unit {0}
+abbrev pub TakesEvent : Result (Unit {0}) GuardFault → Events → Result (List EventLine) LineFault → Type 0
+TakesEvent (Ok done) events lines = (now : List EventLine) × (lines ≡ Ok now) × AreEventsOf events now
+TakesEvent (Err (guard_fault.Line line)) events lines = lines ≡ Err line
+TakesEvent (Err guard_fault.OutOfMemory) events lines = Unit {0}
 
 -- a whole file: the events of its lines, or the first line that has a fault
 abbrev pub JudgesFile : Result Events JudgeFault → Judged → Type 0
@@ -48,7 +48,7 @@ abbrev pub parts_behind : Bool → ℕ → List EventLine → List (List ℕ) �
 parts_behind false count before parts = judged_behind AnyText count before parts
 parts_behind true count before parts = record {
   good = (judged_behind AnyText count before (whole_lines parts)).good;
-  fault = Some (first_fault (judged_behind AnyText count before (whole_lines parts)).fault (record { line = count + length (whole_lines parts) + 1; fault = limit_fault (unfinished_line parts) }));
+  fault = Some (first_refusal (judged_behind AnyText count before (whole_lines parts)).fault (record { line = count + length (whole_lines parts) + 1; fault = limit_fault (unfinished_line parts) }));
 }
 
 -- the text of the canonical history of a file, or its first fault

@@ -1,6 +1,6 @@
 -- What was read of a file.
 use Rattle.std.specs.Prelude.{ℕ, ◌≡◌, ◌≤◌, List, ◌++◌, [], ◌∷◌, length, Result, Ok, Err}
-use Rattle.cedr_serial.specs.Sources.{AsksFirst}
+use Rattle.plan_answer.specs.Sources.{AsksFirst}
 
 -- the front of the bytes, and all of them unless it passes the limit
 pub record IsFileFront (limit : ℕ) (all front : List ℕ) : Type 0 where

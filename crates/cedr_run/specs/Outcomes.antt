@@ -3,7 +3,7 @@ use Rattle.std.specs.Prelude.{ℕ, ◌≡◌, ◌≢◌, ◌<◌, ◌⊎◌, Lis
 use Rattle.std.specs.Io.KnownBytes.{Appends, Keeps}
 use Rattle.cedr_io.specs.Asked.{AppendsFront}
 use Rattle.cedr_plan.specs.declared.plan.PlanNode.{PlanNode}
-use Rattle.cedr_serial.specs.Sources.{AsksFirst, AreTold, source_files}
+use Rattle.plan_answer.specs.Sources.{AsksFirst, AreTold, source_files}
 use Rattle.cedr_text.specs.Texts.{line_feed}
 use Rattle.cedr_run.specs.declared.command.Job.{Job}
 use Rattle.cedr_run.specs.declared.command.Job.TheVariants.{Serial, Run, Stream, Audit, Live}
@@ -35,14 +35,14 @@ abbrev pub memory_text : List ℕ
 memory_text = codes "out of memory" ++ line_feed ∷ []
 
 -- what is reported on standard error
-abbrev pub told_text : Outcome → List ℕ
-told_text outcome.Done = []
-told_text outcome.Usage = usage_text
-told_text (outcome.Events said) = said.items
-told_text (outcome.BadPlan kind node) = plan_fault_text kind node
-told_text outcome.Read = read_text
-told_text outcome.Write = write_text
-told_text outcome.OutOfMemory = memory_text
+abbrev pub outcome_text : Outcome → List ℕ
+outcome_text outcome.Done = []
+outcome_text outcome.Usage = usage_text
+outcome_text (outcome.Events said) = said.items
+outcome_text (outcome.BadPlan kind node) = plan_fault_text kind node
+outcome_text outcome.Read = read_text
+outcome_text outcome.Write = write_text
+outcome_text outcome.OutOfMemory = memory_text
 
 -- the status of how a command went
 abbrev pub status_of : Outcome → Status

@@ -4,8 +4,8 @@ use Rattle.cedr_text.specs.declared.fault.LineFault.{LineFault}
 use Rattle.cedr_text.specs.declared.fault.LineFault.TheVariants.{LineTooLong, BadForm, BadNumber, EmptyLife, BadField, KnownId, UnknownId, BadEnd, BeforeGuarantee, TooLarge}
 use Rattle.cedr_guard.specs.declared.fault.GuardFault.{GuardFault}
 use Rattle.cedr_guard.specs.declared.fault.GuardFault.TheVariants as guard_fault
-use Rattle.cedr_text.specs.Faults.{number_of}
-use Rattle.cedr_plan.specs.Faults as plan
+use Rattle.cedr_text.specs.Faults.{line_fault_number}
+use Rattle.cedr_plan.specs.Faults.{plan_fault_number}
 use Rattle.cedr_plan.specs.declared.fault.PlanKind.{PlanKind}
 use Rattle.cedr_base.specs.Bytes.{line_feed}
 use Rattle.cedr_text.specs.Texts.{time_text}
@@ -29,11 +29,11 @@ kept_text TooLarge = []
 -- the file's name, the number of the line and of its fault
 abbrev pub refusal_text : List ℕ → Refusal → List ℕ
 refusal_text file refusal =
-    codes "events " ++ (file ++ (codes " line " ++ (decimal refusal.line ++ (codes " fault " ++ (decimal (number_of refusal.fault) ++ (kept_text refusal.fault ++ line_feed ∷ []))))))
+    codes "events " ++ (file ++ (codes " line " ++ (decimal refusal.line ++ (codes " fault " ++ (decimal (line_fault_number refusal.fault) ++ (kept_text refusal.fault ++ line_feed ∷ []))))))
 
 -- the number of a plan's fault, and of the node that has it
 abbrev pub plan_fault_text : PlanKind → ℕ → List ℕ
-plan_fault_text kind node = codes "plan fault " ++ (decimal (plan.number_of kind) ++ (codes " node " ++ (decimal node ++ line_feed ∷ [])))
+plan_fault_text kind node = codes "plan fault " ++ (decimal (plan_fault_number kind) ++ (codes " node " ++ (decimal node ++ line_feed ∷ [])))
 
 -- the fault of the line with this number
 abbrev pub fault_at : ℕ → GuardFault → JudgeFault

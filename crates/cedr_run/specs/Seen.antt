@@ -29,8 +29,8 @@ pub record NoneRose (files files' : FilesSeen) (out out' : SinkSeen) : Type 0 wh
   pub out_count : out'.faults ≡ out.faults
 
 -- a sink took the text, or only a front of it and its count rose
-abbrev pub Tells : SinkSeen → SinkSeen → List ℕ → Type 0
-Tells old new text = Appends old.written new.written text ⊎ (Rose old.faults new.faults × AppendsFront old.written new.written text)
+abbrev pub SinkGains : SinkSeen → SinkSeen → List ℕ → Type 0
+SinkGains old new text = Appends old.written new.written text ⊎ (Rose old.faults new.faults × AppendsFront old.written new.written text)
 
 -- a sink took only a front of the text and refused nothing, since it lacked memory itself
 pub record BreaksOff (old new : SinkSeen) (text : List ℕ) : Type 0 where

@@ -5,14 +5,14 @@ use Rattle.std.specs.List.{slice_get}
 use Rattle.std.specs.Io.KnownBytes.{Appends, Keeps}
 use Rattle.cedr_guard.specs.declared.refusal.Refusal.{Refusal}
 use Rattle.cedr_io.specs.Asked.{AppendsFront}
-use Rattle.cedr_laws.specs.Lists.{Lists}
+use Rattle.node_laws.specs.Lists.{Lists}
 use Rattle.cedr_plan.specs.Drawn.{drawn}
 use Rattle.cedr_plan.specs.Plans.{plan_of}
 use Rattle.cedr_plan.specs.declared.plan.Plan.{Plan}
 use Rattle.cedr_plan.specs.declared.plan.PlanNode.{PlanNode}
-use Rattle.cedr_serial.specs.Sources.{AreRead, AreTold, source_files}
-use Rattle.cedr_serial.specs.declared.feeding.Remaining.{Remaining}
-use Rattle.cedr_serial.specs.declared.sources.FaultySource.{FaultySource}
+use Rattle.plan_answer.specs.Sources.{AreRead, AreTold, source_files}
+use Rattle.cedr_net.specs.declared.queue.Queue.{Queue}
+use Rattle.plan_answer.specs.declared.faulty.FaultySource.{FaultySource}
 use Rattle.cedr_run.specs.declared.command.Job.{Job}
 use Rattle.cedr_run.specs.declared.command.Job.TheVariants.{Serial, Run, Stream, Audit}
 use Rattle.cedr_run.specs.declared.outcome.Outcome.{Outcome}
@@ -89,7 +89,7 @@ StopsSources (Err outcome.Usage) = ⊥
 StopsSources (Err outcome.Write) = ⊥
 
 -- all messages of the sources, or what is said of those that aren't accepted
-abbrev pub OpensSources : Result (Vec Remaining Global) Outcome → (List ℕ → List ℕ) → List PlanNode → Type 0
+abbrev pub OpensSources : Result (Vec Queue Global) Outcome → (List ℕ → List ℕ) → List PlanNode → Type 0
 OpensSources (Ok left) told nodes = AreRead told nodes left.items []
 OpensSources (Err (outcome.Events said)) told nodes = RefusesSources told nodes said.items
 OpensSources (Err other) told nodes = Unit {0}

@@ -1,30 +1,29 @@
 -- How a run on threads ends, and what is reported of it.
-use Rattle.std.specs.Prelude.{ℕ, ◌≡◌, ◌<◌, ◌⊎◌, Bool, true, false, List, [], ◌∷◌, ◌++◌, length, map, if◌then◌else◌, Option, None, Some}
+use Rattle.std.specs.Prelude.{ℕ, ◌≡◌, ◌<◌, ◌⊎◌, List, [], ◌∷◌, ◌++◌, length, map, if◌then◌else◌, Option, None, Some}
 use Rattle.std.specs.Io.KnownBytes.{Appends, Keeps}
-use Rattle.std.specs.List.{All, slice_get}
-use Rattle.cedr_answer.specs.Finds.{AreFound}
+use Rattle.std.specs.List.{All}
+use Rattle.plan_answer.specs.Finds.{AreFound}
 use Rattle.cedr_base.specs.declared.change.Change.{Change}
 use Rattle.cedr_base.specs.declared.change.Message.{Message}
 use Rattle.cedr_base.specs.declared.row.Row.{Row}
 use Rattle.cedr_base.specs.Messages.{IsLegal, IsTableOf, changes_of}
 use Rattle.cedr_base.specs.Rows.{in_order}
-use Rattle.cedr_crew.specs.declared.forgotten.PortForgotten.{PortForgotten}
-use Rattle.cedr_crew.specs.Forgettings.{nodes_told, told as as_told}
+use Rattle.plan_answer.specs.declared.forgotten.PortForgotten.{PortForgotten}
+use Rattle.plan_answer.specs.Forgettings.{nodes_forgot, port_forgot}
 use Rattle.cedr_edge.specs.Ends.{Carried}
 use Rattle.cedr_io.specs.Asked.{AppendsFront}
 use Rattle.cedr_io.specs.Counts.{Rose, last_count}
-use Rattle.cedr_laws.specs.declared.forgotten.Forgotten.{Forgotten}
+use Rattle.node_laws.specs.declared.forgotten.Forgotten.{Forgotten}
 use Rattle.cedr_plan.specs.declared.plan.PlanNode.{PlanNode}
 use Rattle.cedr_query.specs.Queries.{source_count}
-use Rattle.cedr_serial.specs.Answers.{answer_text, has_memory, tail_text}
-use Rattle.cedr_serial.specs.Queries.{changes_text, source_nodes}
-use Rattle.cedr_serial.specs.Sources.{AreTold, source_files}
-use Rattle.cedr_threads.specs.declared.report.Outcome.{Outcome as Came}
-use Rattle.cedr_threads.specs.declared.report.Outcome.TheVariants as came
-use Rattle.cedr_threads.specs.declared.report.Report.{Report}
-use Rattle.cedr_threads.specs.declared.report.SourceFault.{SourceFault}
-use Rattle.cedr_threads.specs.Reports.{IsReport}
-use Rattle.cedr_threads.specs.SoFar.{IsSoFar}
+use Rattle.plan_answer.specs.Answers.{answer_text, has_memory, tail_text}
+use Rattle.plan_answer.specs.Queries.{changes_text}
+use Rattle.plan_answer.specs.Sources.{AreTold, source_files}
+use Rattle.plan_threads.specs.declared.report.Outcome.{Outcome as Came}
+use Rattle.plan_threads.specs.declared.report.Outcome.TheVariants as came
+use Rattle.plan_threads.specs.declared.report.Report.{Report}
+use Rattle.plan_threads.specs.Reports.{IsReport}
+use Rattle.plan_threads.specs.SoFar.{IsSoFar}
 use Rattle.cedr_worker.specs.declared.ran.Ran.{Ran}
 use Rattle.cedr_run.specs.declared.command.Job.{Job}
 use Rattle.cedr_run.specs.declared.command.Job.TheVariants.{Run, Stream}
@@ -38,18 +37,7 @@ use Rattle.cedr_run.specs.Answers.{AnswersRun, AnswersStream, BeginsPlan, Conten
 use Rattle.cedr_run.specs.Commands.{Command}
 use Rattle.cedr_run.specs.Outcomes.{Wrote}
 use Rattle.cedr_run.specs.Seen.{FilesSeen, SinkSeen, NoneRose}
-use Rattle.cedr_run.specs.Steps.{Says, WritesText, named_text}
-
--- ---- what is said of faulty sources
-
--- a line for a faulty source, by its number among the sources
-abbrev pub fault_said : List PlanNode → SourceFault → List ℕ
-fault_said sources fault = named_text (slice_get sources fault.source) (record { line = fault.line; fault = fault.fault })
-
--- such lines of some faulty sources, in order
-abbrev pub faults_said : List PlanNode → List SourceFault → List ℕ
-faults_said sources [] = []
-faults_said sources (f ∷ faults) = fault_said sources f ++ faults_said sources faults
+use Rattle.cedr_run.specs.Steps.{Says, WritesText, faulty_text}
 
 -- ---- what is written
 
@@ -57,7 +45,7 @@ faults_said sources (f ∷ faults) = fault_said sources f ++ faults_said sources
 pub record CanTell (nodes : List PlanNode) (changes : List Change) (forgotten : List PortForgotten) (given : List Message) (listed : List (List (List Forgotten))) : Type 0 where
   pub legal : IsLegal given
   pub changes_are : changes ≡ changes_of given
-  pub forgotten_are : map as_told forgotten ≡ nodes_told 0 listed
+  pub forgotten_are : map port_forgot forgotten ≡ nodes_forgot 0 listed
   pub count : length listed ≡ length nodes
 
 -- memory ran out before anything was written, or the text of the rows of a list was written, or a front of it
@@ -65,11 +53,11 @@ abbrev pub WritesRun : List PlanNode → List Message → List (List (List Forgo
 WritesRun nodes given listed out out' o = ((o ≡ outcome.OutOfMemory) × (out' ≡ out)) ⊎ ((rows : List Row) × (IsTableOf given rows × WritesText o out out' (answer_text (has_memory nodes) nodes (in_order rows) listed)))
 
 -- by how the run came to its end its text is written, or it is said why there is none
-abbrev pub Tells : Came → List PlanNode → List Change → List PortForgotten → SinkSeen → SinkSeen → Outcome → Type 0
-Tells came.Done nodes changes forgotten out out' o = (given : List Message) (listed : List (List (List Forgotten))) → CanTell nodes changes forgotten given listed → WritesRun nodes given listed out out' o
-Tells came.Memory nodes changes forgotten out out' o = (o ≡ outcome.OutOfMemory) × (out' ≡ out)
-Tells came.Read nodes changes forgotten out out' o = (o ≡ outcome.Read) × (out' ≡ out)
-Tells (came.Events faults) nodes changes forgotten out out' o = Says o (faults_said (source_nodes nodes) faults.items) × (out' ≡ out)
+abbrev pub EndsRun : Came → List PlanNode → List Change → List PortForgotten → SinkSeen → SinkSeen → Outcome → Type 0
+EndsRun came.Done nodes changes forgotten out out' o = (given : List Message) (listed : List (List (List Forgotten))) → CanTell nodes changes forgotten given listed → WritesRun nodes given listed out out' o
+EndsRun came.Memory nodes changes forgotten out out' o = (o ≡ outcome.OutOfMemory) × (out' ≡ out)
+EndsRun came.Read nodes changes forgotten out out' o = (o ≡ outcome.Read) × (out' ≡ out)
+EndsRun (came.Events faulty) nodes changes forgotten out out' o = Says o (faulty_text nodes faulty.items) × (out' ≡ out)
 
 -- ---- what is written of a stream
 
@@ -86,7 +74,7 @@ tail_of nodes listed = if has_memory nodes then tail_text nodes listed else []
 
 -- this is what each port of each node forgot
 pub record CanTellTail (nodes : List PlanNode) (forgotten : List PortForgotten) (listed : List (List (List Forgotten))) : Type 0 where
-  pub forgotten_are : map as_told forgotten ≡ nodes_told 0 listed
+  pub forgotten_are : map port_forgot forgotten ≡ nodes_forgot 0 listed
   pub count : length listed ≡ length nodes
 
 -- memory ran out before it was written, or it was written, or a front of it
@@ -98,16 +86,16 @@ abbrev pub broken_off : Came → Outcome
 broken_off came.Done = outcome.Write
 broken_off came.Memory = outcome.OutOfMemory
 broken_off came.Read = outcome.Write
-broken_off (came.Events faults) = outcome.Write
+broken_off (came.Events faulty) = outcome.Write
 
 -- by how the run came to its end, and how much was written, the rest is written, or it is said why there is none
-abbrev pub TellsStream : Came → Progress → List PlanNode → List PortForgotten → SinkSeen → SinkSeen → Outcome → Type 0
-TellsStream how progress.Lacked nodes forgotten out out' o = (o ≡ outcome.OutOfMemory) × (out' ≡ out)
-TellsStream how progress.Refused nodes forgotten out out' o = (o ≡ broken_off how) × (out' ≡ out)
-TellsStream came.Done progress.Whole nodes forgotten out out' o = (listed : List (List (List Forgotten))) → CanTellTail nodes forgotten listed → WritesTail nodes listed out out' o
-TellsStream came.Memory progress.Whole nodes forgotten out out' o = (o ≡ outcome.OutOfMemory) × (out' ≡ out)
-TellsStream came.Read progress.Whole nodes forgotten out out' o = (o ≡ outcome.Read) × (out' ≡ out)
-TellsStream (came.Events faults) progress.Whole nodes forgotten out out' o = Says o (faults_said (source_nodes nodes) faults.items) × (out' ≡ out)
+abbrev pub EndsStream : Came → Progress → List PlanNode → List PortForgotten → SinkSeen → SinkSeen → Outcome → Type 0
+EndsStream how progress.Lacked nodes forgotten out out' o = (o ≡ outcome.OutOfMemory) × (out' ≡ out)
+EndsStream how progress.Refused nodes forgotten out out' o = (o ≡ broken_off how) × (out' ≡ out)
+EndsStream came.Done progress.Whole nodes forgotten out out' o = (listed : List (List (List Forgotten))) → CanTellTail nodes forgotten listed → WritesTail nodes listed out out' o
+EndsStream came.Memory progress.Whole nodes forgotten out out' o = (o ≡ outcome.OutOfMemory) × (out' ≡ out)
+EndsStream came.Read progress.Whole nodes forgotten out out' o = (o ≡ outcome.Read) × (out' ≡ out)
+EndsStream (came.Events faulty) progress.Whole nodes forgotten out out' o = Says o (faulty_text nodes faulty.items) × (out' ≡ out)
 
 -- ---- a run
 
@@ -129,25 +117,25 @@ pub record IsStreamed {S : Type 0} (rest : S → Option (List ℕ)) (faults : S 
   pub counts : out.faults < last_count
 
 -- the text that is written at the end, or that of the changes as they come, of what went over the edges
-abbrev pub AnswersBy : Bool → (List ℕ → List ℕ) → List PlanNode → List Carried → List Ran → List ℕ → Type 0
-AnswersBy false told nodes edges ran text = AnswersRun told nodes edges ran text
-AnswersBy true told nodes edges ran text = AnswersStream told nodes edges ran text
+abbrev pub AnswersBy : Job → (List ℕ → List ℕ) → List PlanNode → List Carried → List Ran → List ℕ → Type 0
+AnswersBy Stream told nodes edges ran text = AnswersStream told nodes edges ran text
+AnswersBy job told nodes edges ran text = AnswersRun told nodes edges ran text
 
 -- the text of which a front is written where writing or memory fails
-abbrev pub BeginsBy : Bool → (List ℕ → List ℕ) → List PlanNode → List Carried → List Ran → List ℕ → Type 0
-BeginsBy false told nodes edges ran text = AnswersRun told nodes edges ran text
-BeginsBy true told nodes edges ran text = BeginsPlan Stream told nodes text
+abbrev pub BeginsBy : Job → (List ℕ → List ℕ) → List PlanNode → List Carried → List Ran → List ℕ → Type 0
+BeginsBy Stream told nodes edges ran text = BeginsPlan Stream told nodes text
+BeginsBy job told nodes edges ran text = AnswersRun told nodes edges ran text
 
 -- such a text was written, where it is known what the files hold
-pub record GaveRun (streams : Bool) (content : Contents) (nodes : List PlanNode) (edges : List Carried) (ran : List Ran) (out out' : SinkSeen) : Type 0 where
+pub record GaveRun (job : Job) (content : Contents) (nodes : List PlanNode) (edges : List Carried) (ran : List Ran) (out out' : SinkSeen) : Type 0 where
   pub text : List ℕ
-  pub answers : (told : List ℕ → List ℕ) → AreTold content told (source_files nodes) → AnswersBy streams told nodes edges ran text
+  pub answers : (told : List ℕ → List ℕ) → AreTold content told (source_files nodes) → AnswersBy job told nodes edges ran text
   pub wrote : Appends out.written out'.written text
 
 -- and a front of such a text
-pub record BeganRun (streams : Bool) (content : Contents) (nodes : List PlanNode) (edges : List Carried) (ran : List Ran) (out out' : SinkSeen) : Type 0 where
+pub record BeganRun (job : Job) (content : Contents) (nodes : List PlanNode) (edges : List Carried) (ran : List Ran) (out out' : SinkSeen) : Type 0 where
   pub text : List ℕ
-  pub begins : (told : List ℕ → List ℕ) → AreTold content told (source_files nodes) → BeginsBy streams told nodes edges ran text
+  pub begins : (told : List ℕ → List ℕ) → AreTold content told (source_files nodes) → BeginsBy job told nodes edges ran text
   pub wrote : AppendsFront out.written out'.written text
 
 -- a front of the changes of a partial run was written
@@ -157,39 +145,40 @@ pub record WroteSome (content : Contents) (nodes : List PlanNode) (out out' : Si
   pub wrote : AppendsFront out.written out'.written text
 
 -- nothing was written, or of a stream such a front
-abbrev pub IsSilentBy : Bool → Contents → List PlanNode → SinkSeen → SinkSeen → Type 0
-IsSilentBy streams content nodes out out' = Keeps out.written out'.written ⊎ ((streams ≡ true) × WroteSome content nodes out out')
+abbrev pub IsSilentBy : Job → Contents → List PlanNode → SinkSeen → SinkSeen → Type 0
+IsSilentBy job content nodes out out' = Keeps out.written out'.written ⊎ ((job ≡ Stream) × WroteSome content nodes out out')
 
 -- how the run of an opened plan ends. Its changes are written as they come, or its rows at the end
-abbrev pub RunEnds : Bool → List PlanNode → FilesSeen → FilesSeen → SinkSeen → SinkSeen → List Carried → List Ran → Outcome → Type 0
-RunEnds streams nodes files files' out out' edges ran outcome.Done = NoneRose files files' out out' × GaveRun streams files.content nodes edges ran out out'
-RunEnds streams nodes files files' out out' edges ran (outcome.Events said) = NoneRose files files' out out' × IsSilentBy streams files.content nodes out out' × ((told : List ℕ → List ℕ) → AreTold files.content told (source_files nodes) → RefusesSources told nodes said.items)
-RunEnds streams nodes files files' out out' edges ran outcome.Read = (files.faults < files'.faults) × IsSilentBy streams files.content nodes out out'
-RunEnds streams nodes files files' out out' edges ran outcome.Write = (out.faults < out'.faults) × BeganRun streams files.content nodes edges ran out out'
-RunEnds streams nodes files files' out out' edges ran outcome.OutOfMemory = Keeps out.written out'.written ⊎ BeganRun streams files.content nodes edges ran out out'
-RunEnds streams nodes files files' out out' edges ran outcome.Usage = ⊥
-RunEnds streams nodes files files' out out' edges ran (outcome.BadPlan kind node) = ⊥
+abbrev pub RunEnds : Job → List PlanNode → FilesSeen → FilesSeen → SinkSeen → SinkSeen → List Carried → List Ran → Outcome → Type 0
+RunEnds job nodes files files' out out' edges ran outcome.Done = NoneRose files files' out out' × GaveRun job files.content nodes edges ran out out'
+RunEnds job nodes files files' out out' edges ran (outcome.Events said) = NoneRose files files' out out' × IsSilentBy job files.content nodes out out' × ((told : List ℕ → List ℕ) → AreTold files.content told (source_files nodes) → RefusesSources told nodes said.items)
+RunEnds job nodes files files' out out' edges ran outcome.Read = (files.faults < files'.faults) × IsSilentBy job files.content nodes out out'
+RunEnds job nodes files files' out out' edges ran outcome.Write = (out.faults < out'.faults) × BeganRun job files.content nodes edges ran out out'
+RunEnds job nodes files files' out out' edges ran outcome.OutOfMemory = Keeps out.written out'.written ⊎ BeganRun job files.content nodes edges ran out out'
+RunEnds job nodes files files' out out' edges ran outcome.Usage = ⊥
+RunEnds job nodes files files' out out' edges ran (outcome.BadPlan kind node) = ⊥
 
 -- ---- what `run` and `stream` answer besides
 
--- the command that writes the changes as they come, and the one that writes the rows at the end
-abbrev pub job_by : Bool → Job
-job_by false = Run
-job_by true = Stream
+-- the commands that turn the workers of their plan on threads
+abbrev pub IsThreaded : Job → Type 0
+IsThreaded Run = Unit {0}
+IsThreaded Stream = Unit {0}
+IsThreaded job = ⊥
 
 -- no edge was closed, and no worker took a turn
 abbrev pub AreBare : List Carried → List Ran → Type 0
 AreBare edges ran = (edges ≡ []) × (ran ≡ [])
 
 -- the text that was written is that of what went over these edges
-abbrev pub WroteRun : Bool → FilesSeen → Command → SinkSeen → SinkSeen → List Carried → List Ran → Type 0
-WroteRun streams files command out out' edges ran = Wrote files command out out' (λ told text. OfPlan files.content told command.file (λ nodes. AnswersBy streams told nodes edges ran text))
+abbrev pub WroteRun : FilesSeen → Command → SinkSeen → SinkSeen → List Carried → List Ran → Type 0
+WroteRun files command out out' edges ran = Wrote files command out out' (λ told text. OfPlan files.content told command.file (λ nodes. AnswersBy command.job told nodes edges ran text))
 
 -- where `run PLAN` or `stream PLAN` is done the edges and the turns are those of its text; all other words have none
 abbrev pub HasRun : Option Command → FilesSeen → SinkSeen → SinkSeen → Status → List Carried → List Ran → Type 0
 HasRun None files out out' s edges ran = AreBare edges ran
 HasRun (Some command) files out out' s edges ran = has_run command.job where
   has_run : Job → Type 0
-  has_run Run = s ≡ status.Done → WroteRun false files command out out' edges ran
-  has_run Stream = s ≡ status.Done → WroteRun true files command out out' edges ran
+  has_run Run = s ≡ status.Done → WroteRun files command out out' edges ran
+  has_run Stream = s ≡ status.Done → WroteRun files command out out' edges ran
   has_run job = AreBare edges ran

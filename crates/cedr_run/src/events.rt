@@ -2,7 +2,7 @@ ghost use Rattle.std.specs.Prelude.{◌≡◌, ◌++◌, ◌∷◌, [], List, If
 ghost use Rattle.cedr_text.specs.declared.event_line.EventLine.{EventLine};
 ghost use Rattle.cedr_text.specs.EventTexts.{as_line};
 ghost use Rattle.cedr_guard.specs.Judging.{fault_behind};
-ghost use Rattle.cedr_guard.specs.History.{lives, rows_among};
+ghost use Rattle.cedr_guard.specs.History.{row_lives, rows_among};
 ghost use Rattle.cedr_guard.specs.Standing.{Judges};
 ghost use Rattle.cedr_run.specs.Events.{AreEventsOf, living_rows};
 
@@ -52,7 +52,7 @@ impl<'a> Events<'a> {
 
     /// The rows of the events that are left, in the order of their insertions.
     pub(crate) fn into_rows(self, alloc: Global) -> Result<Vec<TextRow<'a>>, OutOfMemory>
-        ensures { IfOk result (λ rows. (lines : List EventLine) → AreEventsOf self.entry lines → rows.items ≡ filter lives (rows_among lines lines)) }
+        ensures { IfOk result (λ rows. (lines : List EventLine) → AreEventsOf self.entry lines → rows.items ≡ filter row_lives (rows_among lines lines)) }
     {
         living_rows(alloc, self.judge.into_intervals(), self.payloads)
     }

@@ -9,7 +9,7 @@ ghost use Rattle.cedr_guard.specs.History.{history_of};
 ghost use Rattle.cedr_guard.specs.Sources.{judged, with_reading, line_reading};
 ghost use Rattle.cedr_run.specs.declared.command.Job.TheVariants.{History};
 ghost use Rattle.cedr_run.specs.Commands.{Command};
-ghost use Rattle.cedr_run.specs.Events.{AreEventsOf, TakesLine, JudgesFile, parts_behind, AnswersHistory};
+ghost use Rattle.cedr_run.specs.Events.{AreEventsOf, TakesEvent, JudgesFile, parts_behind, AnswersHistory};
 ghost use Rattle.cedr_run.specs.Outcomes.{CommandEnds, AsksOnly};
 ghost use Rattle.cedr_run.specs.Seen.{seen_files, seen_sink};
 
@@ -111,7 +111,7 @@ fn judge_lines(alloc: Global, bytes: &[u8], over_limit: bool) -> Result<Events<'
 }
 
 fn judge_line<'a>(alloc: Global, events: &mut Events<'a>, line: &'a [u8]) -> Result<(), GuardFault>
-    ensures { (before : List EventLine) → AreEventsOf events.old before → TakesLine result events.new (with_reading before (line_reading AnyText line.now)) }
+    ensures { (before : List EventLine) → AreEventsOf events.old before → TakesEvent result events.new (with_reading before (line_reading AnyText line.now)) }
 {
     if line.len() > LINE_LIMIT {
         return Err(GuardFault::Line(LineFault::LineTooLong));

@@ -3,8 +3,8 @@ ghost use Rattle.cedr_io.specs.Counts.{last_count};
 ghost use Rattle.cedr_make.specs.BuiltIn.{built_in};
 ghost use Rattle.cedr_make.specs.Generator.{made_text};
 ghost use Rattle.cedr_plan.specs.Drawn.{drawn};
-ghost use Rattle.cedr_serial.specs.Feeding.{AreSources};
-ghost use Rattle.cedr_serial.specs.Sources.{AreRead};
+ghost use Rattle.plan_serial.specs.Feeding.{AreSources};
+ghost use Rattle.plan_answer.specs.Sources.{AreRead};
 ghost use Rattle.cedr_run.specs.declared.command.Job.TheVariants.{Make};
 ghost use Rattle.cedr_run.specs.Answers.{GivesSummary, made_file};
 ghost use Rattle.cedr_run.specs.Commands.{Command};
@@ -16,8 +16,10 @@ use crate::saying::write_text;
 use cedr_base::OutOfMemory;
 use cedr_io::{Files, MemFiles, Sink};
 use cedr_make::{made_bytes, made_plan, made_sources, write_summary};
+use cedr_net::Queue;
 use cedr_plan::Plan;
-use cedr_serial::{Remaining, SourcesFault, accepted_sources, answer_rows, read_sources};
+use plan_answer::accepted_sources;
+use plan_serial::{SourcesFault, answer_rows, read_sources};
 use std::alloc::Global;
 
 /// Writes the summary of the answer to a workload of so many events a source.
@@ -50,7 +52,7 @@ fn summary(alloc: Global, events: u64) -> Result<Vec<u8>, OutOfMemory>
 }
 
 /// All messages of the workload's sources, each of which is accepted.
-fn read_made(alloc: Global, events: u64, plan: &Plan) -> Result<Vec<Remaining>, OutOfMemory>
+fn read_made(alloc: Global, events: u64, plan: &Plan) -> Result<Vec<Queue>, OutOfMemory>
     requires least { 0 < events }
     requires most { events ≤ 100000 }
     requires plan { drawn plan.now ≡ built_in }

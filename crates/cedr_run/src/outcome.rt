@@ -1,7 +1,7 @@
 ghost use Rattle.std.specs.Prelude.{◌≡◌, ◌≢◌, ◌⊎◌, IfOk};
 ghost use Rattle.cedr_run.specs.declared.status.Status.TheVariants as status;
-ghost use Rattle.cedr_run.specs.Seen.{Tells, seen_sink};
-ghost use Rattle.cedr_run.specs.Outcomes.{status_of, told_text, TellsLack};
+ghost use Rattle.cedr_run.specs.Seen.{SinkGains, seen_sink};
+ghost use Rattle.cedr_run.specs.Outcomes.{status_of, outcome_text, TellsLack};
 
 use crate::refusal::write_plan_fault;
 use crate::status::Status;
@@ -42,7 +42,7 @@ impl Outcome {
 
     /// What is reported of it on standard error.
     fn text(self, alloc: Global) -> Result<Vec<u8>, OutOfMemory>
-        ensures { IfOk result (λ text. text.items ≡ told_text self) }
+        ensures { IfOk result (λ text. text.items ≡ outcome_text self) }
     {
         let mut text = Vec::new(alloc);
         match self {
@@ -62,10 +62,10 @@ impl Outcome {
     /// Reports it on standard error, and answers its status, or want of memory where the text found none.
     pub(crate) fn report<E: Sink>(self, alloc: Global, err: &mut E) -> Status
         ensures status { (result ≡ status_of self) ⊎ (result ≡ status.OutOfMemory) }
-        ensures told { result ≢ status.OutOfMemory
-            → Tells (seen_sink E.written E.faults err.old) (seen_sink E.written E.faults err.new) (told_text self) }
+        ensures reported { result ≢ status.OutOfMemory
+            → SinkGains (seen_sink E.written E.faults err.old) (seen_sink E.written E.faults err.new) (outcome_text self) }
         ensures lacking { result ≡ status.OutOfMemory
-            → TellsLack (seen_sink E.written E.faults err.old) (seen_sink E.written E.faults err.new) (told_text self) }
+            → TellsLack (seen_sink E.written E.faults err.old) (seen_sink E.written E.faults err.new) (outcome_text self) }
     {
         let status = self.status();
         let Ok(text) = self.text(alloc) else {

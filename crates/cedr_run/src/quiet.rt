@@ -2,7 +2,7 @@ ghost use Rattle.std.specs.Prelude.{◌≡◌, [], length};
 
 use cedr_base::{Change, OutOfMemory};
 use cedr_history::Reader;
-use cedr_threads::Watcher;
+use plan_threads::Watcher;
 use std::alloc::Global;
 
 /// A watcher that writes nothing: it only counts the changes.

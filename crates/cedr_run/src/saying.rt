@@ -11,7 +11,7 @@ use cedr_base::OutOfMemory;
 use cedr_guard::Refusal;
 use cedr_io::{OutsideFault, Sink, write_all};
 use cedr_plan::PlanNode;
-use cedr_serial::FaultySource;
+use plan_answer::FaultySource;
 use std::alloc::Global;
 
 /// Writes the whole text of a command.

@@ -11,7 +11,7 @@ use crate::plan::open_plan;
 use crate::saying::refuse;
 use cedr_guard::FILE_LIMIT;
 use cedr_io::{Files, OutsideFault, Sink};
-use cedr_live::play;
+use plan_live::play;
 use std::alloc::Global;
 
 /// Plays a script over a plan. It writes at each `?`, and stops at the first line that isn't accepted.

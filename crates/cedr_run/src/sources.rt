@@ -1,8 +1,8 @@
 ghost use Rattle.std.specs.Prelude.{◌≡◌, ◌≢◌, ◌<◌, List, ℕ, IfOk, IfErr};
 ghost use Rattle.cedr_io.specs.Counts.{last_count};
 ghost use Rattle.cedr_plan.specs.Rules.{IsPlan};
-ghost use Rattle.cedr_serial.specs.Feeding.{AreSources};
-ghost use Rattle.cedr_serial.specs.Sources.{AsksFirst, AreTold, source_files};
+ghost use Rattle.plan_serial.specs.Feeding.{AreSources};
+ghost use Rattle.plan_answer.specs.Sources.{AsksFirst, AreTold, source_files};
 ghost use Rattle.cedr_run.specs.Answers.{AnswersQuery};
 ghost use Rattle.cedr_run.specs.declared.command.Job.{Job};
 ghost use Rattle.cedr_run.specs.declared.command.Job.TheVariants.{Stream};
@@ -17,16 +17,14 @@ use crate::plan::open_plan;
 use crate::saying::{refuse_sources, write_text};
 use cedr_base::OutOfMemory;
 use cedr_io::{Files, Sink};
+use cedr_net::Queue;
 use cedr_plan::Plan;
-use cedr_serial::{Remaining, SourcesFault, accepted_sources, answer_sources, read_sources};
+use plan_answer::accepted_sources;
+use plan_serial::{SourcesFault, answer_sources, read_sources};
 use std::alloc::Global;
 
 /// All messages of a plan's sources, or how the command ends without them.
-fn open_sources<F: Files>(
-    alloc: Global,
-    plan: &Plan,
-    files: &mut F,
-) -> Result<Vec<Remaining>, Outcome>
+fn open_sources<F: Files>(alloc: Global, plan: &Plan, files: &mut F) -> Result<Vec<Queue>, Outcome>
     requires { F.faults files.old < last_count }
     ensures sources { IfOk result (λ left. AreSources plan.now.nodes.items left.items) }
     ensures stops { StopsSources result }
@@ -45,11 +43,7 @@ fn open_sources<F: Files>(
 }
 
 /// A plan and all messages of its sources, or how a command ends without them. No source is held whole beside its messages.
-fn open<F: Files>(
-    alloc: Global,
-    file: &[u8],
-    files: &mut F,
-) -> Result<(Plan, Vec<Remaining>), Outcome>
+fn open<F: Files>(alloc: Global, file: &[u8], files: &mut F) -> Result<(Plan, Vec<Queue>), Outcome>
     requires { F.faults files.old < last_count }
     ensures plan { IfOk result (λ r. IsPlan r.0) }
     ensures sources { IfOk result (λ r. AreSources r.0.nodes.items r.1.items) }
@@ -75,7 +69,7 @@ fn answer<K: Sink>(
     alloc: Global,
     always: bool,
     plan: &Plan,
-    left: Vec<Remaining>,
+    left: Vec<Queue>,
     out: &mut K,
 ) -> Outcome
     requires counts { K.faults out.old < last_count }
@@ -91,7 +85,7 @@ fn answer<K: Sink>(
 }
 
 /// Writes what a command gives of a plan and its sources, where it waits for nobody.
-fn give<K: Sink>(alloc: Global, job: Job, plan: &Plan, left: Vec<Remaining>, out: &mut K) -> Outcome
+fn give<K: Sink>(alloc: Global, job: Job, plan: &Plan, left: Vec<Queue>, out: &mut K) -> Outcome
     requires counts { K.faults out.old < last_count }
     requires job { ReadsSources job }
     requires alone { job ≢ Stream }

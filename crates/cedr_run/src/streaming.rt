@@ -4,17 +4,17 @@ ghost use Rattle.std.specs.Io.KnownBytes.{Appends};
 ghost use Rattle.cedr_base.specs.declared.change.Change.{Change as Changed};
 ghost use Rattle.cedr_io.specs.Asked.{AppendsFront};
 ghost use Rattle.cedr_io.specs.Counts.{Counts};
-ghost use Rattle.cedr_serial.specs.Queries.{changes_text};
+ghost use Rattle.plan_answer.specs.Queries.{changes_text};
 ghost use Rattle.cedr_run.specs.declared.progress.Progress.TheVariants.{Whole};
 ghost use Rattle.cedr_run.specs.Seen.{SinkSeen, seen_sink};
 ghost use Rattle.cedr_run.specs.Threads.{WroteList};
 
 use crate::progress::Progress;
-use cedr_answer::write_changes;
 use cedr_base::{Change, OutOfMemory};
 use cedr_history::Reader;
 use cedr_io::{OutsideFault, Sink, write_all};
-use cedr_threads::Watcher;
+use plan_answer::write_changes;
+use plan_threads::Watcher;
 use std::alloc::Global;
 use std::marker::PhantomData;
 

@@ -1,30 +1,32 @@
 //! The answer of a plan whose workers run on threads of their own.
-ghost use Rattle.std.specs.Prelude.{◌≡◌, ◌<◌, false, true, List, ℕ, length};
+ghost use Rattle.std.specs.Prelude.{◌≡◌, ◌<◌, List, ℕ, length};
 ghost use Rattle.std.specs.List.{All};
-ghost use Rattle.cedr_answer.specs.Finds.{AreFound};
+ghost use Rattle.plan_answer.specs.Finds.{AreFound};
 ghost use Rattle.cedr_io.specs.Counts.{last_count};
 ghost use Rattle.cedr_plan.specs.Rules.{IsPlan};
 ghost use Rattle.cedr_query.specs.Queries.{source_count};
-ghost use Rattle.cedr_serial.specs.Sources.{AsksFirst, source_files};
+ghost use Rattle.plan_answer.specs.Sources.{AsksFirst, source_files};
+ghost use Rattle.cedr_run.specs.declared.command.Job.TheVariants.{Run, Stream};
 ghost use Rattle.cedr_run.specs.declared.outcome.Outcome.TheVariants as outcome;
 ghost use Rattle.cedr_run.specs.Commands.{Command};
 ghost use Rattle.cedr_run.specs.Outcomes.{CommandEnds, AsksOnly};
 ghost use Rattle.cedr_run.specs.Seen.{SinkSeen, seen_files, seen_sink};
-ghost use Rattle.cedr_run.specs.Threads.{AreBare, IsReported, IsStreamed, RunEnds, WroteRun, job_by};
+ghost use Rattle.cedr_run.specs.Threads.{AreBare, IsReported, IsStreamed, IsThreaded, RunEnds, WroteRun};
 
+use crate::command::Job;
 use crate::outcome::Outcome;
 use crate::plan::open_plan;
 use crate::progress::Progress;
 use crate::quiet::Quiet;
 use crate::streaming::Streamer;
 use crate::telling::{end_of, end_of_stream};
-use cedr_answer::{find_sources, give_back_each, give_back_ends};
 use cedr_edge::EdgeRecord;
 use cedr_io::{Files, Gate, OutsideFault, Sink};
 use cedr_plan::Plan;
-use cedr_serial::{accepted_sources, streamed_changes};
-use cedr_threads::{Report, run_threads};
 use cedr_worker::Ran;
+use plan_answer::{accepted_sources, find_sources, give_back_each, streamed_changes};
+use plan_threads::{Report, run_threads};
+use plan_workers::give_back_ends;
 use std::alloc::Global;
 use std::sync::{Arc, Wait};
 use std::thread::Threads;
@@ -64,7 +66,7 @@ where
     requires files_count { F.faults files.old < last_count }
     requires out_counts { K.faults out.old < last_count }
     requires report { IsReported F.Source.rest F.Source.faults (F.content files.old) plan.now.nodes.items report }
-    ensures ends { RunEnds false plan.now.nodes.items (seen_files F.content F.faults F.asked files.old) (seen_files F.content F.faults F.asked files.new)
+    ensures ends { RunEnds Run plan.now.nodes.items (seen_files F.content F.faults F.asked files.old) (seen_files F.content F.faults F.asked files.new)
         (seen_sink K.written K.faults out.old) (seen_sink K.written K.faults out.new) result.edges.items result.ran.items result.outcome }
     ensures asked { F.asked files.new ≡ F.asked files.old }
     ensures contents { (n : List ℕ) → F.content files.new n ≡ F.content files.old n }
@@ -103,7 +105,7 @@ where
     requires files_count { F.faults files.old < last_count }
     requires streamed { (start : SinkSeen) × IsStreamed F.Source.rest F.Source.faults (F.content files.old) plan.now.nodes.items report progress start (seen_sink K.written K.faults out.old) }
     ensures ends { (start : SinkSeen) → IsStreamed F.Source.rest F.Source.faults (F.content files.old) plan.now.nodes.items report progress start (seen_sink K.written K.faults out.old)
-        → RunEnds true plan.now.nodes.items (seen_files F.content F.faults F.asked files.old) (seen_files F.content F.faults F.asked files.new) start (seen_sink K.written K.faults out.new) result.edges.items result.ran.items result.outcome }
+        → RunEnds Stream plan.now.nodes.items (seen_files F.content F.faults F.asked files.old) (seen_files F.content F.faults F.asked files.new) start (seen_sink K.written K.faults out.new) result.edges.items result.ran.items result.outcome }
     ensures asked { F.asked files.new ≡ F.asked files.old }
     ensures contents { (n : List ℕ) → F.content files.new n ≡ F.content files.old n }
 {
@@ -150,7 +152,7 @@ where
     requires found { AreFound F.Source.rest (F.content files.old) plan.now.nodes.items sources.items }
     requires count { length sources.items ≡ source_count plan.now.nodes.items }
     requires fresh { All (λ s. F.Source.faults s ≡ 0) sources.items }
-    ensures ends { RunEnds false plan.now.nodes.items (seen_files F.content F.faults F.asked files.old) (seen_files F.content F.faults F.asked files.new)
+    ensures ends { RunEnds Run plan.now.nodes.items (seen_files F.content F.faults F.asked files.old) (seen_files F.content F.faults F.asked files.new)
         (seen_sink K.written K.faults out.old) (seen_sink K.written K.faults out.new) result.edges.items result.ran.items result.outcome }
     ensures asked { F.asked files.new ≡ F.asked files.old }
     ensures contents { (n : List ℕ) → F.content files.new n ≡ F.content files.old n }
@@ -188,7 +190,7 @@ where
     requires found { AreFound F.Source.rest (F.content files.old) plan.now.nodes.items sources.items }
     requires count { length sources.items ≡ source_count plan.now.nodes.items }
     requires fresh { All (λ s. F.Source.faults s ≡ 0) sources.items }
-    ensures ends { RunEnds true plan.now.nodes.items (seen_files F.content F.faults F.asked files.old) (seen_files F.content F.faults F.asked files.new)
+    ensures ends { RunEnds Stream plan.now.nodes.items (seen_files F.content F.faults F.asked files.old) (seen_files F.content F.faults F.asked files.new)
         (seen_sink K.written K.faults out.old) (seen_sink K.written K.faults out.new) result.edges.items result.ran.items result.outcome }
     ensures asked { F.asked files.new ≡ F.asked files.old }
     ensures contents { (n : List ℕ) → F.content files.new n ≡ F.content files.old n }
@@ -203,8 +205,8 @@ where
     }
 }
 
-/// Finds the sources of a plan, and runs it. Where `streams` the changes of its answer are written as they come, and else the
-/// rows at the end.
+/// Finds the sources of a plan, and runs it. `stream` writes the changes of its answer as they come, and `run` the rows at the
+/// end.
 fn run_plan<
     R: Threads + Wait + Clock + Copy + Drop + Send + 'static,
     F: Files,
@@ -213,7 +215,7 @@ fn run_plan<
 >(
     rt: R,
     alloc: Global,
-    streams: bool,
+    job: Job,
     plan: &Plan,
     files: &mut F,
     out: &mut K,
@@ -224,25 +226,23 @@ where
     requires plan { IsPlan plan.now }
     requires files_count { F.faults files.old < last_count }
     requires out_counts { K.faults out.old < last_count }
-    ensures ends { RunEnds streams plan.now.nodes.items (seen_files F.content F.faults F.asked files.old) (seen_files F.content F.faults F.asked files.new)
+    requires job { IsThreaded job }
+    ensures ends { RunEnds job plan.now.nodes.items (seen_files F.content F.faults F.asked files.old) (seen_files F.content F.faults F.asked files.new)
         (seen_sink K.written K.faults out.old) (seen_sink K.written K.faults out.new) result.edges.items result.ran.items result.outcome }
     ensures asked { AsksFirst (F.asked files.old) (F.asked files.new) (source_files plan.now.nodes.items) }
     ensures contents { (n : List ℕ) → F.content files.new n ≡ F.content files.old n }
 {
     match find_sources(alloc, plan.nodes.as_slice(), files) {
-        Ok(sources) => {
-            if streams {
-                stream_sources(rt, alloc, plan, sources, files, out, gate)
-            } else {
-                run_sources(rt, alloc, plan, sources, files, out, gate)
-            }
-        }
+        Ok(sources) => match job {
+            Job::Stream => stream_sources(rt, alloc, plan, sources, files, out, gate),
+            _ => run_sources(rt, alloc, plan, sources, files, out, gate),
+        },
         Err(OutsideFault::Failed) => without(alloc, Outcome::Read),
         Err(OutsideFault::OutOfMemory) => without(alloc, Outcome::OutOfMemory),
     }
 }
 
-/// Reads a plan, runs its workers on threads of their own, and writes its answer, or where `streams` the changes of that as they
+/// Reads a plan, runs its workers on threads of their own, and writes its answer, or for `stream` the changes of that as they
 /// come. It may wait.
 pub(crate) fn on_threads<
     R: Threads + Wait + Clock + Copy + Drop + Send + 'static,
@@ -252,7 +252,7 @@ pub(crate) fn on_threads<
 >(
     rt: R,
     alloc: Global,
-    streams: bool,
+    job: Job,
     file: &[u8],
     files: &mut F,
     out: &mut K,
@@ -262,17 +262,18 @@ where
     F::Source: Drop + 'static,
     requires files_count { F.faults files.old < last_count }
     requires out_counts { K.faults out.old < last_count }
-    ensures ends { (script : List ℕ) → CommandEnds (record { job = job_by streams; file = file.now; script = script })
+    requires job { IsThreaded job }
+    ensures ends { (script : List ℕ) → CommandEnds (record { job = job; file = file.now; script = script })
         (seen_files F.content F.faults F.asked files.old) (seen_files F.content F.faults F.asked files.new)
         (seen_sink K.written K.faults out.old) (seen_sink K.written K.faults out.new) result.outcome }
-    ensures asked { (script : List ℕ) → AsksOnly (record { job = job_by streams; file = file.now; script = script })
+    ensures asked { (script : List ℕ) → AsksOnly (record { job = job; file = file.now; script = script })
         (seen_files F.content F.faults F.asked files.old) (seen_files F.content F.faults F.asked files.new) }
     ensures contents { (n : List ℕ) → F.content files.new n ≡ F.content files.old n }
-    ensures ran { result.outcome ≡ outcome.Done → (script : List ℕ) → WroteRun streams (seen_files F.content F.faults F.asked files.old) (record { job = job_by streams; file = file.now; script = script })
+    ensures ran { result.outcome ≡ outcome.Done → (script : List ℕ) → WroteRun (seen_files F.content F.faults F.asked files.old) (record { job = job; file = file.now; script = script })
         (seen_sink K.written K.faults out.old) (seen_sink K.written K.faults out.new) result.edges.items result.ran.items }
 {
     match open_plan(alloc, file, files) {
-        Ok(plan) => run_plan(rt, alloc, streams, &plan, files, out, gate),
+        Ok(plan) => run_plan(rt, alloc, job, &plan, files, out, gate),
         Err(outcome) => without(alloc, outcome),
     }
 }

@@ -5,7 +5,7 @@ ghost use Rattle.cedr_run.specs.declared.command.Job.TheVariants.{Stream};
 ghost use Rattle.cedr_run.specs.Commands.{Command, command_of, IsAlone, IsMakeable};
 ghost use Rattle.cedr_run.specs.Seen.{seen_files, seen_sink};
 ghost use Rattle.cedr_run.specs.Ending.{Ends};
-ghost use Rattle.cedr_run.specs.Threads.{AreBare, HasRun, job_by};
+ghost use Rattle.cedr_run.specs.Threads.{AreBare, HasRun, IsThreaded};
 
 use crate::carry_out::carry_out;
 use crate::command::{Job, command};
@@ -51,10 +51,19 @@ where
 {
     match command(words) {
         Some((Job::Run, file, _)) => {
-            call_threads(rt, alloc, false, file.as_bytes(), files, out, err, gate)
+            call_threads(rt, alloc, Job::Run, file.as_bytes(), files, out, err, gate)
         }
         Some((Job::Stream, file, _)) => {
-            call_threads(rt, alloc, true, file.as_bytes(), files, out, err, gate)
+            call_threads(
+                rt,
+                alloc,
+                Job::Stream,
+                file.as_bytes(),
+                files,
+                out,
+                err,
+                gate,
+            )
         }
         named => bare(alloc, call(alloc, named, files, out, err)),
     }
@@ -82,7 +91,7 @@ fn call_threads<
 >(
     rt: R,
     alloc: Global,
-    streams: bool,
+    job: Job,
     file: &[u8],
     files: &mut F,
     out: &mut K,
@@ -93,11 +102,12 @@ where
     F::Source: Drop + 'static,
     requires files_count { F.faults files.old < last_count }
     requires out_counts { K.faults out.old < last_count }
-    ensures ends { (script : List ℕ) → Ends (Some (record { job = job_by streams; file = file.now; script = script }))
+    requires job { IsThreaded job }
+    ensures ends { (script : List ℕ) → Ends (Some (record { job = job; file = file.now; script = script }))
         (seen_files F.content F.faults F.asked files.old) (seen_files F.content F.faults F.asked files.new)
         (seen_sink K.written K.faults out.old) (seen_sink K.written K.faults out.new)
         (seen_sink E.written E.faults err.old) (seen_sink E.written E.faults err.new) result.status }
-    ensures ran { (script : List ℕ) → HasRun (Some (record { job = job_by streams; file = file.now; script = script }))
+    ensures ran { (script : List ℕ) → HasRun (Some (record { job = job; file = file.now; script = script }))
         (seen_files F.content F.faults F.asked files.old)
         (seen_sink K.written K.faults out.old) (seen_sink K.written K.faults out.new)
         result.status result.edges.items result.ran.items }
@@ -106,7 +116,7 @@ where
         outcome,
         edges,
         ran,
-    } = on_threads(rt, alloc, streams, file, files, out, gate);
+    } = on_threads(rt, alloc, job, file, files, out, gate);
     let status = outcome.report(alloc, err);
     Ending { status, edges, ran }
 }

@@ -27,17 +27,17 @@ use Rattle.cedr_guard.specs.Sources.{with_event, with_reading, line_reading, Jud
 use Rattle.cedr_guard.specs.declared.guard.Guard.{Guard}
 use Rattle.cedr_guard.specs.Judging.{fault_behind}
 use Rattle.cedr_guard.specs.Standing as guard
-use Rattle.cedr_guard.specs.Standing.{Guards, as_list}
+use Rattle.cedr_guard.specs.Standing.{Guards, message_list}
 use Rattle.cedr_guard.proofs.MessageLemmas.{accepted_messages, messages-more}
 use Rattle.cedr_source.specs.declared.lines.SourceLines.{SourceLines}
 use Rattle.cedr_source.specs.declared.step.SourceStep.{SourceStep}
 use Rattle.cedr_source.specs.declared.step.SourceStep.TheVariants as step
-use Rattle.cedr_source.specs.Reads.{MayStillCome, AreTaken, Reads}
-use Rattle.cedr_source.specs.Steps.{IsFrontOf, GivesFront, Waits, IsClosed, IsRefused, Tells, TellsLine, TakesOne, refused, Answers, JudgesLine}
+use Rattle.cedr_source.specs.Reads.{MayStillCome, AreTaken, ReadsSource}
+use Rattle.cedr_source.specs.Steps.{IsFrontOf, GivesFront, Waits, IsClosedSource, IsRefused, AnswersStep, TellsLine, TakesOne, refused_at, AnswersLine, JudgesLine}
 use Rattle.cedr_source.proofs.TakenLemmas.{take-more, parts_are, taken_parts, goes_on, no_feed_part, AreGood, lines_behind, whole-taken, unfinished-taken, some_part, Stands, front_behind, holds_behind, line_refused, part_refused, long_reading, long_part, large_part, good_grows, messages-append, few_lines}
 
 -- what was read stands for the lines that were taken
-stands : (source : SourceLines) (shape : Shape) (bytes : List ℕ) (given : List Message) (reads : Reads source shape bytes given) → Stands source.lines shape bytes reads.taken reads.good
+stands : (source : SourceLines) (shape : Shape) (bytes : List ℕ) (given : List Message) (reads : ReadsSource source shape bytes given) → Stands source.lines shape bytes reads.taken reads.good
 stands source shape bytes given reads = record { taken_are = reads.taken_are; accepted = reads.accepted; ended = reads.ended }
 
 -- ---- what was given is a front
@@ -52,7 +52,7 @@ front_given shape count good given lines is =
     }
 
 -- the law of what was given
-pub gives_front : (source : SourceLines) (shape : Shape) (bytes : List ℕ) (given : List Message) → Reads source shape bytes given → GivesFront source shape bytes given
+pub gives_front : (source : SourceLines) (shape : Shape) (bytes : List ℕ) (given : List Message) → ReadsSource source shape bytes given → GivesFront source shape bytes given
 gives_front source shape bytes given reads =
     let count = length reads.taken in
     record {
@@ -104,7 +104,7 @@ next_number number now count is was few = omega arith
 -- an accepted line was taken, and its message given if it has one
 accepted_line : (old new : SourceLines) (line : List ℕ) (message : Option Message) (shape : Shape) (bytes : List ℕ) (given : List Message) → Takes old new line
     → ((before : List EventLine) → Guards old.guard before → JudgesLine (Ok message) new.guard before (with_reading before (reading old.shape line)))
-    → Reads old shape bytes given → Reads new shape bytes (given ++ as_list message)
+    → ReadsSource old shape bytes given → ReadsSource new shape bytes (given ++ message_list message)
 accepted_line old new line message shape bytes given takes judges reads =
     let judged = judges reads.good reads.guards in
     let raw = takes.gives.raw in
@@ -118,7 +118,7 @@ accepted_line old new line message shape bytes given takes judges reads =
       good = judged.0;
       accepted = accepted_more shape reads.taken raw reads.good judged.0 reads.accepted (short_reading shape reads.good raw line takes.gives.short takes.gives.text ∙ says);
       guards = judged.2;
-      messages = ap (λ ms. ms ++ as_list message) reads.messages ∙ sym judged.3;
+      messages = ap (λ ms. ms ++ message_list message) reads.messages ∙ sym judged.3;
       room = takes.room ∙ reads.room;
       over = takes.over ∙ reads.over;
       ended = λ ended. reads.ended (sym takes.finished ∙ ended);
@@ -152,7 +152,7 @@ first_part_refused shape count good line (next ∷ parts) fault some reads = par
 -- a line that was taken has a fault
 refused_line : (old new : SourceLines) (line : List ℕ) (fault : LineFault) (shape : Shape) (bytes : List ℕ) (given : List Message) → Takes old new line
     → ((before : List EventLine) → Guards old.guard before → JudgesLine (Err (guard_fault.Line fault)) new.guard before (with_reading before (reading old.shape line)))
-    → Reads old shape bytes given → IsRefused new shape bytes given (record { line = old.number; fault = fault })
+    → ReadsSource old shape bytes given → IsRefused new shape bytes given (record { line = old.number; fault = fault })
 refused_line old new line fault shape bytes given takes judges reads =
     let count = length reads.taken in
     let raw = takes.gives.raw in
@@ -168,7 +168,7 @@ refused_line old new line fault shape bytes given takes judges reads =
     ∙ first_part_refused shape count reads.good raw (parts_of line_feed (new.lines.kept ++ first)) fault (some_part (new.lines.kept ++ first)) says)))
 
 -- the next line is too long
-refused_long : (source : SourceLines) (shape : Shape) (bytes : List ℕ) (given : List Message) → IsTooLong source.lines → Reads source shape bytes given
+refused_long : (source : SourceLines) (shape : Shape) (bytes : List ℕ) (given : List Message) → IsTooLong source.lines → ReadsSource source shape bytes given
     → IsRefused source shape bytes given (record { line = source.number; fault = LineTooLong })
 refused_long source shape bytes given long reads =
     let count = length reads.taken in
@@ -197,7 +197,7 @@ none_fit count more long = let none : FILE_LIMIT - count ≡ 0 = omega arith in 
 
 -- more came than a source may have, and the line that isn't finished isn't too long
 refused_large : (source : SourceLines) (shape : Shape) (bytes : List ℕ) (given : List Message) → source.lines.finished ≡ false → has_line_feed source.lines.kept ≡ false → length source.lines.kept ≤ LINE_LIMIT
-    → source.over_limit ≡ true → Reads source shape bytes given → IsRefused source shape bytes given (record { line = source.number; fault = TooLarge })
+    → source.over_limit ≡ true → ReadsSource source shape bytes given → IsRefused source shape bytes given (record { line = source.number; fault = TooLarge })
 refused_large source shape bytes given unended none short over reads =
     let count = length reads.taken in
     let long = ltb-true FILE_LIMIT (length bytes) (sym reads.over ∙ over) in
@@ -212,7 +212,7 @@ refused_large source shape bytes given unended none short over reads =
 
 -- all lines that ended were taken
 waits : (source : SourceLines) (shape : Shape) (bytes : List ℕ) (given : List Message) → source.lines.finished ≡ false → has_line_feed source.lines.kept ≡ false → length source.lines.kept ≤ LINE_LIMIT
-    → source.over_limit ≡ false → Reads source shape bytes given → Waits source shape bytes given
+    → source.over_limit ≡ false → ReadsSource source shape bytes given → Waits source shape bytes given
 waits source shape bytes given unended none few within reads =
     let short = ltb-false FILE_LIMIT (length bytes) (sym reads.over ∙ within) in
     let front : take FILE_LIMIT bytes ++ [] ≡ bytes = append-nil (take FILE_LIMIT bytes) ∙ take_all FILE_LIMIT bytes short in
@@ -230,7 +230,7 @@ waits source shape bytes given unended none few within reads =
     }
 
 -- no byte is left at the end
-is_closed : (source : SourceLines) (shape : Shape) (bytes : List ℕ) (given : List Message) → source.lines.finished ≡ true → source.lines.kept ≡ [] → Reads source shape bytes given → IsClosed source shape bytes given
+is_closed : (source : SourceLines) (shape : Shape) (bytes : List ℕ) (given : List Message) → source.lines.finished ≡ true → source.lines.kept ≡ [] → ReadsSource source shape bytes given → IsClosedSource source shape bytes given
 is_closed source shape bytes given ended nothing reads =
     let count = length reads.taken in
     let file : judged shape (bytes ++ []) ≡ record { good = reads.good; fault = None } =
@@ -247,23 +247,23 @@ is_closed source shape bytes given ended nothing reads =
 -- ---- the answer for a line
 
 -- a message is legal after those before it
-line_message : (old new : SourceLines) (line : List ℕ) (m : Message) (shape : Shape) (bytes : List ℕ) (given : List Message) → Reads new shape bytes (given ++ m ∷ []) → Tells (step.Message m) new shape bytes given
+line_message : (old new : SourceLines) (line : List ℕ) (m : Message) (shape : Shape) (bytes : List ℕ) (given : List Message) → ReadsSource new shape bytes (given ++ m ∷ []) → AnswersStep (step.Message m) new shape bytes given
 line_message old new line m shape bytes given reads = (reads, (gives_front new shape bytes (given ++ m ∷ []) reads).legal)
 
 -- what the answer for a line says
 pub line_told : (old new : SourceLines) (line : List ℕ) (judged : Result (Option Message) GuardFault) (answer : Result (Option SourceStep) OutOfMemory) → Takes old new line
-    → ((before : List EventLine) → Guards old.guard before → JudgesLine judged new.guard before (with_reading before (reading old.shape line))) → Answers old.number judged answer
-    → IfOk answer (λ told. (shape : Shape) (bytes : List ℕ) (given : List Message) → Reads old shape bytes given → TellsLine told new shape bytes given)
+    → ((before : List EventLine) → Guards old.guard before → JudgesLine judged new.guard before (with_reading before (reading old.shape line))) → AnswersLine old.number judged answer
+    → IfOk answer (λ said. (shape : Shape) (bytes : List ℕ) (given : List Message) → ReadsSource old shape bytes given → TellsLine said new shape bytes given)
 line_told old new line (Ok None) answer takes judges is =
-    subst (λ a. IfOk a (λ told. (shape : Shape) (bytes : List ℕ) (given : List Message) → Reads old shape bytes given → TellsLine told new shape bytes given)) (sym is)
-    (λ shape bytes given reads. subst (Reads new shape bytes) (append-nil given) (accepted_line old new line None shape bytes given takes judges reads))
+    subst (λ a. IfOk a (λ said. (shape : Shape) (bytes : List ℕ) (given : List Message) → ReadsSource old shape bytes given → TellsLine said new shape bytes given)) (sym is)
+    (λ shape bytes given reads. subst (ReadsSource new shape bytes) (append-nil given) (accepted_line old new line None shape bytes given takes judges reads))
 line_told old new line (Ok (Some m)) answer takes judges is =
-    subst (λ a. IfOk a (λ told. (shape : Shape) (bytes : List ℕ) (given : List Message) → Reads old shape bytes given → TellsLine told new shape bytes given)) (sym is)
+    subst (λ a. IfOk a (λ said. (shape : Shape) (bytes : List ℕ) (given : List Message) → ReadsSource old shape bytes given → TellsLine said new shape bytes given)) (sym is)
     (λ shape bytes given reads. line_message old new line m shape bytes given (accepted_line old new line (Some m) shape bytes given takes judges reads))
 line_told old new line (Err (guard_fault.Line fault)) answer takes judges is =
-    subst (λ a. IfOk a (λ told. (shape : Shape) (bytes : List ℕ) (given : List Message) → Reads old shape bytes given → TellsLine told new shape bytes given)) (sym is)
+    subst (λ a. IfOk a (λ said. (shape : Shape) (bytes : List ℕ) (given : List Message) → ReadsSource old shape bytes given → TellsLine said new shape bytes given)) (sym is)
     (λ shape bytes given reads. refused_line old new line fault shape bytes given takes judges reads)
-line_told old new line (Err guard_fault.OutOfMemory) (Ok told) takes judges is = absurd (false≢true is)
+line_told old new line (Err guard_fault.OutOfMemory) (Ok said) takes judges is = absurd (false≢true is)
 line_told old new line (Err guard_fault.OutOfMemory) (Err lack) takes judges is = tt
 
 -- it has one line less
@@ -272,18 +272,18 @@ line_falls old new line gives =
     omega (arith, ap length (gives.next [] (λ ended. refl)), ap (λ kept. length (raw_lines kept)) (append-nil old.kept), ap (λ kept. length (raw_lines kept)) (append-nil new.kept))
 
 -- so a line that was taken is one less
-pub one_less : (number left now : ℕ) (judged : Result (Option Message) GuardFault) (answer : Result (Option SourceStep) OutOfMemory) → Answers number judged answer → now < left → IfOk answer (λ told. TakesOne told left now)
-one_less number left now (Ok None) answer is less = subst (λ a. IfOk a (λ told. TakesOne told left now)) (sym is) less
-one_less number left now (Ok (Some m)) answer is less = subst (λ a. IfOk a (λ told. TakesOne told left now)) (sym is) less
-one_less number left now (Err (guard_fault.Line fault)) answer is less = subst (λ a. IfOk a (λ told. TakesOne told left now)) (sym is) tt
-one_less number left now (Err guard_fault.OutOfMemory) (Ok told) is less = absurd (false≢true is)
+pub one_less : (number left now : ℕ) (judged : Result (Option Message) GuardFault) (answer : Result (Option SourceStep) OutOfMemory) → AnswersLine number judged answer → now < left → IfOk answer (λ said. TakesOne said left now)
+one_less number left now (Ok None) answer is less = subst (λ a. IfOk a (λ said. TakesOne said left now)) (sym is) less
+one_less number left now (Ok (Some m)) answer is less = subst (λ a. IfOk a (λ said. TakesOne said left now)) (sym is) less
+one_less number left now (Err (guard_fault.Line fault)) answer is less = subst (λ a. IfOk a (λ said. TakesOne said left now)) (sym is) tt
+one_less number left now (Err guard_fault.OutOfMemory) (Ok said) is less = absurd (false≢true is)
 one_less number left now (Err guard_fault.OutOfMemory) (Err lack) is less = tt
 
 -- ---- no bytes, more bytes
 
 -- nothing was fed
 pub none_read : (source : SourceLines) (shape : Shape) → source.lines ≡ record { kept = []; finished = false } → Guards source.guard [] → source.shape ≡ shape → source.number ≡ 1 → source.room ≡ FILE_LIMIT → source.over_limit ≡ false
-    → Reads source shape [] []
+    → ReadsSource source shape [] []
 none_read source shape lines guards same number room over =
     record {
       same_shape = same;
@@ -321,7 +321,7 @@ take_least false room piece is =
     take_all (min (length piece) room) piece (omega arith) ∙ sym (take_all room piece all)
 
 -- a piece was fed
-pub more_read : (old new : SourceLines) (piece : List ℕ) (shape : Shape) (bytes : List ℕ) (given : List Message) → Feeds old new piece → Reads old shape bytes given → Reads new shape (bytes ++ piece) given
+pub more_read : (old new : SourceLines) (piece : List ℕ) (shape : Shape) (bytes : List ℕ) (given : List Message) → Feeds old new piece → ReadsSource old shape bytes given → ReadsSource new shape (bytes ++ piece) given
 more_read old new piece shape bytes given feeds reads =
     let part = take (FILE_LIMIT - length bytes) piece in
     let kept : new.lines.kept ≡ old.lines.kept ++ part = ap (λ (fed : Fed). fed.kept) feeds.lines ∙ ap (λ front. old.lines.kept ++ front) (take_least (nat_lt old.room (length piece)) old.room piece refl ∙ ap (λ n. take n piece) reads.room) in
@@ -351,7 +351,7 @@ more_read old new piece shape bytes given feeds reads =
 -- a guard's answer for an event is that for its line
 pub event_judged : (result : Result (Option Message) GuardFault) (old new : Guard) (event : EventLine)
     → ((before : List EventLine) → Guards old before → guard.Judges result (fault_behind before event))
-    → IfOk result (λ message. (before : List EventLine) → Guards old before → as_list message ≡ message_of before event)
+    → IfOk result (λ message. (before : List EventLine) → Guards old before → message_list message ≡ message_of before event)
     → OnOk result ((before : List EventLine) → Guards old before → Guards new (before ++ event ∷ []))
     → (before : List EventLine) → Guards old before → JudgesLine result new before (with_event before event (fault_behind before event))
 event_judged (Ok message) old new event judged says stands before guards =
@@ -371,7 +371,7 @@ pub record Stays (old new : SourceLines) : Type 0 where
   pub over : new.over_limit ≡ old.over_limit
 
 -- where no line was taken, the same was read
-still_reads : (old new : SourceLines) (shape : Shape) (bytes : List ℕ) (given : List Message) → Stays old new → Reads old shape bytes given → Reads new shape bytes given
+still_reads : (old new : SourceLines) (shape : Shape) (bytes : List ℕ) (given : List Message) → Stays old new → ReadsSource old shape bytes given → ReadsSource new shape bytes given
 still_reads old new shape bytes given stays reads =
     record {
       same_shape = stays.shape ∙ reads.same_shape;
@@ -388,23 +388,23 @@ still_reads old new shape bytes given stays reads =
     }
 
 -- the answer is that the next line is too long
-pub long_told : (old new : SourceLines) (told : SourceStep) → told ≡ refused old.number LineTooLong → Stays old new → IsTooLong old.lines
-    → (shape : Shape) (bytes : List ℕ) (given : List Message) → Reads old shape bytes given → Tells told new shape bytes given
-long_told old new told is stays long shape bytes given reads =
-    subst (λ t. Tells t new shape bytes given) (sym (is ∙ ap (λ n. refused n LineTooLong) (sym stays.number)))
+pub long_told : (old new : SourceLines) (said : SourceStep) → said ≡ refused_at old.number LineTooLong → Stays old new → IsTooLong old.lines
+    → (shape : Shape) (bytes : List ℕ) (given : List Message) → ReadsSource old shape bytes given → AnswersStep said new shape bytes given
+long_told old new said is stays long shape bytes given reads =
+    subst (λ t. AnswersStep t new shape bytes given) (sym (is ∙ ap (λ n. refused_at n LineTooLong) (sym stays.number)))
     (refused_long new shape bytes given (subst IsTooLong (sym stays.lines) long) (still_reads old new shape bytes given stays reads))
 
 -- the answer is that the source is too large
-pub large_told : (old new : SourceLines) (told : SourceStep) → told ≡ refused old.number TooLarge → Stays old new → GivesNone lines.NotYet old.lines → old.over_limit ≡ true
-    → (shape : Shape) (bytes : List ℕ) (given : List Message) → Reads old shape bytes given → Tells told new shape bytes given
-large_told old new told is stays none over shape bytes given reads =
+pub large_told : (old new : SourceLines) (said : SourceStep) → said ≡ refused_at old.number TooLarge → Stays old new → GivesNone lines.NotYet old.lines → old.over_limit ≡ true
+    → (shape : Shape) (bytes : List ℕ) (given : List Message) → ReadsSource old shape bytes given → AnswersStep said new shape bytes given
+large_told old new said is stays none over shape bytes given reads =
     let still = subst (GivesNone lines.NotYet) (sym stays.lines) none in
-    subst (λ t. Tells t new shape bytes given) (sym (is ∙ ap (λ n. refused n TooLarge) (sym stays.number)))
+    subst (λ t. AnswersStep t new shape bytes given) (sym (is ∙ ap (λ n. refused_at n TooLarge) (sym stays.number)))
     (refused_large new shape bytes given still.0 still.1 still.2 (stays.over ∙ over) (still_reads old new shape bytes given stays reads))
 
 -- more bytes are asked for
 pub waiting_told : (old new : SourceLines) → Stays old new → GivesNone lines.NotYet old.lines → old.over_limit ≡ false
-    → (shape : Shape) (bytes : List ℕ) (given : List Message) → Reads old shape bytes given → Tells step.NotYet new shape bytes given
+    → (shape : Shape) (bytes : List ℕ) (given : List Message) → ReadsSource old shape bytes given → AnswersStep step.NotYet new shape bytes given
 waiting_told old new stays none over shape bytes given reads =
     let still = subst (GivesNone lines.NotYet) (sym stays.lines) none in
     let reads_on = still_reads old new shape bytes given stays reads in
@@ -412,7 +412,7 @@ waiting_told old new stays none over shape bytes given reads =
 
 -- the answer is that the source is closed
 pub closed_told : (old new : SourceLines) → Stays old new → GivesNone lines.Finished old.lines
-    → (shape : Shape) (bytes : List ℕ) (given : List Message) → Reads old shape bytes given → Tells step.Closed new shape bytes given
+    → (shape : Shape) (bytes : List ℕ) (given : List Message) → ReadsSource old shape bytes given → AnswersStep step.Closed new shape bytes given
 closed_told old new stays none shape bytes given reads =
     let still = subst (GivesNone lines.Finished) (sym stays.lines) none in
     let reads_on = still_reads old new shape bytes given stays reads in

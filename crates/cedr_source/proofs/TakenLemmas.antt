@@ -19,7 +19,7 @@ use Rattle.cedr_guard.specs.declared.refusal.Refusal.{Refusal}
 use Rattle.cedr_guard.specs.declared.refusal.TheConstants.{FILE_LIMIT}
 use Rattle.cedr_guard.specs.Judging.{fault_behind}
 use Rattle.cedr_guard.specs.Messages.{message_of, messages_behind}
-use Rattle.cedr_guard.specs.Sources.{with_event, with_reading, line_reading, Judged, go_on, judged_behind, judged_lines, judged_front, whole_lines, unfinished_line, first_fault, limit_fault, judged}
+use Rattle.cedr_guard.specs.Sources.{with_event, with_reading, line_reading, Judged, go_on, judged_behind, judged_lines, judged_front, whole_lines, unfinished_line, first_refusal, limit_fault, judged}
 use Rattle.cedr_source.specs.Reads.{MayStillCome, AreTaken}
 use Rattle.cedr_text.proofs.LineLemmas.{end_dropped, kept_front}
 
@@ -131,7 +131,7 @@ unfinished-taken (line ∷ next ∷ taken) parts some = unfinished-taken (next �
 
 -- lines that were judged, and then the line that follows them: its fault counts where they have none
 abbrev pub with_limit : Judged → ℕ → List ℕ → Judged
-with_limit file number line = record { good = file.good; fault = Some (first_fault file.fault (record { line = number; fault = limit_fault line })) }
+with_limit file number line = record { good = file.good; fault = Some (first_refusal file.fault (record { line = number; fault = limit_fault line })) }
 
 -- the parts of a source over the limit, after accepted lines: its whole lines are judged after those,
 -- and then the line that follows them

@@ -23,7 +23,7 @@ abbrev pub is_ended : SourceLines → Bool
 is_ended source = source.lines.finished
 
 -- these bytes of a source were fed, and these messages given
-pub record Reads (source : SourceLines) (shape : Shape) (bytes : List ℕ) (given : List Message) : Type 0 where
+pub record ReadsSource (source : SourceLines) (shape : Shape) (bytes : List ℕ) (given : List Message) : Type 0 where
   pub same_shape : source.shape ≡ shape
   -- the lines that were taken: over the limit they are lines of the first bytes
   pub taken : List (List ℕ)

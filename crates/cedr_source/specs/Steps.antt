@@ -17,11 +17,11 @@ use Rattle.cedr_guard.specs.declared.refusal.Refusal.{Refusal}
 use Rattle.cedr_guard.specs.declared.refusal.TheConstants.{FILE_LIMIT}
 use Rattle.cedr_guard.specs.Messages.{messages_behind}
 use Rattle.cedr_guard.specs.Sources.{judged, judged_lines, messages_of, whole_lines, unfinished_line}
-use Rattle.cedr_guard.specs.Standing.{Guards, as_list}
+use Rattle.cedr_guard.specs.Standing.{Guards, message_list}
 use Rattle.cedr_source.specs.declared.lines.SourceLines.{SourceLines}
 use Rattle.cedr_source.specs.declared.step.SourceStep.{SourceStep}
 use Rattle.cedr_source.specs.declared.step.SourceStep.TheVariants as step
-use Rattle.cedr_source.specs.Reads.{MayStillCome, is_ended, Reads}
+use Rattle.cedr_source.specs.Reads.{MayStillCome, is_ended, ReadsSource}
 
 -- these are a front of some messages
 pub record IsFrontOf (front all : List Message) : Type 0 where
@@ -43,7 +43,7 @@ pub record Waits (source : SourceLines) (shape : Shape) (bytes : List ℕ) (give
   pub all : given ≡ messages_behind [] (judged_lines shape (whole_lines (parts_of line_feed bytes))).good
 
 -- the source has no fault, and with the end all its messages were given
-pub record IsClosed (source : SourceLines) (shape : Shape) (bytes : List ℕ) (given : List Message) : Type 0 where
+pub record IsClosedSource (source : SourceLines) (shape : Shape) (bytes : List ℕ) (given : List Message) : Type 0 where
   pub ended : is_ended source ≡ true
   pub faultless : (judged shape bytes).fault ≡ None
   pub all : given ++ message.End ∷ [] ≡ messages_of shape bytes
@@ -54,11 +54,11 @@ pub record IsRefused (source : SourceLines) (shape : Shape) (bytes : List ℕ) (
   pub all : (more : List ℕ) → MayStillCome source.lines more → given ≡ messages_behind [] (judged shape (bytes ++ more)).good
 
 -- what an answer says where these bytes were fed and these messages were given before it
-abbrev pub Tells : SourceStep → SourceLines → Shape → List ℕ → List Message → Type 0
-Tells (step.Message m) source shape bytes given = Reads source shape bytes (given ++ m ∷ []) × IsLegal (given ++ m ∷ [])
-Tells step.NotYet source shape bytes given = Reads source shape bytes given × Waits source shape bytes given
-Tells step.Closed source shape bytes given = Reads source shape bytes given × IsClosed source shape bytes given
-Tells (step.Refused refusal) source shape bytes given = IsRefused source shape bytes given refusal
+abbrev pub AnswersStep : SourceStep → SourceLines → Shape → List ℕ → List Message → Type 0
+AnswersStep (step.Message m) source shape bytes given = ReadsSource source shape bytes (given ++ m ∷ []) × IsLegal (given ++ m ∷ [])
+AnswersStep step.NotYet source shape bytes given = ReadsSource source shape bytes given × Waits source shape bytes given
+AnswersStep step.Closed source shape bytes given = ReadsSource source shape bytes given × IsClosedSource source shape bytes given
+AnswersStep (step.Refused refusal) source shape bytes given = IsRefused source shape bytes given refusal
 
 -- a message takes a line at least
 abbrev pub TakesLine : SourceStep → ℕ → ℕ → Type 0
@@ -71,27 +71,27 @@ TakesLine (step.Refused refusal) left now = Unit {0}
 
 -- the same where a line that was taken may have no message
 abbrev pub TellsLine : Option SourceStep → SourceLines → Shape → List ℕ → List Message → Type 0
-TellsLine None source shape bytes given = Reads source shape bytes given
-TellsLine (Some told) source shape bytes given = Tells told source shape bytes given
+TellsLine None source shape bytes given = ReadsSource source shape bytes given
+TellsLine (Some said) source shape bytes given = AnswersStep said source shape bytes given
 
 -- the same for one line: a line that has no message is taken too
 abbrev pub TakesOne : Option SourceStep → ℕ → ℕ → Type 0
 TakesOne None left now = now < left
-TakesOne (Some told) left now = TakesLine told left now
+TakesOne (Some said) left now = TakesLine said left now
 
 -- the refusal of the line of this number, for this fault
-abbrev pub refused : ℕ → LineFault → SourceStep
-refused line fault = step.Refused (record { line = line; fault = fault })
+abbrev pub refused_at : ℕ → LineFault → SourceStep
+refused_at line fault = step.Refused (record { line = line; fault = fault })
 
 -- the answer for the line of this number, by how it was judged after the accepted ones
-abbrev pub Answers : ℕ → Result (Option Message) GuardFault → Result (Option SourceStep) OutOfMemory → Type 0
-Answers number (Ok None) answer = answer ≡ Ok None
-Answers number (Ok (Some m)) answer = answer ≡ Ok (Some (step.Message m))
-Answers number (Err (guard_fault.Line fault)) answer = answer ≡ Ok (Some (refused number fault))
-Answers number (Err guard_fault.OutOfMemory) answer = IsErr answer
+abbrev pub AnswersLine : ℕ → Result (Option Message) GuardFault → Result (Option SourceStep) OutOfMemory → Type 0
+AnswersLine number (Ok None) answer = answer ≡ Ok None
+AnswersLine number (Ok (Some m)) answer = answer ≡ Ok (Some (step.Message m))
+AnswersLine number (Err (guard_fault.Line fault)) answer = answer ≡ Ok (Some (refused_at number fault))
+AnswersLine number (Err guard_fault.OutOfMemory) answer = IsErr answer
 
 -- a line after accepted ones: with it they are accepted, and this is its message, or it has this fault
 abbrev pub JudgesLine : Result (Option Message) GuardFault → Guard → List EventLine → Result (List EventLine) LineFault → Type 0
-JudgesLine (Ok message) guard before now = (lines : List EventLine) × (now ≡ Ok lines) × Guards guard lines × (messages_behind [] lines ≡ messages_behind [] before ++ as_list message)
+JudgesLine (Ok message) guard before now = (lines : List EventLine) × (now ≡ Ok lines) × Guards guard lines × (messages_behind [] lines ≡ messages_behind [] before ++ message_list message)
 JudgesLine (Err (guard_fault.Line fault)) guard before now = now ≡ Err fault
 JudgesLine (Err guard_fault.OutOfMemory) guard before now = Unit {0}

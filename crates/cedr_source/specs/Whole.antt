@@ -7,34 +7,34 @@ use Rattle.cedr_io.specs.Counts.{Rose}
 use Rattle.cedr_text.specs.declared.event_line.Shape.{Shape}
 use Rattle.cedr_guard.specs.declared.refusal.TheConstants.{FILE_LIMIT}
 use Rattle.cedr_guard.specs.Sources.{judged, messages_of}
-use Rattle.cedr_source.specs.declared.fault.SourceFault.{SourceFault}
-use Rattle.cedr_source.specs.declared.fault.SourceFault.TheVariants as source_fault
+use Rattle.cedr_source.specs.declared.fault.Unread.{Unread}
+use Rattle.cedr_source.specs.declared.fault.Unread.TheVariants as unread
 use Rattle.cedr_source.specs.declared.read.Reading.{Reading}
-use Rattle.cedr_source.specs.Reads.{Reads}
-use Rattle.cedr_source.specs.Steps.{Waits, IsClosed, IsRefused}
+use Rattle.cedr_source.specs.Reads.{ReadsSource}
+use Rattle.cedr_source.specs.Steps.{Waits, IsClosedSource, IsRefused}
 
 -- the count rose where a read failed, and is as before at every other answer
-abbrev pub CountsSource : {T : Type 0} → Result T SourceFault → ℕ → ℕ → Type 0
+abbrev pub CountsSource : {T : Type 0} → Result T Unread → ℕ → ℕ → Type 0
 CountsSource (Ok done) old new = new ≡ old
-CountsSource (Err (source_fault.Refused refusal)) old new = new ≡ old
-CountsSource (Err source_fault.Failed) old new = Rose old new
-CountsSource (Err source_fault.OutOfMemory) old new = new ≡ old
+CountsSource (Err (unread.Refused refusal)) old new = new ≡ old
+CountsSource (Err unread.Failed) old new = Rose old new
+CountsSource (Err unread.OutOfMemory) old new = new ≡ old
 
 -- all messages of a source of these bytes, which has no fault, or its first fault
-abbrev pub AnswersAll : Result (Vec Message Global) SourceFault → Shape → List ℕ → Type 0
+abbrev pub AnswersAll : Result (Vec Message Global) Unread → Shape → List ℕ → Type 0
 AnswersAll (Ok messages) shape all = ((judged shape all).fault ≡ None) × (messages.items ≡ messages_of shape all)
-AnswersAll (Err (source_fault.Refused refusal)) shape all = (judged shape all).fault ≡ Some refusal
-AnswersAll (Err source_fault.Failed) shape all = Unit {0}
-AnswersAll (Err source_fault.OutOfMemory) shape all = Unit {0}
+AnswersAll (Err (unread.Refused refusal)) shape all = (judged shape all).fault ≡ Some refusal
+AnswersAll (Err unread.Failed) shape all = Unit {0}
+AnswersAll (Err unread.OutOfMemory) shape all = Unit {0}
 
 -- nothing is left of a source without a fault
-abbrev pub IsReadWhole : {T : Type 0} → Result T SourceFault → Option (List ℕ) → Type 0
+abbrev pub IsReadWhole : {T : Type 0} → Result T Unread → Option (List ℕ) → Type 0
 IsReadWhole (Ok done) left = IsAtEnd left
 IsReadWhole (Err fault) left = Unit {0}
 
 -- some bytes were read, at most one block more than a source may have. The answer is that for them and for what
 -- is left, where that is known
-pub record Answered (answer : Result (Vec Message Global) SourceFault) (shape : Shape) (rest left : Option (List ℕ)) : Type 0 where
+pub record Answered (answer : Result (Vec Message Global) Unread) (shape : Shape) (rest left : Option (List ℕ)) : Type 0 where
   pub bytes : List ℕ
   pub took : Consumes rest left bytes
   pub few : length bytes ≤ FILE_LIMIT + 4096
@@ -44,22 +44,22 @@ pub record Answered (answer : Result (Vec Message Global) SourceFault) (shape : 
 -- ---- block by block
 
 -- all messages that there are were taken: more bytes are needed, or the source is closed, or it is refused
-abbrev pub TookAll : Result (Unit {0}) SourceFault → Reading → Shape → List ℕ → Type 0
-TookAll (Ok done) reading shape bytes = Reads reading.lines shape bytes reading.messages.items × (Waits reading.lines shape bytes reading.messages.items ⊎ IsClosed reading.lines shape bytes reading.messages.items)
-TookAll (Err (source_fault.Refused refusal)) reading shape bytes = IsRefused reading.lines shape bytes reading.messages.items refusal
-TookAll (Err source_fault.Failed) reading shape bytes = ⊥
-TookAll (Err source_fault.OutOfMemory) reading shape bytes = Unit {0}
+abbrev pub TookAll : Result (Unit {0}) Unread → Reading → Shape → List ℕ → Type 0
+TookAll (Ok done) reading shape bytes = ReadsSource reading.lines shape bytes reading.messages.items × (Waits reading.lines shape bytes reading.messages.items ⊎ IsClosedSource reading.lines shape bytes reading.messages.items)
+TookAll (Err (unread.Refused refusal)) reading shape bytes = IsRefused reading.lines shape bytes reading.messages.items refusal
+TookAll (Err unread.Failed) reading shape bytes = ⊥
+TookAll (Err unread.OutOfMemory) reading shape bytes = Unit {0}
 
 -- what was read, all messages that it gave so far, or its first fault, whatever may still come
-abbrev pub HasRead : Result Reading SourceFault → Shape → List ℕ → Type 0
-HasRead (Ok reading) shape bytes = Reads reading.lines shape bytes reading.messages.items × (length bytes ≤ FILE_LIMIT)
-HasRead (Err (source_fault.Refused refusal)) shape bytes = (more : List ℕ) → (judged shape (bytes ++ more)).fault ≡ Some refusal
-HasRead (Err source_fault.Failed) shape bytes = Unit {0}
-HasRead (Err source_fault.OutOfMemory) shape bytes = Unit {0}
+abbrev pub HasRead : Result Reading Unread → Shape → List ℕ → Type 0
+HasRead (Ok reading) shape bytes = ReadsSource reading.lines shape bytes reading.messages.items × (length bytes ≤ FILE_LIMIT)
+HasRead (Err (unread.Refused refusal)) shape bytes = (more : List ℕ) → (judged shape (bytes ++ more)).fault ≡ Some refusal
+HasRead (Err unread.Failed) shape bytes = Unit {0}
+HasRead (Err unread.OutOfMemory) shape bytes = Unit {0}
 
 -- some bytes were read, at most one block more than a source may have, and all that there are where no fault
 -- comes of them. The answer is what they gave, or their first fault
-pub record ReadBlocks (answer : Result Reading SourceFault) (shape : Shape) (rest left : Option (List ℕ)) : Type 0 where
+pub record ReadBlocks (answer : Result Reading Unread) (shape : Shape) (rest left : Option (List ℕ)) : Type 0 where
   pub bytes : List ℕ
   pub took : Consumes rest left bytes
   pub few : length bytes ≤ FILE_LIMIT + 4096
@@ -69,8 +69,8 @@ pub record ReadBlocks (answer : Result Reading SourceFault) (shape : Shape) (res
 -- ---- the end
 
 -- no more bytes come: all messages with the end, or the first fault
-abbrev pub Closes : Result (Vec Message Global) SourceFault → Shape → List ℕ → Type 0
+abbrev pub Closes : Result (Vec Message Global) Unread → Shape → List ℕ → Type 0
 Closes (Ok messages) shape bytes = AnswersAll (Ok messages) shape bytes
-Closes (Err (source_fault.Refused refusal)) shape bytes = AnswersAll (Err (source_fault.Refused refusal)) shape bytes
-Closes (Err source_fault.Failed) shape bytes = ⊥
-Closes (Err source_fault.OutOfMemory) shape bytes = Unit {0}
+Closes (Err (unread.Refused refusal)) shape bytes = AnswersAll (Err (unread.Refused refusal)) shape bytes
+Closes (Err unread.Failed) shape bytes = ⊥
+Closes (Err unread.OutOfMemory) shape bytes = Unit {0}

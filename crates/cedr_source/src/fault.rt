@@ -1,5 +1,5 @@
 ghost use Rattle.std.specs.Prelude.{◌≡◌};
-ghost use Rattle.cedr_source.specs.declared.fault.SourceFault.TheVariants as source_fault;
+ghost use Rattle.cedr_source.specs.declared.fault.Unread.TheVariants as unread;
 
 use cedr_base::OutOfMemory;
 use cedr_guard::Refusal;
@@ -9,7 +9,7 @@ use thiserror::Error;
 
 /// Why a source gave no messages.
 #[derive(Clone, Copy, Debug, PartialEq, Eq, Error)]
-pub enum SourceFault {
+pub enum Unread {
     /// Its first line that isn't accepted, and why.
     #[error("a line isn't accepted")]
     Refused(Refusal),
@@ -20,26 +20,26 @@ pub enum SourceFault {
     OutOfMemory,
 }
 
-impl From<Failed> for SourceFault {
-    ghost from_gives = { λ _ fault. fault ≡ source_fault.Failed };
+impl From<Failed> for Unread {
+    ghost from_gives = { λ _ fault. fault ≡ unread.Failed };
 
-    fn from(_error: Failed) -> SourceFault {
-        SourceFault::Failed
+    fn from(_error: Failed) -> Unread {
+        Unread::Failed
     }
 }
 
-impl From<OutOfMemory> for SourceFault {
-    ghost from_gives = { λ _ fault. fault ≡ source_fault.OutOfMemory };
+impl From<OutOfMemory> for Unread {
+    ghost from_gives = { λ _ fault. fault ≡ unread.OutOfMemory };
 
-    fn from(_error: OutOfMemory) -> SourceFault {
-        SourceFault::OutOfMemory
+    fn from(_error: OutOfMemory) -> Unread {
+        Unread::OutOfMemory
     }
 }
 
-impl<T: Drop> From<AllocFailed<T>> for SourceFault {
-    ghost from_gives = { λ _ fault. fault ≡ source_fault.OutOfMemory };
+impl<T: Drop> From<AllocFailed<T>> for Unread {
+    ghost from_gives = { λ _ fault. fault ≡ unread.OutOfMemory };
 
-    fn from(_error: AllocFailed<T>) -> SourceFault {
-        SourceFault::OutOfMemory
+    fn from(_error: AllocFailed<T>) -> Unread {
+        Unread::OutOfMemory
     }
 }

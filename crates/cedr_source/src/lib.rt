@@ -12,7 +12,7 @@ mod lines;
 mod read;
 mod step;
 
-pub use fault::SourceFault;
+pub use fault::Unread;
 pub use law::read_laws;
 pub use lines::{SourceLines, judge_line};
 pub use read::read_messages;

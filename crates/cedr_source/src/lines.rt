@@ -6,8 +6,8 @@ ghost use Rattle.cedr_text.specs.Reading.{reading};
 ghost use Rattle.cedr_guard.specs.declared.refusal.TheConstants.{FILE_LIMIT};
 ghost use Rattle.cedr_guard.specs.Sources.{with_reading};
 ghost use Rattle.cedr_guard.specs.Standing.{Guards};
-ghost use Rattle.cedr_source.specs.Reads.{Reads, is_ended, lines_left};
-ghost use Rattle.cedr_source.specs.Steps.{Tells, TellsLine, TakesLine, TakesOne, JudgesLine, Answers, refused};
+ghost use Rattle.cedr_source.specs.Reads.{ReadsSource, is_ended, lines_left};
+ghost use Rattle.cedr_source.specs.Steps.{AnswersStep, TellsLine, TakesLine, TakesOne, JudgesLine, AnswersLine, refused_at};
 
 use crate::step::SourceStep;
 use cedr_base::{Message, OutOfMemory};
@@ -39,7 +39,7 @@ pub struct SourceLines {
 impl SourceLines {
     /// Nothing was fed or given. It takes no memory.
     pub fn new(alloc: Global, shape: Shape) -> SourceLines
-        ensures reads { Reads result shape [] [] }
+        ensures reads { ReadsSource result shape [] [] }
         ensures goes_on { is_ended result ≡ false }
     {
         SourceLines {
@@ -56,7 +56,7 @@ impl SourceLines {
     /// Takes the next bytes of the source. O(n) in them. An error leaves all as it was.
     pub fn feed(&mut self, piece: &[u8]) -> Result<(), OutOfMemory>
         requires { is_ended self.old ≡ false }
-        ensures reads { OnOk result ((shape : Shape) (bytes : List ℕ) (given : List Message) → Reads self.old shape bytes given → Reads self.new shape (bytes ++ piece.now) given) }
+        ensures reads { OnOk result ((shape : Shape) (bytes : List ℕ) (given : List Message) → ReadsSource self.old shape bytes given → ReadsSource self.new shape (bytes ++ piece.now) given) }
         ensures err { OnErr result (self.new ≡ self.old) }
         ensures goes_on { is_ended self.new ≡ false }
     {
@@ -71,8 +71,8 @@ impl SourceLines {
 
     /// Says that no more bytes come. It takes no memory.
     pub fn finish(&mut self)
-        ensures reads { (shape : Shape) (bytes : List ℕ) (given : List Message) → Reads self.old shape bytes given → Reads self.new shape bytes given }
-        ensures finished { (shape : Shape) (bytes : List ℕ) (given : List Message) → Reads self.old shape bytes given → length bytes ≤ FILE_LIMIT → is_ended self.new ≡ true }
+        ensures reads { (shape : Shape) (bytes : List ℕ) (given : List Message) → ReadsSource self.old shape bytes given → ReadsSource self.new shape bytes given }
+        ensures finished { (shape : Shape) (bytes : List ℕ) (given : List Message) → ReadsSource self.old shape bytes given → length bytes ≤ FILE_LIMIT → is_ended self.new ≡ true }
     {
         if !self.over_limit {
             self.lines.finish();
@@ -85,8 +85,8 @@ impl SourceLines {
     ///
     /// After `Refused`, and after want of memory, the lines are only to be dropped.
     pub fn next(&mut self) -> Result<SourceStep, OutOfMemory>
-        ensures told { IfOk result (λ told. (shape : Shape) (bytes : List ℕ) (given : List Message) → Reads self.old shape bytes given → Tells told self.new shape bytes given) }
-        ensures falls { IfOk result (λ told. TakesLine told (lines_left self.old) (lines_left self.new)) }
+        ensures said { IfOk result (λ said. (shape : Shape) (bytes : List ℕ) (given : List Message) → ReadsSource self.old shape bytes given → AnswersStep said self.new shape bytes given) }
+        ensures falls { IfOk result (λ said. TakesLine said (lines_left self.old) (lines_left self.new)) }
         ensures finished { is_ended self.new ≡ is_ended self.old }
     {
         loop {
@@ -98,8 +98,8 @@ impl SourceLines {
 
     /// The same of the next line alone: it answers nothing where that line has no message.
     pub fn take_line(&mut self) -> Result<Option<SourceStep>, OutOfMemory>
-        ensures told { IfOk result (λ told. (shape : Shape) (bytes : List ℕ) (given : List Message) → Reads self.old shape bytes given → TellsLine told self.new shape bytes given) }
-        ensures falls { IfOk result (λ told. TakesOne told (lines_left self.old) (lines_left self.new)) }
+        ensures said { IfOk result (λ said. (shape : Shape) (bytes : List ℕ) (given : List Message) → ReadsSource self.old shape bytes given → TellsLine said self.new shape bytes given) }
+        ensures falls { IfOk result (λ said. TakesOne said (lines_left self.old) (lines_left self.new)) }
         ensures finished { is_ended self.new ≡ is_ended self.old }
     {
         match self.lines.next_line(&mut self.line)? {
@@ -144,7 +144,7 @@ fn step_of(
     number: u64,
     judged: Result<Option<Message>, GuardFault>,
 ) -> Result<Option<SourceStep>, OutOfMemory>
-    ensures { Answers number judged result }
+    ensures { AnswersLine number judged result }
 {
     match judged {
         Ok(Some(message)) => Ok(Some(SourceStep::Message(message))),
@@ -155,7 +155,7 @@ fn step_of(
 }
 
 fn refused(line: u64, fault: LineFault) -> SourceStep
-    ensures { result ≡ refused line fault }
+    ensures { result ≡ refused_at line fault }
 {
     SourceStep::Refused(Refusal { line, fault })
 }

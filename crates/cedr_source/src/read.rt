@@ -1,10 +1,10 @@
 ghost use Rattle.std.specs.Prelude.{◌≡◌, ◌≤◌, ◌++◌, [], ℕ, List, false, length, IfSome};
 ghost use Rattle.cedr_text.specs.declared.event_line.Shape.{Shape};
 ghost use Rattle.cedr_guard.specs.declared.refusal.TheConstants.{FILE_LIMIT};
-ghost use Rattle.cedr_source.specs.Reads.{Reads, is_ended};
+ghost use Rattle.cedr_source.specs.Reads.{ReadsSource, is_ended};
 ghost use Rattle.cedr_source.specs.Whole.{TookAll, CountsSource, AnswersAll, Answered, ReadBlocks, Closes};
 
-use crate::fault::SourceFault;
+use crate::fault::Unread;
 use crate::lines::SourceLines;
 use crate::step::SourceStep;
 use cedr_base::Message;
@@ -19,7 +19,7 @@ pub fn read_messages<S: Source>(
     alloc: Global,
     shape: Shape,
     source: &mut S,
-) -> Result<Vec<Message>, SourceFault>
+) -> Result<Vec<Message>, Unread>
     ensures answer { IfSome (S.rest source.old) (λ all. AnswersAll result shape all) }
     ensures read { Answered result shape (S.rest source.old) (S.rest source.new) }
     ensures counted { CountsSource result (S.faults source.old) (S.faults source.new) }
@@ -29,11 +29,7 @@ pub fn read_messages<S: Source>(
 }
 
 /// Takes the messages of all blocks of a source, up to its first fault. Each turn takes a byte at least.
-fn read_blocks<S: Source>(
-    alloc: Global,
-    shape: Shape,
-    source: &mut S,
-) -> Result<Reading, SourceFault>
+fn read_blocks<S: Source>(alloc: Global, shape: Shape, source: &mut S) -> Result<Reading, Unread>
     ensures read { ReadBlocks result shape (S.rest source.old) (S.rest source.new) }
     ensures counted { CountsSource result (S.faults source.old) (S.faults source.new) }
 {
@@ -57,7 +53,7 @@ struct Reading {
 
 impl Reading {
     fn new(alloc: Global, shape: Shape) -> Reading
-        ensures reads { Reads result.lines shape [] result.messages.items }
+        ensures reads { ReadsSource result.lines shape [] result.messages.items }
         ensures goes_on { is_ended result.lines ≡ false }
     {
         Reading {
@@ -67,9 +63,9 @@ impl Reading {
     }
 
     /// Takes the messages of a block.
-    fn take_block(&mut self, block: &[u8]) -> Result<(), SourceFault>
+    fn take_block(&mut self, block: &[u8]) -> Result<(), Unread>
         requires { is_ended self.old.lines ≡ false }
-        ensures took { (shape : Shape) (bytes : List ℕ) → Reads self.old.lines shape bytes self.old.messages.items → TookAll result self.new shape (bytes ++ block.now) }
+        ensures took { (shape : Shape) (bytes : List ℕ) → ReadsSource self.old.lines shape bytes self.old.messages.items → TookAll result self.new shape (bytes ++ block.now) }
         ensures goes_on { is_ended self.new.lines ≡ false }
     {
         self.lines.feed(block)?;
@@ -77,22 +73,22 @@ impl Reading {
     }
 
     /// Takes all messages that there are.
-    fn take_all(&mut self) -> Result<(), SourceFault>
-        ensures took { (shape : Shape) (bytes : List ℕ) → Reads self.old.lines shape bytes self.old.messages.items → TookAll result self.new shape bytes }
+    fn take_all(&mut self) -> Result<(), Unread>
+        ensures took { (shape : Shape) (bytes : List ℕ) → ReadsSource self.old.lines shape bytes self.old.messages.items → TookAll result self.new shape bytes }
         ensures finished { is_ended self.new.lines ≡ is_ended self.old.lines }
     {
         loop {
             match self.lines.next()? {
                 SourceStep::Message(message) => self.messages.push(message)?,
                 SourceStep::NotYet | SourceStep::Closed => return Ok(()),
-                SourceStep::Refused(refusal) => return Err(SourceFault::Refused(refusal)),
+                SourceStep::Refused(refusal) => return Err(Unread::Refused(refusal)),
             }
         }
     }
 
     /// All messages, where no more bytes come.
-    fn into_messages(mut self) -> Result<Vec<Message>, SourceFault>
-        ensures { (shape : Shape) (bytes : List ℕ) → Reads self.lines shape bytes self.messages.items → length bytes ≤ FILE_LIMIT → Closes result shape bytes }
+    fn into_messages(mut self) -> Result<Vec<Message>, Unread>
+        ensures { (shape : Shape) (bytes : List ℕ) → ReadsSource self.lines shape bytes self.messages.items → length bytes ≤ FILE_LIMIT → Closes result shape bytes }
     {
         self.lines.finish();
         self.take_all()?;

@@ -7,10 +7,10 @@ use Rattle.cedr_base.specs.declared.row.Row.{Row}
 use Rattle.cedr_base.specs.declared.change.Change.{Change}
 use Rattle.cedr_base.specs.Rows.{count_of, one_if_same, SameRows}
 use Rattle.cedr_base.specs.Changes.{puts, takes, MayFollow}
-use Rattle.cedr_stream.specs.Repairs.{IsMoved, Repair}
-use Rattle.cedr_stream.proofs.BagSums.{sum_by-same}
-use Rattle.cedr_stream.proofs.Moves.{sum_by-moved, sum_by-there}
-use Rattle.cedr_stream.proofs.RepairLemmas.{Turns, repair_by_turns}
+use Rattle.change_laws.specs.Repairs.{IsMoved, Repair}
+use Rattle.change_laws.proofs.BagSums.{sum_by-same}
+use Rattle.change_laws.proofs.Moves.{sum_by-moved, sum_by-there}
+use Rattle.change_laws.proofs.RepairLemmas.{Turns, repair_by_turns}
 use Rattle.cedr_table.specs.Operators.{Tables, table_at, with_table, SameTables}
 use Rattle.cedr_table.specs.Choices.{choices, chosen}
 

@@ -8,12 +8,12 @@ use Rattle.std.specs.Ordering.{is_eq}
 use Rattle.std.specs.declared.cmp.Ordering.TheVariants.{Less}
 use Rattle.cedr_base.specs.declared.row.Row.{Row}
 use Rattle.cedr_base.specs.Rows.{row_cmp, same_row, one_if_same, count_of, SameRows}
-use Rattle.cedr_stream.proofs.BagSums.{same_row_is, same_row_equiv}
+use Rattle.change_laws.proofs.BagSums.{same_row_is, same_row_equiv}
 use Rattle.std.proofs.lemmas.List.Sums.{sum_by-cons}
 use Rattle.cedr_base.specs.Changes.{puts, takes}
-use Rattle.cedr_stream.proofs.Moves.{sum_by-moved, remnant_none, remnant_some}
+use Rattle.change_laws.proofs.Moves.{sum_by-moved, remnant_none, remnant_some}
 use Rattle.cedr_base.proofs.Bags.{count_of-cons}
-use Rattle.cedr_stream.proofs.BagSums.{sum_by-same}
+use Rattle.change_laws.proofs.BagSums.{sum_by-same}
 use Rattle.cedr_base.specs.declared.change.Change.{Change}
 use Rattle.cedr_base.specs.declared.change.Change.TheVariants.{Cut}
 use Rattle.std.specs.List.{AllByRecursion}

@@ -13,9 +13,9 @@ use Rattle.cedr_base.specs.declared.change.Change.{Change}
 use Rattle.cedr_base.specs.Rows.{row_cmp, same_row, one_if_same, count_of, SameRows}
 use Rattle.cedr_base.specs.Changes.{puts, takes, MayFollow}
 use Rattle.cedr_base.proofs.Bags.{same_row_exact, count_of-append, count_of-cons}
-use Rattle.cedr_stream.proofs.BagSums.{sum_by-same}
-use Rattle.cedr_stream.specs.Repairs.{IsMoved}
-use Rattle.cedr_stream.proofs.Moves.{applied, applied_moves}
+use Rattle.change_laws.proofs.BagSums.{sum_by-same}
+use Rattle.change_laws.specs.Repairs.{IsMoved}
+use Rattle.change_laws.proofs.Moves.{applied, applied_moves}
 use Rattle.cedr_table.specs.Counted.{ends_after, IsTakenOut, SameAmong}
 use Rattle.cedr_table.proofs.CountLemmas.{same_length, replicated}
 

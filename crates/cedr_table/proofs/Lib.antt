@@ -5,3 +5,4 @@ pub mod RowWiseLemmas
 pub mod ChoiceLemmas
 pub mod RowsLemmas
 pub mod FilterLemmas
+pub mod Changing

@@ -11,10 +11,10 @@ use Rattle.cedr_base.specs.declared.change.Change.TheVariants.{Add, Cut}
 use Rattle.cedr_base.specs.Rows.{IsRow, count_of, one_if_same}
 use Rattle.cedr_base.specs.Changes.{sync_of, IsChange, puts, takes, remnant, MayFollow}
 use Rattle.cedr_base.proofs.Bags.{count_of-append}
-use Rattle.cedr_stream.specs.Repairs.{IsMoved, Repair}
-use Rattle.cedr_stream.proofs.BagSums.{sum_by-flat_map, count_of-itself}
-use Rattle.cedr_stream.proofs.Moves.{remnant_some, remnant_none, one_of_two, may_is, sum_by-moved, sum_by-there}
-use Rattle.cedr_stream.proofs.RepairLemmas.{Turns, repair_by_turns}
+use Rattle.change_laws.specs.Repairs.{IsMoved, Repair}
+use Rattle.change_laws.proofs.BagSums.{sum_by-flat_map, count_of-itself}
+use Rattle.change_laws.proofs.Moves.{remnant_some, remnant_none, one_of_two, may_is, sum_by-moved, sum_by-there}
+use Rattle.change_laws.proofs.RepairLemmas.{Turns, repair_by_turns}
 use Rattle.cedr_base.specs.declared.interval.Interval.{Interval}
 use Rattle.cedr_table.specs.Operators.{Tables, table_at, mark_at, with_table, CanTake, Gains}
 use Rattle.cedr_table.specs.PortLaws.{table_at-with}

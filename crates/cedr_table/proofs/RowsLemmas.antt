@@ -5,9 +5,9 @@ use Rattle.cedr_base.specs.declared.change.Change.{Change}
 use Rattle.cedr_base.specs.Rows.{count_of, IsRow, AreRows, SameRows}
 use Rattle.cedr_base.specs.Changes.{IsChange}
 use Rattle.cedr_base.proofs.Bags.{count_of-cons}
-use Rattle.cedr_stream.specs.Repairs.{IsMoved}
-use Rattle.cedr_stream.proofs.BagSums.{count_of-itself}
-use Rattle.cedr_stream.proofs.Moves.{row_came, puts_are_rows}
+use Rattle.change_laws.specs.Repairs.{IsMoved}
+use Rattle.change_laws.proofs.BagSums.{count_of-itself}
+use Rattle.change_laws.proofs.Moves.{row_came, puts_are_rows}
 
 -- a bag with no more copies has rows only
 pub fewer_are : (xs ys : List Row) → ((r : Row) → 0 < count_of r xs → 0 < count_of r ys) → AreRows ys → AreRows xs

@@ -4,7 +4,7 @@ use Rattle.cedr_base.specs.declared.time.TheConstants.{FOREVER}
 use Rattle.cedr_base.specs.declared.row.Row.{Row}
 use Rattle.cedr_base.specs.declared.change.Change.{Change}
 use Rattle.cedr_base.specs.Rows.{SameRows}
-use Rattle.cedr_stream.specs.Repairs.{IsMoved}
+use Rattle.change_laws.specs.Repairs.{IsMoved}
 use Rattle.cedr_table.specs.Operators.{Tables, Meaning, table_at, with_table, CanTake, AllRise, AreTimes, SameTables}
 
 -- What holds of an operator's meaning, and of the tables and marks that its state stands for.

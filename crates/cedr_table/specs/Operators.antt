@@ -5,7 +5,7 @@ use Rattle.cedr_base.specs.declared.row.Row.{Row}
 use Rattle.cedr_base.specs.declared.change.Change.{Change}
 use Rattle.cedr_base.specs.Rows.{count_of, AreRows, SameRows}
 use Rattle.cedr_base.specs.Changes.{sync_of, MayFollow}
-use Rattle.cedr_stream.specs.Repairs.{Repair}
+use Rattle.change_laws.specs.Repairs.{Repair}
 
 -- a table for each port
 abbrev pub Tables : Type 0

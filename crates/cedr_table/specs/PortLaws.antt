@@ -2,7 +2,7 @@
 use Rattle.std.proofs.Common.{◌≡◌, ℕ, ◌<◌, ◌≤◌, List, [], ◌∷◌, ◌++◌, min, zero, suc, refl, ap, arith, length, set, ◌≢◌, get_or-set_same, get_or-set_other}
 use Rattle.cedr_base.specs.declared.row.Row.{Row}
 use Rattle.cedr_base.specs.Rows.{SameRows}
-use Rattle.cedr_stream.proofs.BagSums.{same_itself}
+use Rattle.change_laws.proofs.BagSums.{same_itself}
 use Rattle.cedr_table.specs.Operators.{Tables, table_at, mark_at, AllRise, SameTables, AreTimes, with_table, least_of}
 use Rattle.cedr_base.specs.declared.time.TheConstants.{FOREVER}
 

@@ -65,8 +65,8 @@ abbrev pub withdrawn : List Field → Interval → List Change
 withdrawn payload old = if lives old then Cut (row_during old payload) old.begin ∷ [] else []
 
 -- the change that adds a row to the result
-abbrev pub added : List Field → Interval → List Change
-added payload new = if lives new then Add (row_during new payload) ∷ [] else []
+abbrev pub row_added : List Field → Interval → List Change
+row_added payload new = if lives new then Add (row_during new payload) ∷ [] else []
 
 -- the changes that put one row of the result in another's place
 abbrev pub replaced : Option (List Field) → Interval → Interval → List Change
@@ -74,7 +74,7 @@ replaced None old new = []
 replaced (Some payload) old new =
     if lives old && (lives new && nat_eq old.begin new.begin)
     then shortened payload old new
-    else withdrawn payload old ++ added payload new
+    else withdrawn payload old ++ row_added payload new
 
 -- the interval of which nothing is left
 abbrev pub emptied : Interval → Interval

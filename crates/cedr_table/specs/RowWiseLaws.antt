@@ -2,7 +2,7 @@
 use Rattle.std.proofs.Common.{ℕ, ◌≤◌, List, refl, ◌∙◌, arith}
 use Rattle.cedr_base.specs.declared.time.TheConstants.{FOREVER}
 use Rattle.cedr_base.specs.declared.row.Row.{Row}
-use Rattle.cedr_stream.proofs.BagSums.{same_flat_map}
+use Rattle.change_laws.proofs.BagSums.{same_flat_map}
 use Rattle.cedr_table.specs.OperatorLaws.{OperatorLaws}
 use Rattle.cedr_table.specs.PortLaws.{rise_length, rise_at, same_length, same_at, time_at}
 use Rattle.cedr_table.specs.RowWise.{row_wise, StandsOnOne}

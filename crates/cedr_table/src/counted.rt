@@ -61,7 +61,7 @@ fn lower_count(count: &mut usize) -> usize
 /// Takes a copy of a row away, and says whether there was one. One search, and one more where it was the last copy.
 pub(crate) fn take_one(map: &mut BTreeMap<Row, usize>, row: &Row) -> bool
     requires there { EachIsThere map.old.entries }
-    ensures told { result ≡ nat_lt 0 (copies map.old.entries row.now) }
+    ensures was_there { result ≡ nat_lt 0 (copies map.old.entries row.now) }
     ensures counts { 0 < copies map.old.entries row.now → (q : Row) → copies map.new.entries q + one_if_same q row.now ≡ copies map.old.entries q }
     ensures missing { copies map.old.entries row.now ≡ 0 → map.new.entries ≡ map.old.entries }
     ensures ordered { IsOrdered row_cmp map.new }

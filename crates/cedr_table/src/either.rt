@@ -3,10 +3,17 @@ use cedr_base::{Change, OutOfMemory, Time};
 use std::alloc::Global;
 
 /// One of two operators, to which each call goes. An operator of several kinds is one of these of these.
-#[derive(Drop)]
 pub enum Either<A, B> {
     First(A),
     Second(B),
+}
+
+impl<A: Drop, B: Drop> Drop for Either<A, B> {
+    fn drop(self) {
+        match self {
+            Either::First(_) | Either::Second(_) => {}
+        }
+    }
 }
 
 impl<A: Operator, B: Operator> Operator for Either<A, B> {

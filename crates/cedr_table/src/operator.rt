@@ -1,6 +1,6 @@
 ghost use Rattle.std.specs.Prelude.{◌≡◌, ◌++◌, ◌∷◌, [], ℕ, List, true, OnOk, OnErr};
 ghost use Rattle.cedr_base.specs.declared.row.Row.{Row};
-ghost use Rattle.cedr_stream.specs.Repairs.{IsMoved};
+ghost use Rattle.change_laws.specs.Repairs.{IsMoved};
 ghost use Rattle.cedr_table.specs.Operators.{Tables, Meaning, table_at, with_table, CanTake, Gains, AllRise, AreTimes, OnlyHolds};
 ghost use Rattle.cedr_table.specs.OperatorLaws.{OperatorLaws};
 

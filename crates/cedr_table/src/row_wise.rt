@@ -5,7 +5,7 @@ ghost use Rattle.cedr_base.specs.declared.row.Row.{Row};
 ghost use Rattle.cedr_base.specs.Rows.{IsRow};
 ghost use Rattle.cedr_base.specs.Changes.{IsChange};
 ghost use Rattle.cedr_base.specs.declared.interval.Interval.{Interval};
-ghost use Rattle.cedr_table.specs.RowWise.{IsLife, MayBecome, made, lives, row_during, shortened, withdrawn, added, replaced, life_after, answer_to};
+ghost use Rattle.cedr_table.specs.RowWise.{IsLife, MayBecome, made, lives, row_during, shortened, withdrawn, row_added, replaced, life_after, answer_to};
 ghost use Rattle.cedr_base.specs.declared.change.Change.TheVariants.{Cut};
 
 use crate::operator::Operator;
@@ -112,7 +112,7 @@ fn withdraw(old: Interval, payload: Payload, out: &mut Vec<Change>) -> Result<()
 
 /// Appends the change that adds a row to the result, where there is one.
 fn add(new: Interval, payload: Payload, out: &mut Vec<Change>) -> Result<(), OutOfMemory>
-    ensures ok { OnOk result (out.new.items ≡ out.old.items ++ added payload new) }
+    ensures ok { OnOk result (out.new.items ≡ out.old.items ++ row_added payload new) }
     ensures err { OnErr result (out.new.items ≡ out.old.items) }
 {
     if lives(new) {
@@ -204,12 +204,12 @@ fn answer<R: RowWise>(
                 begin: new.begin,
                 end: new.begin,
             };
-            replace_made(alloc, op, old, new, row.payload, out)
+            replace_made(alloc, op, old, new, row.into_payload(), out)
         }
         Change::Cut(row, end) => {
             let old = op.life(row.begin, row.end);
             let new = life_after(op, &row, old, end);
-            replace_made(alloc, op, old, new, row.payload, out)
+            replace_made(alloc, op, old, new, row.into_payload(), out)
         }
     }
 }

@@ -18,11 +18,20 @@ use std::ops::RangeBounds;
 /// A bag of rows. Contracts see a list of its rows, of which only the counts matter.
 ///
 /// It keeps each row once, with the number of its copies.
-#[derive(Drop)]
 pub struct Table {
     alloc: Global,
     rows: BTreeMap<Row, usize>,
     len: usize,
+}
+
+impl Drop for Table {
+    fn drop(self) {
+        let Table {
+            alloc: _,
+            rows: _,
+            len: _,
+        } = self;
+    }
 }
 
 impl Model for Table {
@@ -134,7 +143,7 @@ impl Table {
 
     /// Takes a copy of a row away, and says whether there was one. It takes no memory. O(log n) comparisons.
     pub fn take(&mut self, row: &Row) -> bool
-        ensures told { result ≡ nat_lt 0 (count_of row.now self.old) }
+        ensures was_there { result ≡ nat_lt 0 (count_of row.now self.old) }
         ensures taken { 0 < count_of row.now self.old → SameRows (row.now ∷ self.new) self.old }
         ensures missing { count_of row.now self.old ≡ 0 → self.new ≡ self.old }
     {

@@ -17,11 +17,11 @@ use Rattle.cedr_text.specs.declared.fault.LineFault.TheVariants.{LineTooLong, Ba
 use Rattle.cedr_text.specs.declared.fault.ReadLineFault.{ReadLineFault}
 use Rattle.cedr_text.specs.declared.fault.ReadLineFault.TheVariants as read_fault
 use Rattle.cedr_text.specs.declared.lines.TheConstants.{LINE_LIMIT}
-use Rattle.cedr_text.specs.Faults.{number_of}
+use Rattle.cedr_text.specs.Faults.{line_fault_number}
 use Rattle.cedr_text.specs.Lines.{has_line_feed}
 use Rattle.cedr_text.specs.Numbers.{is_numeral, whole_number, id_value, begin_value, time_value}
 use Rattle.cedr_text.specs.Quoting.{line_fields, byte_order_mark}
-use Rattle.cedr_text.specs.Reading.{has_return, is_broken, Reads, field_value, with_field, typed_payload, payload_of, event, inserted, insertion, retracted, retraction, promised, guarantee, event_of, event_from, as_some, reading, IsEvent, SaysEvent}
+use Rattle.cedr_text.specs.Reading.{has_return, breaks_form, Reads, field_value, with_field, typed_payload, payload_of, event, inserted, insertion, retracted, retraction, promised, guarantee, event_of, event_from, as_some, reading, IsEvent, SaysEvent}
 
 -- a number is at most the last one
 whole_at : (test : Bool) (last value : ℕ) → (test ≡ true → value ≤ last) → IfSome (cond test (Some value) None) (λ n. n ≤ last)
@@ -52,7 +52,7 @@ time_low text = time_at (bytes_eq text (codes "inf")) (begin_value text) (begin_
 
 -- a fault of a line that isn't too long
 abbrev pub IsShortFault : LineFault → Type 0
-IsShortFault fault = (2 ≤ number_of fault) × (number_of fault ≤ 5)
+IsShortFault fault = (2 ≤ line_fault_number fault) × (line_fault_number fault ≤ 5)
 
 bad_form : IsShortFault BadForm
 bad_form = (omega arith, omega arith)
@@ -168,12 +168,12 @@ from_event shape (Some fields) = fields_event shape fields
 
 -- what a line says that isn't too long and has some byte
 abbrev short_reading : Shape → List ℕ → Result (Option EventLine) LineFault
-short_reading shape line = cond (is_broken line) (Err BadForm) (as_some (event_from shape (line_fields line)))
+short_reading shape line = cond (breaks_form line) (Err BadForm) (as_some (event_from shape (line_fields line)))
 
 short_event : (shape : Shape) (line : List ℕ) → SaysShort (short_reading shape line)
 short_event shape line =
     let read = event_from shape (line_fields line) in
-    unless_broken (is_broken line) (as_some read) (said read (from_event shape (line_fields line)))
+    unless_broken (breaks_form line) (as_some read) (said read (from_event shape (line_fields line)))
 
 -- a line that is too long says no event
 pub unless_long : (long : Bool) (read : Result (Option EventLine) LineFault) → SaysEvent read → SaysEvent (cond long (Err LineTooLong) read)
@@ -205,11 +205,11 @@ no_break false true c h = cc
 no_break false false c h = (refl, refl, h)
 
 -- a line that isn't broken has neither a carriage return nor a line feed nor a byte order mark in front
-pub unbroken : (line : List ℕ) → is_broken line ≡ false → (has_return line ≡ false) × (has_line_feed line ≡ false) × (starts_with nat_eq line byte_order_mark ≡ false)
+pub unbroken : (line : List ℕ) → breaks_form line ≡ false → (has_return line ≡ false) × (has_line_feed line ≡ false) × (starts_with nat_eq line byte_order_mark ≡ false)
 unbroken line whole = no_break (has_return line) (has_line_feed line) (starts_with nat_eq line byte_order_mark) whole
 
 -- the fields of a line that is neither too long nor broken say what it says
-pub reading_whole : (shape : Shape) (line : List ℕ) → length line ≤ LINE_LIMIT → 0 < length line → is_broken line ≡ false → reading shape line ≡ as_some (event_from shape (line_fields line))
+pub reading_whole : (shape : Shape) (line : List ℕ) → length line ≤ LINE_LIMIT → 0 < length line → breaks_form line ≡ false → reading shape line ≡ as_some (event_from shape (line_fields line))
 reading_whole shape [] short some whole = absurd (omega arith)
 reading_whole shape (b ∷ bs) short some whole =
     ap (λ test. cond test (Err LineTooLong) (short_reading shape (b ∷ bs))) (le-ltb LINE_LIMIT (length (b ∷ bs)) short)

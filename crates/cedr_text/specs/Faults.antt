@@ -4,14 +4,14 @@ use Rattle.cedr_text.specs.declared.fault.LineFault.{LineFault}
 use Rattle.cedr_text.specs.declared.fault.LineFault.TheVariants as line
 
 -- the number of a fault, from 1 to 10
-abbrev pub number_of : LineFault → ℕ
-number_of line.LineTooLong = 1
-number_of line.BadForm = 2
-number_of line.BadNumber = 3
-number_of line.EmptyLife = 4
-number_of line.BadField = 5
-number_of line.KnownId = 6
-number_of line.UnknownId = 7
-number_of (line.BadEnd begin end) = 8
-number_of (line.BeforeGuarantee sync mark) = 9
-number_of line.TooLarge = 10
+abbrev pub line_fault_number : LineFault → ℕ
+line_fault_number line.LineTooLong = 1
+line_fault_number line.BadForm = 2
+line_fault_number line.BadNumber = 3
+line_fault_number line.EmptyLife = 4
+line_fault_number line.BadField = 5
+line_fault_number line.KnownId = 6
+line_fault_number line.UnknownId = 7
+line_fault_number (line.BadEnd begin end) = 8
+line_fault_number (line.BeforeGuarantee sync mark) = 9
+line_fault_number line.TooLarge = 10

@@ -5,6 +5,7 @@ pub mod Numbers
 pub mod Places
 pub mod Quoting
 pub mod Reading
+pub mod Shapes
 pub mod Texts
 pub mod TextRows
 pub mod RowWriters

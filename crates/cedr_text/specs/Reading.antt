@@ -18,7 +18,7 @@ use Rattle.cedr_text.specs.declared.fault.LineFault.TheVariants.{LineTooLong, Ba
 use Rattle.cedr_text.specs.declared.fault.ReadLineFault.{ReadLineFault}
 use Rattle.cedr_text.specs.declared.fault.ReadLineFault.TheVariants as read_fault
 use Rattle.cedr_text.specs.declared.lines.TheConstants.{LINE_LIMIT}
-use Rattle.cedr_text.specs.Faults.{number_of}
+use Rattle.cedr_text.specs.Faults.{line_fault_number}
 use Rattle.cedr_text.specs.Lines.{has_line_feed}
 use Rattle.cedr_text.specs.Quoting.{line_fields, byte_order_mark}
 use Rattle.cedr_text.specs.Texts.{carriage_return}
@@ -29,8 +29,8 @@ abbrev pub has_return : List ℕ → Bool
 has_return bytes = list_any (λ b. b == carriage_return) bytes
 
 -- a line break stands inside, or a byte order mark in front
-abbrev pub is_broken : List ℕ → Bool
-is_broken line = has_return line || (has_line_feed line || starts_with nat_eq line byte_order_mark)
+abbrev pub breaks_form : List ℕ → Bool
+breaks_form line = has_return line || (has_line_feed line || starts_with nat_eq line byte_order_mark)
 
 -- the value of a field that has to be of this type
 abbrev pub field_value : FieldType → List ℕ → Option Field
@@ -127,7 +127,7 @@ abbrev pub reading : Shape → List ℕ → Result (Option EventLine) LineFault
 reading shape [] = Ok None
 reading shape (b ∷ bs) =
     if nat_lt LINE_LIMIT (length (b ∷ bs)) then Err LineTooLong
-    else if is_broken (b ∷ bs) then Err BadForm
+    else if breaks_form (b ∷ bs) then Err BadForm
     else as_some (event_from shape (line_fields (b ∷ bs)))
 
 -- what the code answers is the reading, unless memory ran out
@@ -163,4 +163,4 @@ IsEvent (Promise time) = time ≤ FOREVER
 abbrev pub SaysEvent : Result (Option EventLine) LineFault → Type 0
 SaysEvent (Ok None) = Unit {0}
 SaysEvent (Ok (Some line)) = IsEvent line
-SaysEvent (Err fault) = number_of fault ≤ 5
+SaysEvent (Err fault) = line_fault_number fault ≤ 5

@@ -21,10 +21,11 @@ impl From<EventLine> for EventText<'_> {
     fn from(line: EventLine) -> Self {
         match line {
             EventLine::Insert { id, row } => {
-                let payload = PayloadText::from(row.payload);
+                let (end, begin) = (row.end, row.begin);
+                let payload = PayloadText::from(row.into_payload());
                 let row = TextRow {
-                    end: row.end,
-                    begin: row.begin,
+                    end,
+                    begin,
                     payload,
                 };
                 EventText::Insert { id, row }

@@ -1,5 +1,5 @@
 ghost use Rattle.std.specs.Prelude.{◌≡◌};
-ghost use Rattle.cedr_text.specs.Faults.{number_of};
+ghost use Rattle.cedr_text.specs.Faults.{line_fault_number};
 ghost use Rattle.cedr_text.specs.declared.fault.ReadLineFault.TheVariants as read_fault;
 
 use cedr_base::{OutOfMemory, Time};
@@ -37,7 +37,7 @@ pub enum LineFault {
 impl LineFault {
     /// The fault's number, from 1 to 10, as messages show it.
     pub fn number(&self) -> u8
-        ensures { result ≡ number_of self.now }
+        ensures { result ≡ line_fault_number self.now }
     {
         match self {
             LineFault::LineTooLong => 1,

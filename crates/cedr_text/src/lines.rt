@@ -10,7 +10,7 @@ use std::marker::Model;
 pub const LINE_LIMIT: usize = 65_536;
 
 /// What `Lines::next_line` found.
-#[derive(Clone, Copy, PartialEq, Eq, Debug)]
+#[derive(Clone, Copy, PartialEq, Eq)]
 pub enum LineStep {
     /// The next line was put in place of what the line held.
     Line,

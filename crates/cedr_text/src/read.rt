@@ -5,7 +5,7 @@ ghost use Rattle.cedr_text.specs.declared.fault.LineFault.TheVariants.{LineTooLo
 ghost use Rattle.cedr_text.specs.declared.lines.TheConstants.{LINE_LIMIT};
 ghost use Rattle.cedr_text.specs.EventTexts.{ReadsText};
 ghost use Rattle.cedr_text.specs.Quoting.{has_quote, line_fields};
-ghost use Rattle.cedr_text.specs.Reading.{is_broken, Reads, reading, event_of, event_from, insertion, retraction, guarantee, retracted_by, promised_by, payload_of, typed_payload, field_value, items_in, pushed, IsEvent, SaysEvent};
+ghost use Rattle.cedr_text.specs.Reading.{breaks_form, Reads, reading, event_of, event_from, insertion, retraction, guarantee, retracted_by, promised_by, payload_of, typed_payload, field_value, items_in, pushed, IsEvent, SaysEvent};
 
 use crate::bare::read_bare;
 use crate::event_line::{EventLine, Shape};
@@ -93,7 +93,7 @@ fn has_quote(bytes: &[u8]) -> bool
 
 /// Whether a line has a line break inside, or begins with a byte order mark.
 fn is_broken(line: &[u8]) -> bool
-    ensures { result ≡ is_broken line.now }
+    ensures { result ≡ breaks_form line.now }
 {
     memchr2(b'\r', b'\n', line).is_some() || line.starts_with(BYTE_ORDER_MARK)
 }
@@ -101,13 +101,13 @@ fn is_broken(line: &[u8]) -> bool
 /// Whether a line isn't too long, has neither a quote nor a line break, and doesn't begin with a byte order
 /// mark.
 fn is_plain(line: &[u8]) -> bool
-    ensures { result ≡ true → (length line.now ≤ LINE_LIMIT) × (has_quote line.now ≡ false) × (is_broken line.now ≡ false) }
+    ensures { result ≡ true → (length line.now ≤ LINE_LIMIT) × (has_quote line.now ≡ false) × (breaks_form line.now ≡ false) }
 {
     line.len() <= LINE_LIMIT && has_plain_bytes(line)
 }
 
 fn has_plain_bytes(line: &[u8]) -> bool
-    ensures { result ≡ true → (has_quote line.now ≡ false) × (is_broken line.now ≡ false) }
+    ensures { result ≡ true → (has_quote line.now ≡ false) × (breaks_form line.now ≡ false) }
 {
     memchr3(b'"', b'\r', b'\n', line).is_none() && !line.starts_with(BYTE_ORDER_MARK)
 }
@@ -116,7 +116,7 @@ fn has_plain_bytes(line: &[u8]) -> bool
 /// commas, and only one with a quote goes through the csv reader, which costs far more to make.
 fn read_fields(alloc: Global, line: &[u8], shape: &Shape) -> Result<EventLine, ReadLineFault>
     requires some { 0 < length line.now }
-    requires whole { is_broken line.now ≡ false }
+    requires whole { breaks_form line.now ≡ false }
     ensures { Reads result (event_from shape.now (line_fields line.now)) }
 {
     if !has_quote(line) {

@@ -5,18 +5,18 @@ use Rattle.std.proofs.lemmas.List.{length-map}
 use Rattle.cedr_base.specs.declared.change.Message.{Message}
 use Rattle.cedr_base.specs.declared.change.Message.TheVariants as message
 use Rattle.cedr_edge.specs.Ends.{InEnd, OutEnd}
-use Rattle.cedr_laws.specs.Lists.{Lists}
-use Rattle.cedr_laws.specs.Lawful.{is_over, all_over, any_broken, has_broken}
-use Rattle.cedr_laws.proofs.Ends.{over_grows, over_open}
-use Rattle.cedr_laws.proofs.Giving.{lawful_opened, lawful_unbroken}
+use Rattle.node_laws.specs.Lists.{Lists}
+use Rattle.node_laws.specs.Lawful.{is_over, all_over, any_broken, has_broken}
+use Rattle.node_laws.proofs.Ends.{over_grows, over_open}
+use Rattle.node_laws.proofs.Giving.{lawful_opened, lawful_unbroken}
 use Rattle.cedr_node.specs.declared.node.Node.{Node}
 use Rattle.cedr_node.specs.Nodes.{made_of, port_count, NodeStands}
 use Rattle.cedr_node.proofs.NodeLemmas.{stands_lawful, stands_legal}
-use Rattle.cedr_outlet.specs.Outgoing.{Outgoing}
-use Rattle.cedr_outlet.specs.Outlets.{AllTotal, AllStaged, AllOver, total_of, end_sent}
+use Rattle.worker_outlets.specs.Outgoing.{Outgoing}
+use Rattle.worker_outlets.specs.Outlets.{AllTotal, AllStaged, AllOver, total_of, end_sent}
 use Rattle.cedr_plan.specs.declared.plan.PlanNode.{PlanNode}
 use Rattle.cedr_worker.specs.Inputs.{taken_in}
-use Rattle.cedr_worker.specs.Operators.{Works, Sound, Lost, NoneBroken, SoundEnd, LostEnd}
+use Rattle.cedr_worker.specs.Operators.{NodeWorks, Sound, Lost, NoneBroken, SoundEnd, LostEnd}
 use Rattle.cedr_worker.proofs.TurnLemmas.{element}
 use Rattle.op_node.specs.Meanings.{meaning_of, port_levels}
 
@@ -27,7 +27,7 @@ taken_none (e ∷ es) none = let head : e.taken ≡ [] = none 0 e (omega arith) 
 
 -- a worker to which nothing came
 pub works_new : (node : Node) (inputs : List InEnd) (os : List Outgoing) → NodeStands node (replicate (port_count node) []) [] → length inputs ≡ port_count node → All (λ (e : InEnd). e.taken ≡ []) inputs → AllTotal [] os × AllStaged [] os
-    → Works node (taken_in inputs) os false false
+    → NodeWorks node (taken_in inputs) os false false
 works_new node inputs os stands count none nothing = record {
   sound = λ e.
       record { given = []; stands = subst (λ (ls : Lists). NodeStands node ls []) (sym (taken_none inputs none ∙ ap (λ (n : ℕ). replicate n []) count)) stands; all = nothing.0; clean = nothing.1 };
@@ -44,7 +44,7 @@ unbroken_front (message.End ∷ xs) ys h = unbroken_front xs ys h
 unbroken_front (message.Broken ∷ xs) ys h = h
 
 -- where memory was found and no list that was taken is broken, no Broken was sent
-pub none_broken : (node : Node) (lists : Lists) (os : List Outgoing) (lacked broke : Bool) → Works node lists os lacked broke → lacked ≡ false → any_broken lists ≡ false → NoneBroken os
+pub none_broken : (node : Node) (lists : Lists) (os : List Outgoing) (lacked broke : Bool) → NodeWorks node lists os lacked broke → lacked ≡ false → any_broken lists ≡ false → NoneBroken os
 none_broken node lists os lacked broke w found none k d less =
     let s = w.sound found in
     let o = get_or os k d in
@@ -63,7 +63,7 @@ pub ends_length : (os : List Outgoing) (outs : List OutEnd) → map end_sent out
 ends_length os outs same = sym (length-map outs end_sent) ∙ (ap (λ (l : Lists). length l) same ∙ length-map os total_of)
 
 -- where memory was found, what was sent over each end is the list that the node gave
-pub sound_end : (node : Node) (lists : Lists) (os : List Outgoing) (outs : List OutEnd) (lacked broke : Bool) → map end_sent outs ≡ map total_of os → Works node lists os lacked broke → lacked ≡ false → SoundEnd node lists outs
+pub sound_end : (node : Node) (lists : Lists) (os : List Outgoing) (outs : List OutEnd) (lacked broke : Bool) → map end_sent outs ≡ map total_of os → NodeWorks node lists os lacked broke → lacked ≡ false → SoundEnd node lists outs
 sound_end node lists os outs lacked broke same w found = let s = w.sound found in record { given = s.given; stands = s.stands; sent = ends_sent s.given os outs same s.all }
 
 -- what goes on isn't meant for an edge that is over
@@ -96,7 +96,7 @@ lost_end_at made lists os outs false same over s =
 
 -- where memory was lacking and each out edge is over, what was sent over each end is a lawful list and then
 -- one Broken
-pub lost_end : (node : Node) (lists : Lists) (os : List Outgoing) (outs : List OutEnd) (lacked broke : Bool) → map end_sent outs ≡ map total_of os → AllOver os → Works node lists os lacked broke → lacked ≡ true → LostEnd (made_of node) lists outs
+pub lost_end : (node : Node) (lists : Lists) (os : List Outgoing) (outs : List OutEnd) (lacked broke : Bool) → map end_sent outs ≡ map total_of os → AllOver os → NodeWorks node lists os lacked broke → lacked ≡ true → LostEnd (made_of node) lists outs
 lost_end node lists os outs lacked broke same over w lacks = lost_end_at (made_of node) lists os outs broke same over (w.lost lacks)
 
 -- where an out edge is over, each input is
@@ -111,10 +111,10 @@ over_lost : (made : PlanNode) (lists : Lists) (os : List Outgoing) (broke : Bool
 over_lost made lists os true over some s = s.over refl
 over_lost made lists os false over some s = absurd (not_over_yet s.given os over s.all s.goes 0 some)
 
-over_at : (node : Node) (lists : Lists) (os : List Outgoing) (lacked broke : Bool) → AllOver os → 0 < length os → Works node lists os lacked broke → all_over lists ≡ true
+over_at : (node : Node) (lists : Lists) (os : List Outgoing) (lacked broke : Bool) → AllOver os → 0 < length os → NodeWorks node lists os lacked broke → all_over lists ≡ true
 over_at node lists os false broke over some w = over_found node lists os over some (w.sound refl) (all_over lists) refl
 over_at node lists os true broke over some w = over_lost (made_of node) lists os broke over some (w.lost refl)
 
 -- where each out edge is over, and there is one, each input is over
-pub inputs_end : (node : Node) (lists : Lists) (os : List Outgoing) (outs : List OutEnd) (lacked broke : Bool) → map end_sent outs ≡ map total_of os → AllOver os → Works node lists os lacked broke → 0 < length outs → all_over lists ≡ true
+pub inputs_end : (node : Node) (lists : Lists) (os : List Outgoing) (outs : List OutEnd) (lacked broke : Bool) → map end_sent outs ≡ map total_of os → AllOver os → NodeWorks node lists os lacked broke → 0 < length outs → all_over lists ≡ true
 inputs_end node lists os outs lacked broke same over w some = over_at node lists os lacked broke over (omega (arith, some, ends_length os outs same)) w

@@ -6,7 +6,7 @@ use mathlib.Core.List.{IsPrefix}
 use Rattle.cedr_base.specs.declared.change.Message.{Message}
 use Rattle.cedr_base.specs.declared.level.Level.{Level}
 use Rattle.cedr_base.specs.Messages.{changes_of, mark_of, IsLegal}
-use Rattle.cedr_drive.specs.Driving.{MayTake}
+use Rattle.op_driver.specs.Driving.{MayTake}
 use Rattle.cedr_edge.specs.Ends.{InEnd}
 use Rattle.cedr_history.specs.declared.close.Close.{Close}
 use Rattle.cedr_history.specs.declared.close.Close.TheVariants as close
@@ -15,19 +15,19 @@ use Rattle.cedr_history.specs.Ends.{Writing}
 use Rattle.cedr_history.specs.Lists.{nothing, Extends}
 use Rattle.cedr_history.proofs.Fronts.{prefix_trans}
 use Rattle.cedr_history.proofs.Extending.{extends_self}
-use Rattle.cedr_laws.specs.Lists.{Lists, list_at}
-use Rattle.cedr_laws.specs.Lawful.{is_over, IsLawful}
-use Rattle.cedr_laws.specs.Pass.{pass, passed_of}
-use Rattle.cedr_laws.proofs.Giving.{lawful_echo}
-use Rattle.cedr_laws.proofs.Grows.{pass-push}
-use Rattle.cedr_laws.proofs.Passes.{passes}
+use Rattle.node_laws.specs.Lists.{Lists, list_at}
+use Rattle.node_laws.specs.Lawful.{is_over, IsLawful}
+use Rattle.node_laws.specs.Pass.{pass, passed_of}
+use Rattle.node_laws.proofs.Giving.{lawful_echo}
+use Rattle.node_laws.proofs.Grows.{pass-push}
+use Rattle.node_laws.proofs.Passes.{passes}
 use Rattle.cedr_node.specs.declared.node.Node.{Node}
 use Rattle.cedr_node.specs.Nodes.{made_of, NodeStands}
 use Rattle.cedr_node.proofs.NodeLemmas.{stands_lawful, stands_legal, stands_inputs}
 use Rattle.cedr_plan.specs.declared.plan.NodeKind.{NodeKind}
 use Rattle.cedr_plan.specs.declared.plan.NodeKind.TheVariants as kind
 use Rattle.cedr_plan.specs.declared.plan.PlanNode.{PlanNode}
-use Rattle.cedr_stream.proofs.Legal.{may_come_in}
+use Rattle.change_laws.proofs.Legal.{may_come_in}
 use Rattle.op_node.specs.Meanings.{node_meaning, meaning_of, port_levels}
 use Rattle.cedr_worker.specs.Inputs.{Asked, Took}
 use Rattle.cedr_worker.specs.Outputs.{list_from, passed_by, output_list, IsBeginning, WholeOutput, Writes, IsTold}
@@ -63,7 +63,7 @@ begins_more node node' taken m list made b =
     }
 
 -- a worker to which nothing came
-pub outputs_new : (node : Node) (w : Writing) → (made_of node).kind ≡ kind.Output → NodeStands node ([] ∷ []) [] → (w.published ≡ nothing) × (w.all ≡ nothing) × (w.told ≡ false) → Writes node [] w false false
+pub outputs_new : (node : Node) (w : Writing) → (made_of node).kind ≡ kind.Output → NodeStands node ([] ∷ []) [] → (w.published ≡ nothing) × (w.all ≡ nothing) × (w.concluded ≡ false) → Writes node [] w false false
 outputs_new node w out stands empty =
     let none = output_gave node [] [] out stands in
     let begins : IsBeginning node [] nothing = record { given = []; first = (passed_by node [], refl); list_is = refl } in
@@ -75,7 +75,7 @@ outputs_new node w out stands empty =
       shown = subst (λ (l : Listed). IsBeginning node [] l) (sym empty.0) begins;
       later = subst (λ (l : Listed). Extends l w.all) (empty.1 ∙ sym empty.0) (extends_self w.all);
       waits = empty.0 ∙ sym empty.1;
-      untold = empty.2;
+      unconcluded = empty.2;
     }
 
 -- a message on the one input may be taken on the node's one port
@@ -96,7 +96,7 @@ outputs_lost node node' taken m w lacked pending made legal o = record {
   shown = begins_more node node' taken m w.published made o.shown;
   later = o.later;
   waits = o.waits;
-  untold = o.untold;
+  unconcluded = o.unconcluded;
 }
 
 -- A message was taken while memory was found and nothing was pending, and the writer was handed what the node gave.
@@ -151,7 +151,7 @@ module _ (node node' : Node) (taken piece : List Message) (m : Message) (w w' : 
     shown = subst (λ (l : Listed). IsBeginning node' (taken ++ m ∷ []) l) (sym published_is) (begins_more node node' taken m w.published made o.shown);
     later = subst (λ (l : Listed). Extends l w'.all) was (subst (λ (l : Listed). Extends (list_from before) l) (sym all_is) (list_extends before told.done legal_done));
     waits = same_or_more told.done refl pending told.some;
-    untold = ap (λ (v : Writing). v.told) told.writer ∙ o.untold;
+    unconcluded = ap (λ (v : Writing). v.concluded) told.writer ∙ o.unconcluded;
   }
 
 -- the output's list goes on from a beginning

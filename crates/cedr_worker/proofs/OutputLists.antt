@@ -12,15 +12,15 @@ use Rattle.cedr_history.specs.declared.listed.Listed.{Listed}
 use Rattle.cedr_history.specs.Ends.{Writing}
 use Rattle.cedr_history.specs.Lists.{Extends}
 use Rattle.cedr_history.proofs.Extending.{extends_self}
-use Rattle.cedr_laws.specs.Lists.{mark_above}
-use Rattle.cedr_laws.specs.Lawful.{is_over}
-use Rattle.cedr_laws.specs.Pass.{front, itself, gained, additions, closing, answer, passed_of, pass}
-use Rattle.cedr_laws.proofs.Ends.{or_true}
-use Rattle.cedr_laws.proofs.Grows.{pass-push, pass-nil}
-use Rattle.cedr_laws.proofs.Induct.{by_legal}
-use Rattle.cedr_laws.proofs.Passes.{adds, additions_wrapped, passes}
-use Rattle.cedr_stream.specs.Repairs.{wrapped}
-use Rattle.cedr_stream.proofs.Legal.{changes-append, mark-append, open-wrapped, may_come_in, legal_first}
+use Rattle.node_laws.specs.Lists.{mark_above}
+use Rattle.node_laws.specs.Lawful.{is_over}
+use Rattle.node_laws.specs.Pass.{front, itself, gained, additions, closing, answer, passed_of, pass}
+use Rattle.node_laws.proofs.Ends.{or_true}
+use Rattle.node_laws.proofs.Grows.{pass-push, pass-nil}
+use Rattle.node_laws.proofs.Induct.{by_legal}
+use Rattle.node_laws.proofs.Passes.{adds, additions_wrapped, passes}
+use Rattle.change_laws.specs.Repairs.{wrapped}
+use Rattle.change_laws.proofs.Legal.{changes-append, mark-append, open-wrapped, may_come_in, legal_first}
 use Rattle.cedr_worker.specs.Outputs.{close_of, list_from}
 
 -- what goes on isn't closed

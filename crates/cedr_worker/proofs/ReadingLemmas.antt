@@ -13,16 +13,16 @@ use Rattle.cedr_text.specs.declared.event_line.Shape.{Shape}
 use Rattle.cedr_base.specs.declared.row.Row.{Row}
 use Rattle.cedr_guard.specs.declared.refusal.Refusal.{Refusal}
 use Rattle.cedr_guard.specs.declared.refusal.TheConstants.{FILE_LIMIT}
-use Rattle.cedr_guard.specs.Judging.{guarantee_of, event_of}
+use Rattle.cedr_guard.specs.Judging.{guarantee_of, event_with}
 use Rattle.cedr_guard.specs.Messages.{cut_of, message_of, messages_behind}
 use Rattle.cedr_guard.specs.Sources.{judged}
-use Rattle.cedr_laws.specs.Lawful.{is_over}
+use Rattle.node_laws.specs.Lawful.{is_over}
 use Rattle.cedr_edge.proofs.Lists.{not_over_append}
 use Rattle.cedr_source.specs.declared.lines.SourceLines.{SourceLines}
 use Rattle.cedr_source.specs.declared.step.SourceStep.{SourceStep}
 use Rattle.cedr_source.specs.declared.step.SourceStep.TheVariants as step
-use Rattle.cedr_source.specs.Reads.{Reads, is_ended}
-use Rattle.cedr_source.specs.Steps.{IsFrontOf, Tells, TellsLine, IsClosed, IsRefused}
+use Rattle.cedr_source.specs.Reads.{ReadsSource, is_ended}
+use Rattle.cedr_source.specs.Steps.{IsFrontOf, AnswersStep, TellsLine, IsClosedSource, IsRefused}
 use Rattle.cedr_source.proofs.ReadsLemmas.{gives_front}
 use Rattle.cedr_worker.specs.declared.reading.TheConstants.{BLOCK}
 use Rattle.cedr_worker.specs.declared.stop.SourceStop.{SourceStop}
@@ -42,7 +42,7 @@ mark_goes false time = refl
 
 message_goes : (before : List EventLine) (line : EventLine) → is_over (message_of before line) ≡ false
 message_goes before (Insert id row) = refl
-message_goes before (Retract id end) = cut_goes (event_of id before) end
+message_goes before (Retract id end) = cut_goes (event_with id before) end
 message_goes before (Promise time) = mark_goes (nat_lt (guarantee_of before) time) time
 
 messages_go : (before lines : List EventLine) → is_over (messages_behind before lines) ≡ false
@@ -52,7 +52,7 @@ messages_go before (line ∷ lines) = not_over_append (message_of before line) (
 -- ---- what was given
 
 -- what was given for the lines that were taken
-pub reads_given : (lines : SourceLines) (shape : Shape) (bytes : List ℕ) (given : List Message) → Reads lines shape bytes given → IsGiven shape bytes given (is_ended lines)
+pub reads_given : (lines : SourceLines) (shape : Shape) (bytes : List ℕ) (given : List Message) → ReadsSource lines shape bytes given → IsGiven shape bytes given (is_ended lines)
 reads_given lines shape bytes given reads =
     let law = gives_front lines shape bytes given reads in
     record { front = law.front; legal = law.legal; goes = ap (λ (ms : List Message). is_over ms) reads.messages ∙ messages_go [] reads.good }
@@ -70,26 +70,26 @@ pub given_still : (shape : Shape) (bytes : List ℕ) (given : List Message) (bef
 given_still shape bytes given before now same is =
     subst (λ (all : List ℕ). IsGiven shape all given now) (sym (append-nil bytes)) (subst (λ (e : Bool). IsGiven shape bytes given e) (sym same) is)
 
-still : (lines : SourceLines) (shape : Shape) (bytes : List ℕ) (given : List Message) → Reads lines shape bytes given → Reads lines shape (bytes ++ []) given
-still lines shape bytes given reads = subst (λ (all : List ℕ). Reads lines shape all given) (sym (append-nil bytes)) reads
+still : (lines : SourceLines) (shape : Shape) (bytes : List ℕ) (given : List Message) → ReadsSource lines shape bytes given → ReadsSource lines shape (bytes ++ []) given
+still lines shape bytes given reads = subst (λ (all : List ℕ). ReadsSource lines shape all given) (sym (append-nil bytes)) reads
 
 -- ---- a line is taken
 
 -- what is said of a line where the answer is this step
-pub told_as : (lines : SourceLines) (shape : Shape) (bytes : List ℕ) (given : List Message) (told : Option SourceStep) (now s : SourceStep) → told ≡ Some now → now ≡ s → TellsLine told lines shape bytes given → Tells s lines shape bytes given
-told_as lines shape bytes given told now s is is_now tells = subst (λ (t : SourceStep). Tells t lines shape bytes given) is_now (subst (λ (t : Option SourceStep). TellsLine t lines shape bytes given) is tells)
+pub told_as : (lines : SourceLines) (shape : Shape) (bytes : List ℕ) (given : List Message) (said : Option SourceStep) (now s : SourceStep) → said ≡ Some now → now ≡ s → TellsLine said lines shape bytes given → AnswersStep s lines shape bytes given
+told_as lines shape bytes given said now s is is_now tells = subst (λ (t : SourceStep). AnswersStep t lines shape bytes given) is_now (subst (λ (t : Option SourceStep). TellsLine t lines shape bytes given) is tells)
 
 -- what a stop says stays so when no byte was read
 stopped_still : (s : SourceStop) (shape : Shape) (bytes : List ℕ) (given : List Message) (ended : Bool) → StoppedAs s shape bytes given ended → StoppedAs s shape (bytes ++ []) given ended
 stopped_still s shape bytes given ended h = subst (λ (all : List ℕ). StoppedAs s shape all given ended) (sym (append-nil bytes)) h
 
-closed_as : (lines : SourceLines) (shape : Shape) (bytes : List ℕ) (given : List Message) → IsClosed lines shape bytes given → StoppedAs stop.Closed shape bytes given (is_ended lines)
+closed_as : (lines : SourceLines) (shape : Shape) (bytes : List ℕ) (given : List Message) → IsClosedSource lines shape bytes given → StoppedAs stop.Closed shape bytes given (is_ended lines)
 closed_as lines shape bytes given is = record { at_end = is.ended; faultless = is.faultless; all = is.all }
 
 refused_as : (lines : SourceLines) (shape : Shape) (bytes : List ℕ) (given : List Message) (refusal : Refusal) → IsRefused lines shape bytes given refusal → StoppedAs (stop.Refused refusal.line refusal.fault) shape bytes given (is_ended lines)
 refused_as lines shape bytes given refusal is = record { first = is.fault; all = is.all }
 
-module _ (old new : SourceLines) (rest : Option (List ℕ)) (count : ℕ) (shape : Shape) (bytes : List ℕ) (given : List Message) (reads : Reads old shape bytes given) (same : is_ended new ≡ is_ended old) where
+module _ (old new : SourceLines) (rest : Option (List ℕ)) (count : ℕ) (shape : Shape) (bytes : List ℕ) (given : List Message) (reads : ReadsSource old shape bytes given) (same : is_ended new ≡ is_ended old) where
   -- a step that reads no byte
   no_byte : (answer : Result (Option Message) SourceStop) → CountedSo (stop_of answer) count count → TellsStep answer new shape (bytes ++ []) given → TookStep answer old new rest rest count count shape bytes given
   no_byte answer counted tells = record {
@@ -106,15 +106,15 @@ module _ (old new : SourceLines) (rest : Option (List ℕ)) (count : ℕ) (shape
   skipped tells = no_byte (Ok None) refl (still new shape bytes given tells)
 
   -- a line's message
-  pub gave : (m : Message) → Tells (step.Message m) new shape bytes given → TookStep (Ok (Some m)) old new rest rest count count shape bytes given
+  pub gave : (m : Message) → AnswersStep (step.Message m) new shape bytes given → TookStep (Ok (Some m)) old new rest rest count count shape bytes given
   gave m tells = no_byte (Ok (Some m)) refl (still new shape bytes (given ++ m ∷ []) tells.0, tells.1)
 
   -- no line is left, and none comes
-  pub closed : Tells step.Closed new shape bytes given → TookStep (Err stop.Closed) old new rest rest count count shape bytes given
+  pub closed : AnswersStep step.Closed new shape bytes given → TookStep (Err stop.Closed) old new rest rest count count shape bytes given
   closed tells = no_byte (Err stop.Closed) refl (stopped_still stop.Closed shape bytes given (is_ended new) (closed_as new shape bytes given tells.1))
 
   -- a line with a fault
-  pub refused : (refusal : Refusal) → Tells (step.Refused refusal) new shape bytes given → TookStep (Err (stop.Refused refusal.line refusal.fault)) old new rest rest count count shape bytes given
+  pub refused : (refusal : Refusal) → AnswersStep (step.Refused refusal) new shape bytes given → TookStep (Err (stop.Refused refusal.line refusal.fault)) old new rest rest count count shape bytes given
   refused refusal tells =
       let s = stop.Refused refusal.line refusal.fault in
       no_byte (Err s) refl (stopped_still s shape bytes given (is_ended new) (refused_as new shape bytes given refusal tells))
@@ -126,7 +126,7 @@ module _ (old new : SourceLines) (rest : Option (List ℕ)) (count : ℕ) (shape
 -- ---- a block is read
 
 -- a read that was refused
-pub read_failed : (lines : SourceLines) (rest left : Option (List ℕ)) (count now : ℕ) (shape : Shape) (bytes : List ℕ) (given : List Message) → Reads lines shape bytes given → is_ended lines ≡ false → Keeps rest left → CountedSo (Some stop.ReadFault) count now
+pub read_failed : (lines : SourceLines) (rest left : Option (List ℕ)) (count now : ℕ) (shape : Shape) (bytes : List ℕ) (given : List Message) → ReadsSource lines shape bytes given → is_ended lines ≡ false → Keeps rest left → CountedSo (Some stop.ReadFault) count now
     → TookStep (Err stop.ReadFault) lines lines rest left count now shape bytes given
 read_failed lines rest left count now shape bytes given reads goes_on keeps counted = record {
   piece = [];
@@ -138,7 +138,7 @@ read_failed lines rest left count now shape bytes given reads goes_on keeps coun
 }
 
 -- a read that gave 0
-pub end_met : (old new : SourceLines) (rest left : Option (List ℕ)) (count now : ℕ) (shape : Shape) (bytes : List ℕ) (given : List Message) → Reads new shape bytes given → is_ended new ≡ true → Consumes rest left [] → IsAtEnd left → now ≡ count
+pub end_met : (old new : SourceLines) (rest left : Option (List ℕ)) (count now : ℕ) (shape : Shape) (bytes : List ℕ) (given : List Message) → ReadsSource new shape bytes given → is_ended new ≡ true → Consumes rest left [] → IsAtEnd left → now ≡ count
     → TookStep (Ok None) old new rest left count now shape bytes given
 end_met old new rest left count now shape bytes given reads ended consumed at counted = record {
   piece = [];
@@ -158,13 +158,13 @@ some_piece : (piece : List ℕ) → 0 < length piece → piece ≢ []
 some_piece piece some none = absurd (omega (arith, some, ap (λ (l : List ℕ). length l) none))
 
 -- less room is left after a piece, or it was more than there was room for
-room_falls : (old new : SourceLines) (shape : Shape) (bytes piece : List ℕ) (given : List Message) → Reads old shape bytes given → Reads new shape (bytes ++ piece) given → length bytes ≤ FILE_LIMIT → 0 < length piece
+room_falls : (old new : SourceLines) (shape : Shape) (bytes piece : List ℕ) (given : List Message) → ReadsSource old shape bytes given → ReadsSource new shape (bytes ++ piece) given → length bytes ≤ FILE_LIMIT → 0 < length piece
     → (b : Bool) → nat_lt FILE_LIMIT (length (bytes ++ piece)) ≡ b → (new.room < old.room) ⊎ ((old.over_limit ≡ false) × (new.over_limit ≡ true))
 room_falls old new shape bytes piece given reads more within some true over = inr (reads.over ∙ le-ltb FILE_LIMIT (length bytes) within, more.over ∙ over)
 room_falls old new shape bytes piece given reads more within some false over = inl (omega (arith, reads.room, more.room, some, ltb-false FILE_LIMIT (length (bytes ++ piece)) over, length-append bytes piece))
 
 -- a block that was fed
-pub block_read : (old new : SourceLines) (rest left : Option (List ℕ)) (count now : ℕ) (shape : Shape) (bytes piece : List ℕ) (given : List Message) → Reads new shape (bytes ++ piece) given → is_ended new ≡ false → Consumes rest left piece → now ≡ count
+pub block_read : (old new : SourceLines) (rest left : Option (List ℕ)) (count now : ℕ) (shape : Shape) (bytes piece : List ℕ) (given : List Message) → ReadsSource new shape (bytes ++ piece) given → is_ended new ≡ false → Consumes rest left piece → now ≡ count
     → TookStep (Ok None) old new rest left count now shape bytes given
 block_read old new rest left count now shape bytes piece given more goes_on consumed counted = record {
   piece = piece;
@@ -176,13 +176,13 @@ block_read old new rest left count now shape bytes piece given more goes_on cons
 }
 
 -- and some of its bytes were
-pub block_came : (old new : SourceLines) (rest left : Option (List ℕ)) (shape : Shape) (bytes piece : List ℕ) (given : List Message) → Reads old shape bytes given → Reads new shape (bytes ++ piece) given → length bytes ≤ FILE_LIMIT → 0 < length piece → length piece ≤ BLOCK
+pub block_came : (old new : SourceLines) (rest left : Option (List ℕ)) (shape : Shape) (bytes piece : List ℕ) (given : List Message) → ReadsSource old shape bytes given → ReadsSource new shape (bytes ++ piece) given → length bytes ≤ FILE_LIMIT → 0 < length piece → length piece ≤ BLOCK
     → Consumes rest left piece → BlockCame rest left old new
 block_came old new rest left shape bytes piece given reads more within some few consumed =
     inl (record { piece = piece; some = some_piece piece some; few = few; read = consumed; room = room_falls old new shape bytes piece given reads more within some (nat_lt FILE_LIMIT (length (bytes ++ piece))) refl })
 
 -- a block for which memory lacked
-pub block_lost : (old new : SourceLines) (rest left : Option (List ℕ)) (count now : ℕ) (shape : Shape) (bytes piece : List ℕ) (given : List Message) → Reads old shape bytes given → is_ended old ≡ false → is_ended new ≡ false → Consumes rest left piece → now ≡ count
+pub block_lost : (old new : SourceLines) (rest left : Option (List ℕ)) (count now : ℕ) (shape : Shape) (bytes piece : List ℕ) (given : List Message) → ReadsSource old shape bytes given → is_ended old ≡ false → is_ended new ≡ false → Consumes rest left piece → now ≡ count
     → TookStep (Err stop.OutOfMemory) old new rest left count now shape bytes given
 block_lost old new rest left count now shape bytes piece given reads went_on goes_on consumed counted = record {
   piece = piece;
@@ -211,13 +211,13 @@ room_behind : (old mid new : SourceLines) → mid.room ≡ old.room → mid.over
 room_behind old mid new room_is over_is (inl less) = inl (omega (arith, less, room_is))
 room_behind old mid new room_is over_is (inr passed) = inr (sym over_is ∙ passed.0, passed.1)
 
-came_behind : (old mid new : SourceLines) (rest left : Option (List ℕ)) (shape : Shape) (bytes : List ℕ) (given : List Message) → Reads old shape bytes given → Reads mid shape bytes given → is_ended mid ≡ is_ended old → BlockCame rest left mid new → BlockCame rest left old new
+came_behind : (old mid new : SourceLines) (rest left : Option (List ℕ)) (shape : Shape) (bytes : List ℕ) (given : List Message) → ReadsSource old shape bytes given → ReadsSource mid shape bytes given → is_ended mid ≡ is_ended old → BlockCame rest left mid new → BlockCame rest left old new
 came_behind old mid new rest left shape bytes given reads more same (inl read) =
     inl (record { piece = read.piece; some = read.some; few = read.few; read = read.read; room = room_behind old mid new (more.room ∙ sym reads.room) (more.over ∙ sym reads.over) read.room })
 came_behind old mid new rest left shape bytes given reads more same (inr met) = inr (sym same ∙ met.0, met.1)
 
 -- and so is the block that came
-pub advanced_behind : (answer : Result (Option Message) SourceStop) (old mid new : SourceLines) (rest left : Option (List ℕ)) (shape : Shape) (bytes : List ℕ) (given : List Message) → Reads old shape bytes given → Reads mid shape bytes given → is_ended mid ≡ is_ended old
+pub advanced_behind : (answer : Result (Option Message) SourceStop) (old mid new : SourceLines) (rest left : Option (List ℕ)) (shape : Shape) (bytes : List ℕ) (given : List Message) → ReadsSource old shape bytes given → ReadsSource mid shape bytes given → is_ended mid ≡ is_ended old
     → IfOk answer (λ _. BlockCame rest left mid new) → IfOk answer (λ _. Advanced rest left old new)
 advanced_behind (Ok m) old mid new rest left shape bytes given reads more same came = inr (came_behind old mid new rest left shape bytes given reads more same came)
 advanced_behind (Err s) old mid new rest left shape bytes given reads more same came = tt

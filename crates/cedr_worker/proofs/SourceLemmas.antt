@@ -6,14 +6,14 @@ use Rattle.std.proofs.KnownBytes.{Consumes-nil, Consumes-trans}
 use Rattle.cedr_base.specs.declared.change.Message.{Message}
 use Rattle.cedr_base.specs.declared.change.Message.TheVariants as message
 use Rattle.cedr_text.specs.declared.event_line.Shape.{Shape}
-use Rattle.cedr_laws.specs.Lawful.{is_over, has_broken}
-use Rattle.cedr_laws.specs.Pass.{has_end}
-use Rattle.cedr_laws.proofs.Ends.{broken-append}
+use Rattle.node_laws.specs.Lawful.{is_over, has_broken}
+use Rattle.node_laws.specs.Pass.{has_end}
+use Rattle.node_laws.proofs.Ends.{broken-append}
 use Rattle.cedr_edge.proofs.Lists.{over_append}
-use Rattle.cedr_outlet.specs.Outgoing.{Outgoing, last_message}
-use Rattle.cedr_outlet.specs.Outlets.{PutSoFar, NonePending, SomePending, AllOver, SomeOpen, AllTotal, AllStaged, SomePut, bare, sent_of, end_sent, total_of}
+use Rattle.worker_outlets.specs.Outgoing.{Outgoing, last_message}
+use Rattle.worker_outlets.specs.Outlets.{PutSoFar, NonePending, SomePending, AllOver, SomeOpen, AllTotal, AllStaged, SomePut, bare, sent_of, end_sent, total_of}
 use Rattle.cedr_source.specs.declared.lines.SourceLines.{SourceLines}
-use Rattle.cedr_source.specs.Reads.{Reads, is_ended, lines_left}
+use Rattle.cedr_source.specs.Reads.{ReadsSource, is_ended, lines_left}
 use Rattle.cedr_worker.specs.declared.source.SourceWorker.{SourceWorker}
 use Rattle.cedr_worker.specs.declared.reading.TheConstants.{BLOCK}
 use Rattle.cedr_worker.specs.declared.stop.SourceStop.{SourceStop}
@@ -77,7 +77,7 @@ module _ {S : Type 0} (rest : S → Option (List ℕ)) (faults : S → ℕ) (sha
 
   -- the record of a worker whose stop is known
   stands : (now : SourceWorker S) (s : Option SourceStop) (bytes : List ℕ) (given : List Message) → now.stop ≡ s → Consumes content (rest now.source) bytes → (is_ended now.lines ≡ true → IsAtEnd (rest now.source)) → IsGiven shape bytes given (is_ended now.lines)
-      → (s ≡ None → Reads now.lines shape bytes given × AllStaged [] now.outlets) → AllTotal (meant given s) now.outlets → StoppedSo s shape bytes given (is_ended now.lines) → CountedSo s count (faults now.source) → 0 < length now.outlets → length now.block.items ≡ BLOCK
+      → (s ≡ None → ReadsSource now.lines shape bytes given × AllStaged [] now.outlets) → AllTotal (meant given s) now.outlets → StoppedSo s shape bytes given (is_ended now.lines) → CountedSo s count (faults now.source) → 0 < length now.outlets → length now.block.items ≡ BLOCK
       → SourceWorks rest faults shape content count now
   stands now s bytes given is read at is_given goes total stopped counted some room = record {
     bytes = bytes;
@@ -94,7 +94,7 @@ module _ {S : Type 0} (rest : S → Option (List ℕ)) (faults : S → ℕ) (sha
   }
 
   -- nothing was read yet
-  pub new_works : (now : SourceWorker S) → now.stop ≡ None → content ≡ rest now.source → count ≡ faults now.source → Reads now.lines shape [] [] → is_ended now.lines ≡ false → AllTotal [] now.outlets → AllStaged [] now.outlets → 0 < length now.outlets → length now.block.items ≡ BLOCK
+  pub new_works : (now : SourceWorker S) → now.stop ≡ None → content ≡ rest now.source → count ≡ faults now.source → ReadsSource now.lines shape [] [] → is_ended now.lines ≡ false → AllTotal [] now.outlets → AllStaged [] now.outlets → 0 < length now.outlets → length now.block.items ≡ BLOCK
       → SourceWorks rest faults shape content count now
   new_works now none same counted reads goes_on total clean some room =
       stands now None [] [] none (subst (λ (c : Option (List ℕ)). Consumes c (rest now.source) []) (sym same) (Consumes-nil (rest now.source))) (λ ended. absurd (true≢false (sym ended ∙ goes_on))) (reads_given now.lines shape [] [] reads)
@@ -133,7 +133,7 @@ module _ {S : Type 0} (rest : S → Option (List ℕ)) (faults : S → ℕ) (sha
 
     -- a step, and what becomes of its answer
     pub step_works : (answer : Result (Option Message) SourceStop)
-        → ((shape : Shape) (bytes : List ℕ) (given : List Message) → Reads old.lines shape bytes given → TookStep answer old.lines now.lines (rest old.source) (rest now.source) (faults old.source) (faults now.source) shape bytes given)
+        → ((shape : Shape) (bytes : List ℕ) (given : List Message) → ReadsSource old.lines shape bytes given → TookStep answer old.lines now.lines (rest old.source) (rest now.source) (faults old.source) (faults now.source) shape bytes given)
         → ((given : List Message) → AllTotal given old.outlets → AllStaged [] old.outlets → Passed answer now.stop given now.outlets) → length now.outlets ≡ length old.outlets → length now.block.items ≡ length old.block.items → SourceWorks rest faults shape content count now
     step_works answer took passed edges block =
         let goes = works.goes_on none in

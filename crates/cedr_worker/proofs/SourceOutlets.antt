@@ -1,11 +1,11 @@
 -- What a round of puts, and what doesn't put, leave of the out edges.
 use Rattle.std.proofs.Common.{◌≡◌, ℕ, suc, ◌<◌, Bool, true, false, true≢false, List, [], ◌∷◌, ◌++◌, length, map, get_or, refl, sym, ap, ◌∙◌, append-nil, arith}
 use Rattle.cedr_base.specs.declared.change.Message.{Message}
-use Rattle.cedr_laws.specs.Lawful.{is_over}
-use Rattle.cedr_laws.proofs.Ends.{over_grows}
-use Rattle.cedr_outlet.specs.Outgoing.{Outgoing}
-use Rattle.cedr_outlet.specs.Outlets.{PutSoFar, NonePending, SomePending, AllOver, SomeOpen, AllTotal, AllStaged, SomePut, SomeFull, total_of, sent_of, bare}
-use Rattle.cedr_outlet.proofs.RoundLemmas.{map_length, same_at}
+use Rattle.node_laws.specs.Lawful.{is_over}
+use Rattle.node_laws.proofs.Ends.{over_grows}
+use Rattle.worker_outlets.specs.Outgoing.{Outgoing}
+use Rattle.worker_outlets.specs.Outlets.{PutSoFar, NonePending, SomePending, AllOver, SomeOpen, AllTotal, AllStaged, SomePut, SomeFull, total_of, sent_of, bare}
+use Rattle.worker_outlets.proofs.RoundLemmas.{map_length, same_at}
 use Rattle.cedr_worker.proofs.TurnLemmas.{element}
 
 -- ---- what doesn't put

@@ -2,10 +2,10 @@
 use Rattle.std.proofs.Common.{◌≡◌, ◌≢◌, ℕ, ◌+◌, ◌<◌, Bool, List, [], ◌∷◌, ◌++◌, length, map, get_or, inl, inr, ap, ◌∙◌, arith}
 use Rattle.std.proofs.lemmas.List.{length-append}
 use Rattle.cedr_base.specs.declared.change.Message.{Message}
-use Rattle.cedr_edge.specs.Ends.{raised}
-use Rattle.cedr_outlet.specs.Outgoing.{Outgoing}
-use Rattle.cedr_outlet.specs.Outlets.{PutSoFar, Tried, AllTotal, bare, total_of}
-use Rattle.cedr_outlet.proofs.RoundLemmas.{same_at, map_length}
+use Rattle.cedr_base.specs.Counters.{raised}
+use Rattle.worker_outlets.specs.Outgoing.{Outgoing}
+use Rattle.worker_outlets.specs.Outlets.{PutSoFar, Tried, AllTotal, bare, total_of}
+use Rattle.worker_outlets.proofs.RoundLemmas.{same_at, map_length}
 use Rattle.cedr_worker.specs.Tries.{TriedOn, AllTried}
 
 -- what is done to an edge after its put leaves what was sent and refused

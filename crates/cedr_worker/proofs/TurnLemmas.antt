@@ -4,26 +4,27 @@ use Rattle.std.proofs.lemmas.Bool.{or_parts}
 use Rattle.std.proofs.lemmas.List.{length-append, append-nil}
 use Rattle.cedr_base.specs.declared.change.Message.{Message}
 use Rattle.cedr_base.specs.declared.change.Message.TheVariants as message
-use Rattle.cedr_edge.specs.Ends.{InEnd, raised}
-use Rattle.cedr_laws.specs.Lists.{Lists}
-use Rattle.cedr_laws.specs.Lawful.{is_over, all_over}
+use Rattle.cedr_edge.specs.Ends.{InEnd, taken_of}
+use Rattle.cedr_base.specs.Counters.{raised}
+use Rattle.node_laws.specs.Lists.{Lists}
+use Rattle.node_laws.specs.Lawful.{is_over, all_over}
 use Rattle.cedr_node.specs.declared.node.Node.{Node}
-use Rattle.cedr_outlet.specs.Outgoing.{Outgoing}
-use Rattle.cedr_outlet.specs.Outlets.{AllTotal, PutSoFar, NonePending, SomePending, SomePut, SomeFull, AllOver, SomeOpen, total_of, bare, edge_of, sent_of}
-use Rattle.cedr_outlet.proofs.RoundLemmas.{map_ext, map_length, same_at}
+use Rattle.worker_outlets.specs.Outgoing.{Outgoing}
+use Rattle.worker_outlets.specs.Outlets.{AllTotal, PutSoFar, NonePending, SomePending, SomePut, SomeFull, AllOver, SomeOpen, total_of, bare, outlet_edge, sent_of}
+use Rattle.worker_outlets.proofs.RoundLemmas.{map_ext, map_length, same_at}
 use Rattle.cedr_worker.proofs.TryLemmas.{all_tried, all_tried_before}
-use Rattle.cedr_worker.specs.Inputs.{TakenSoFar, KeptIn, Took, SomeTaken, AllEmpty, taken_of, taken_in, input_edge}
-use Rattle.cedr_worker.specs.Operators.{Works, MovedTurn, IdleTurn, TurnSteps, TurnDone}
+use Rattle.cedr_worker.specs.Inputs.{TakenSoFar, KeptIn, Took, SomeTaken, AllEmpty, taken_in, input_edge}
+use Rattle.cedr_worker.specs.Operators.{NodeWorks, MovedTurn, IdleTurn, TurnSteps, TurnDone}
 use Rattle.cedr_worker.proofs.WorkLemmas.{input_open}
 
 -- where memory was lacking and no break is pending yet, one may be
-pub may_close : (node : Node) (lists : Lists) (os : List Outgoing) (broke : Bool) → broke ≡ false → Works node lists os true broke → (given : List Message) × AllTotal given os × (is_over given ≡ false)
+pub may_close : (node : Node) (lists : Lists) (os : List Outgoing) (broke : Bool) → broke ≡ false → NodeWorks node lists os true broke → (given : List Message) × AllTotal given os × (is_over given ≡ false)
 may_close node lists os true e w = absurd (true≢false e)
 may_close node lists os false e w = let s = w.lost refl in (s.given, s.all, s.goes)
 
 -- where memory was lacking and each input is over, the worker works on with a Broken meant for each out edge
-pub works_closed : (node : Node) (lists : Lists) (old new : List Outgoing) (broke : Bool) → broke ≡ false → all_over lists ≡ true → ((given : List Message) → AllTotal given old → AllTotal (given ++ message.Broken ∷ []) new) → Works node lists old true broke
-    → Works node lists new true true
+pub works_closed : (node : Node) (lists : Lists) (old new : List Outgoing) (broke : Bool) → broke ≡ false → all_over lists ≡ true → ((given : List Message) → AllTotal given old → AllTotal (given ++ message.Broken ∷ []) new) → NodeWorks node lists old true broke
+    → NodeWorks node lists new true true
 works_closed node lists old new true e over closed w = absurd (true≢false e)
 works_closed node lists old new false e over closed w = record {
   sound = λ e'. absurd (true≢false e');
@@ -36,8 +37,8 @@ pub bare_at : (old new : List Outgoing) (k : ℕ) (d : Outgoing) → map bare ne
 bare_at old new k d e = same_at bare new old k d e
 
 -- where the edges, what was sent and what was refused stay, so do the edges, in order
-pub bare_edges : (old new : List Outgoing) → map bare new ≡ map bare old → map edge_of new ≡ map edge_of old
-bare_edges old new e = map_ext edge_of old new (map_length bare new old e) (λ k d less. ap edge_of (bare_at old new k d e))
+pub bare_edges : (old new : List Outgoing) → map bare new ≡ map bare old → map outlet_edge new ≡ map outlet_edge old
+bare_edges old new e = map_ext outlet_edge old new (map_length bare new old e) (λ k d less. ap outlet_edge (bare_at old new k d e))
 
 -- and so does what was sent over each edge
 pub bare_sent : (old new : List Outgoing) → map bare new ≡ map bare old → map sent_of new ≡ map sent_of old
@@ -45,8 +46,8 @@ bare_sent old new e = map_ext sent_of old new (map_length bare new old e) (λ k 
 
 -- what a round of puts leaves
 module _ (old new : List Outgoing) (moved : Bool) (puts : PutSoFar old new moved (length old)) where
-  pub puts_edges : map edge_of new ≡ map edge_of old
-  puts_edges = map_ext edge_of old new puts.length_is (λ k d less. (puts.kept k d less less).kept.edge)
+  pub puts_edges : map outlet_edge new ≡ map outlet_edge old
+  puts_edges = map_ext outlet_edge old new puts.length_is (λ k d less. (puts.kept k d less less).kept.edge)
 
   pub puts_totals : map total_of new ≡ map total_of old
   puts_totals = map_ext total_of old new puts.length_is (λ k d less. (puts.kept k d less less).kept.total)
@@ -128,7 +129,7 @@ module _ (old closed put new : List Outgoing) (inputs inputs' : List InEnd) (mov
   new_sent : (k : ℕ) (d : Outgoing) → (get_or new k d).sent ≡ (get_or put k d).sent
   new_sent k d = ap sent_of (bare_at put new k d bares)
 
-  turn_edges : map edge_of new ≡ map edge_of old
+  turn_edges : map outlet_edge new ≡ map outlet_edge old
   turn_edges = bare_edges put new bares ∙ (puts_edges closed put moved puts ∙ bare_edges old closed closes)
 
   turn_inputs : map input_edge inputs' ≡ map input_edge inputs

@@ -3,25 +3,25 @@ use Rattle.std.proofs.Common.{◌≡◌, ℕ, zero, suc, ◌<◌, Bool, true, fa
 use Rattle.std.proofs.lemmas.List.{length-map, map-set, get_or_default}
 use Rattle.cedr_base.specs.declared.change.Message.{Message}
 use Rattle.cedr_base.specs.Messages.{IsLegal, MayCome}
-use Rattle.cedr_drive.specs.Driving.{MayTake}
-use Rattle.cedr_edge.specs.Ends.{InEnd}
-use Rattle.cedr_laws.specs.Lists.{Lists, list_at, with_more}
-use Rattle.cedr_laws.specs.Lawful.{is_over, all_over}
-use Rattle.cedr_laws.proofs.Ends.{over_open, open_not_over}
-use Rattle.cedr_laws.proofs.Giving.{lawful_legal, lawful_opened}
+use Rattle.op_driver.specs.Driving.{MayTake}
+use Rattle.cedr_edge.specs.Ends.{InEnd, taken_of}
+use Rattle.node_laws.specs.Lists.{Lists, list_at, with_more}
+use Rattle.node_laws.specs.Lawful.{is_over, all_over}
+use Rattle.node_laws.proofs.Ends.{over_open, open_not_over}
+use Rattle.node_laws.proofs.Giving.{lawful_legal, lawful_opened}
 use Rattle.cedr_node.specs.declared.node.Node.{Node}
 use Rattle.cedr_node.specs.Nodes.{made_of, NodeStands}
 use Rattle.cedr_node.proofs.NodeLemmas.{stands_lawful, stands_legal}
-use Rattle.cedr_outlet.specs.Outgoing.{Outgoing}
-use Rattle.cedr_outlet.specs.Outlets.{AllTotal, AllStaged, total_of}
-use Rattle.cedr_outlet.proofs.FanLemmas.{totals_stay}
-use Rattle.cedr_outlet.proofs.RoundLemmas.{map_at, same_at, map_length}
+use Rattle.worker_outlets.specs.Outgoing.{Outgoing}
+use Rattle.worker_outlets.specs.Outlets.{AllTotal, AllStaged, total_of}
+use Rattle.worker_outlets.proofs.FanLemmas.{totals_stay}
+use Rattle.worker_outlets.proofs.RoundLemmas.{map_at, same_at, map_length}
 use Rattle.cedr_plan.specs.declared.plan.PlanNode.{PlanNode}
-use Rattle.cedr_runs.specs.Runs.{ArePrefixes}
-use Rattle.cedr_runs.proofs.Partial.{prefixes_itself}
-use Rattle.cedr_stream.proofs.Legal.{may_come_in}
-use Rattle.cedr_worker.specs.Inputs.{taken_of, taken_in}
-use Rattle.cedr_worker.specs.Operators.{Sound, Lost, Works, with_break}
+use Rattle.plan_runs.specs.Runs.{ArePrefixes}
+use Rattle.plan_runs.proofs.Partial.{prefixes_itself}
+use Rattle.change_laws.proofs.Legal.{may_come_in}
+use Rattle.cedr_worker.specs.Inputs.{taken_in}
+use Rattle.cedr_worker.specs.Operators.{Sound, Lost, NodeWorks, with_break}
 use Rattle.op_node.specs.Meanings.{meaning_of, port_levels}
 
 -- what a standing node gave is legal
@@ -47,8 +47,8 @@ pub staged_stay : (piece : List Message) (old new : List Outgoing) → map (λ (
 staged_stay piece old new e all k d less = same_at (λ (o : Outgoing). o.staged) new old k d e ∙ all k d (omega (arith, less, map_length (λ (o : Outgoing). o.staged) new old e))
 
 -- a worker whose memory lacked, or not, goes on over out edges with the same totals
-pub works_outlets : (node : Node) (lists : Lists) (old new : List Outgoing) (lacked broke : Bool) → map total_of new ≡ map total_of old → map (λ (o : Outgoing). o.staged) new ≡ map (λ (o : Outgoing). o.staged) old → Works node lists old lacked broke
-    → Works node lists new lacked broke
+pub works_outlets : (node : Node) (lists : Lists) (old new : List Outgoing) (lacked broke : Bool) → map total_of new ≡ map total_of old → map (λ (o : Outgoing). o.staged) new ≡ map (λ (o : Outgoing). o.staged) old → NodeWorks node lists old lacked broke
+    → NodeWorks node lists new lacked broke
 works_outlets node lists old new lacked broke totals staged w = record {
   sound = λ e. let s = w.sound e in record { given = s.given; stands = s.stands; all = totals_stay s.given old new totals s.all; clean = staged_stay [] old new staged s.clean };
   lost = λ e.
@@ -88,7 +88,7 @@ lost_still made lists old new port m broke totals may s = record {
 -- a worker goes on after a message that was taken
 pub works_taken : (node node' : Node) (lists : Lists) (old new : List Outgoing) (port : ℕ) (m : Message) (lacked lacked' broke : Bool) → made_of node' ≡ made_of node → MayTake lists port m
     → (lacked' ≡ false → (lacked ≡ false) × (Sound node lists old → Sound node' (with_more lists port (m ∷ [])) new)) → (lacked' ≡ true → map total_of new ≡ map total_of old)
-    → Works node lists old lacked broke → Works node' (with_more lists port (m ∷ [])) new lacked' broke
+    → NodeWorks node lists old lacked broke → NodeWorks node' (with_more lists port (m ∷ [])) new lacked' broke
 works_taken node node' lists old new port m false lacked' broke made may kept totals w = record {
   sound = λ e. (kept e).1 (w.sound refl);
   lost = λ e. subst (λ (n : PlanNode). Lost n (with_more lists port (m ∷ [])) new broke) (sym made) (lost_now node lists old new port m broke (w.whole refl) (totals e) may (w.sound refl));

@@ -2,14 +2,11 @@
 use Rattle.std.specs.Prelude.{◌≡◌, ◌⊎◌, ℕ, ◌<◌, Bool, true, false, List, [], ◌∷◌, ◌++◌, length, map, slice_index_or, slice_set, sum_by}
 use Rattle.atomic_table.specs.Seated.{TableId}
 use Rattle.cedr_base.specs.declared.change.Message.{Message}
-use Rattle.cedr_edge.specs.Ends.{InEnd, raised}
-use Rattle.cedr_laws.specs.Lawful.{is_over}
-use Rattle.cedr_laws.specs.Lists.{Lists}
-use Rattle.cedr_outlet.specs.Rounds.{Round}
-
--- what was taken from an input
-abbrev pub taken_of : InEnd → List Message
-taken_of e = e.taken
+use Rattle.cedr_edge.specs.Ends.{InEnd, taken_of}
+use Rattle.cedr_base.specs.Counters.{raised}
+use Rattle.node_laws.specs.Lawful.{is_over}
+use Rattle.node_laws.specs.Lists.{Lists}
+use Rattle.worker_outlets.specs.Rounds.{Round}
 
 -- the edge of an input
 abbrev pub input_edge : InEnd → TableId

@@ -5,14 +5,14 @@ use Rattle.cedr_base.specs.declared.change.Message.{Message}
 use Rattle.cedr_base.specs.declared.change.Message.TheVariants as message
 use Rattle.cedr_base.specs.Messages.{IsLegal}
 use Rattle.cedr_edge.specs.Ends.{InEnd, OutEnd}
-use Rattle.cedr_laws.specs.Lists.{Lists}
-use Rattle.cedr_laws.specs.Lawful.{is_over, all_over, has_broken, IsLawful}
+use Rattle.node_laws.specs.Lists.{Lists}
+use Rattle.node_laws.specs.Lawful.{is_over, all_over, has_broken, IsLawful}
 use Rattle.cedr_node.specs.declared.node.Node.{Node}
 use Rattle.cedr_node.specs.Nodes.{made_of, NodeStands}
-use Rattle.cedr_outlet.specs.Outgoing.{Outgoing}
-use Rattle.cedr_outlet.specs.Outlets.{AllTotal, AllStaged, NonePending, SomePut, SomeFull, edge_of, sent_of, total_of}
+use Rattle.worker_outlets.specs.Outgoing.{Outgoing}
+use Rattle.worker_outlets.specs.Outlets.{AllTotal, AllStaged, NonePending, SomePut, SomeFull, outlet_edge, sent_of, total_of}
 use Rattle.cedr_plan.specs.declared.plan.PlanNode.{PlanNode}
-use Rattle.cedr_runs.specs.Runs.{ArePrefixes}
+use Rattle.plan_runs.specs.Runs.{ArePrefixes}
 use Rattle.cedr_worker.specs.Inputs.{KeptIn, SomeTaken, AllEmpty, taken_in, input_edge}
 use Rattle.cedr_worker.specs.Tries.{AllTried}
 use Rattle.op_node.specs.Meanings.{meaning_of, port_levels}
@@ -42,7 +42,7 @@ pub record Lost (made : PlanNode) (lists : Lists) (outlets : List Outgoing) (bro
   pub over : broke ≡ true → all_over lists ≡ true
 
 -- what holds at every moment
-pub record Works (node : Node) (lists : Lists) (outlets : List Outgoing) (lacked broke : Bool) : Type 0 where
+pub record NodeWorks (node : Node) (lists : Lists) (outlets : List Outgoing) (lacked broke : Bool) : Type 0 where
   pub sound : lacked ≡ false → Sound node lists outlets
   pub lost : lacked ≡ true → Lost (made_of node) lists outlets broke
   pub whole : lacked ≡ false → broke ≡ false
@@ -68,7 +68,7 @@ pub record TurnSteps (old new : List Outgoing) (inputs inputs' : List InEnd) : T
 -- what the two rounds of a turn, first of puts and then of takes, came to
 pub record TurnDone (old new : List Outgoing) (inputs inputs' : List InEnd) (moved : Bool) : Type 0 where
   pub in_edges : map input_edge inputs' ≡ map input_edge inputs
-  pub out_edges : map edge_of new ≡ map edge_of old
+  pub out_edges : map outlet_edge new ≡ map outlet_edge old
   pub happened : moved ≡ true → MovedTurn old new inputs inputs'
   pub idle : moved ≡ false → IdleTurn old new inputs inputs'
   pub steps : TurnSteps old new inputs inputs'

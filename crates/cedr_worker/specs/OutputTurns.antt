@@ -1,16 +1,16 @@
 -- What the turns of an output's worker come to.
 use Rattle.std.specs.Prelude.{◌≡◌, ◌≢◌, ◌⊎◌, true, false, Option, IfSome, IfNone}
 use Rattle.cedr_history.specs.declared.close.Close.TheVariants as close
-use Rattle.cedr_history.specs.Ends.{Told, Writing}
+use Rattle.cedr_history.specs.Ends.{NoteSeen, Writing}
 use Rattle.cedr_history.specs.Lists.{nothing}
-use Rattle.cedr_laws.specs.Lawful.{is_over}
+use Rattle.node_laws.specs.Lawful.{is_over}
 use Rattle.cedr_node.specs.Nodes.{made_of}
 use Rattle.cedr_worker.specs.declared.output.OutputWorker.{OutputWorker}
 use Rattle.cedr_worker.specs.Inputs.{Asked, Took}
 use Rattle.cedr_worker.specs.Outputs.{Writes}
 
 -- the note says the published list, and isn't the last one; where there is no note, nothing was published
-pub record IsNoted (note : Option Told) (w : Writing) : Type 0 where
+pub record IsNoted (note : Option NoteSeen) (w : Writing) : Type 0 where
   pub some : IfSome note (λ n. n ≡ record { history = w.history; list = w.published; last = false })
   pub none : IfNone note (w.published ≡ nothing)
 
@@ -28,8 +28,8 @@ pub record SameOutput (old new : OutputWorker) : Type 0 where
   pub history : new.writer.history ≡ old.writer.history
 
 -- the list is published with its close, or memory was lacking and the input is over
-abbrev pub HasEnded : OutputWorker → Type 0
-HasEnded worker = (worker.writer.published.close ≢ close.Open) ⊎ ((worker.lacked ≡ true) × (is_over worker.input.taken ≡ true))
+abbrev pub OutputHasEnded : OutputWorker → Type 0
+OutputHasEnded worker = (worker.writer.published.close ≢ close.Open) ⊎ ((worker.lacked ≡ true) × (is_over worker.input.taken ≡ true))
 
 -- a message was taken, or more was published
 abbrev pub MovedOutput : OutputWorker → OutputWorker → Type 0

@@ -9,7 +9,7 @@ use Rattle.cedr_history.specs.declared.close.Close.TheVariants as close
 use Rattle.cedr_history.specs.declared.listed.Listed.{Listed}
 use Rattle.cedr_history.specs.Ends.{Writing}
 use Rattle.cedr_history.specs.Lists.{Extends}
-use Rattle.cedr_laws.specs.Pass.{pass}
+use Rattle.node_laws.specs.Pass.{pass}
 use Rattle.cedr_node.specs.declared.node.Node.{Node}
 use Rattle.cedr_node.specs.Nodes.{made_of, NodeStands}
 use Rattle.cedr_plan.specs.declared.plan.NodeKind.TheVariants as kind
@@ -57,7 +57,7 @@ pub record Writes (node : Node) (taken : List Message) (w : Writing) (lacked pen
   pub shown : IsBeginning node taken w.published
   pub later : Extends w.published w.all
   pub waits : MatchBool pending (w.published ≢ w.all) (w.published ≡ w.all)
-  pub untold : w.told ≡ false
+  pub unconcluded : w.concluded ≡ false
 
 -- a writer was handed the first messages of a piece, and all of them where memory was found. Something is pending where
 -- it was handed some

@@ -5,10 +5,10 @@ use Rattle.cedr_base.specs.declared.change.Message.{Message}
 use Rattle.cedr_base.specs.declared.change.Message.TheVariants as message
 use Rattle.cedr_base.specs.Messages.{IsLegal}
 use Rattle.cedr_text.specs.declared.event_line.Shape.{Shape}
-use Rattle.cedr_outlet.specs.Outgoing.{Outgoing, last_message}
-use Rattle.cedr_outlet.specs.Outlets.{AllTotal, AllStaged}
+use Rattle.worker_outlets.specs.Outgoing.{Outgoing, last_message}
+use Rattle.worker_outlets.specs.Outlets.{AllTotal, AllStaged}
 use Rattle.cedr_source.specs.declared.lines.SourceLines.{SourceLines}
-use Rattle.cedr_source.specs.Reads.{Reads, is_ended, lines_left}
+use Rattle.cedr_source.specs.Reads.{ReadsSource, is_ended, lines_left}
 use Rattle.cedr_worker.specs.declared.reading.TheConstants.{BLOCK}
 use Rattle.cedr_worker.specs.declared.stop.SourceStop.{SourceStop}
 use Rattle.cedr_worker.specs.declared.stop.SourceStop.TheVariants as stop
@@ -49,8 +49,8 @@ stop_of (Err s) = Some s
 
 -- a message, nothing, or that the source stopped
 abbrev pub TellsStep : Result (Option Message) SourceStop → SourceLines → Shape → List ℕ → List Message → Type 0
-TellsStep (Ok (Some m)) lines shape bytes given = Reads lines shape bytes (given ++ m ∷ []) × IsLegal (given ++ m ∷ [])
-TellsStep (Ok None) lines shape bytes given = Reads lines shape bytes given
+TellsStep (Ok (Some m)) lines shape bytes given = ReadsSource lines shape bytes (given ++ m ∷ []) × IsLegal (given ++ m ∷ [])
+TellsStep (Ok None) lines shape bytes given = ReadsSource lines shape bytes given
 TellsStep (Err s) lines shape bytes given = StoppedAs s shape bytes given (is_ended lines)
 
 -- What a step did, where these bytes were read and these messages given before it: from what was left of the source to

@@ -1,9 +1,9 @@
 -- What a turn of a source's worker did.
 use Rattle.std.specs.Prelude.{ℕ, ◌≡◌, ◌⊎◌, true, List, map, Option, None, IsSome}
 use Rattle.std.specs.List.{All}
-use Rattle.cedr_laws.specs.Lawful.{has_broken}
-use Rattle.cedr_outlet.specs.Outgoing.{Outgoing}
-use Rattle.cedr_outlet.specs.Outlets.{SomeFull, edge_of, sent_of}
+use Rattle.node_laws.specs.Lawful.{has_broken}
+use Rattle.worker_outlets.specs.Outgoing.{Outgoing}
+use Rattle.worker_outlets.specs.Outlets.{SomeFull, outlet_edge, sent_of}
 use Rattle.cedr_worker.specs.declared.source.SourceWorker.{SourceWorker}
 use Rattle.cedr_worker.specs.declared.stop.SourceStop.{SourceStop}
 use Rattle.cedr_worker.specs.SourceSteps.{Advanced}
@@ -20,7 +20,7 @@ Stepped rest old new = Advanced (rest old.source) (rest new.source) old.lines ne
 -- the number and the out edges stay, in order
 pub record SameSource {S : Type 0} (old new : SourceWorker S) : Type 0 where
   pub number : new.number ≡ old.number
-  pub edges : map edge_of new.outlets ≡ map edge_of old.outlets
+  pub edges : map outlet_edge new.outlets ≡ map outlet_edge old.outlets
 
 -- nothing happened: a pending message met a full queue in this turn
 pub record Rests {S : Type 0} (old new : SourceWorker S) : Type 0 where

@@ -5,9 +5,9 @@ use Rattle.std.specs.Io.KnownBytes.{Consumes, IsAtEnd}
 use Rattle.cedr_base.specs.declared.change.Message.{Message}
 use Rattle.cedr_text.specs.declared.event_line.Shape.{Shape}
 use Rattle.cedr_edge.specs.Ends.{OutEnd}
-use Rattle.cedr_outlet.specs.Outgoing.{last_message}
-use Rattle.cedr_outlet.specs.Outlets.{AllTotal, AllStaged}
-use Rattle.cedr_source.specs.Reads.{Reads, is_ended}
+use Rattle.worker_outlets.specs.Outgoing.{last_message}
+use Rattle.worker_outlets.specs.Outlets.{AllTotal, AllStaged}
+use Rattle.cedr_source.specs.Reads.{ReadsSource, is_ended}
 use Rattle.cedr_worker.specs.declared.reading.TheConstants.{BLOCK}
 use Rattle.cedr_worker.specs.declared.source.SourceWorker.{SourceWorker}
 use Rattle.cedr_worker.specs.declared.source.SourceEnd.{SourceEnd}
@@ -22,7 +22,7 @@ pub record SourceWorks {S : Type 0} (rest : S → Option (List ℕ)) (faults : S
   pub read : Consumes content (rest worker.source) bytes
   pub at_end : is_ended worker.lines ≡ true → IsAtEnd (rest worker.source)
   pub is_given : IsGiven shape bytes given (is_ended worker.lines)
-  pub goes_on : worker.stop ≡ None → Reads worker.lines shape bytes given × AllStaged [] worker.outlets
+  pub goes_on : worker.stop ≡ None → ReadsSource worker.lines shape bytes given × AllStaged [] worker.outlets
   -- they are meant for each out edge, and once the source stopped one last message is
   pub total : AllTotal (meant given worker.stop) worker.outlets
   pub stopped : StoppedSo worker.stop shape bytes given (is_ended worker.lines)

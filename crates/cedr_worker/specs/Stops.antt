@@ -8,10 +8,10 @@ use Rattle.cedr_text.specs.declared.fault.LineFault.{LineFault}
 use Rattle.cedr_guard.specs.Messages.{messages_behind}
 use Rattle.cedr_guard.specs.Sources.{judged, messages_of}
 use Rattle.cedr_io.specs.Counts.{Rose}
-use Rattle.cedr_laws.specs.Lawful.{is_over}
-use Rattle.cedr_outlet.specs.declared.last.Last.{Last}
-use Rattle.cedr_outlet.specs.declared.last.Last.TheVariants as last
-use Rattle.cedr_outlet.specs.Outgoing.{last_message}
+use Rattle.node_laws.specs.Lawful.{is_over}
+use Rattle.worker_outlets.specs.declared.last.Last.{Last}
+use Rattle.worker_outlets.specs.declared.last.Last.TheVariants as last
+use Rattle.worker_outlets.specs.Outgoing.{last_message}
 use Rattle.cedr_source.specs.Steps.{IsFrontOf}
 use Rattle.cedr_worker.specs.declared.stop.SourceStop.{SourceStop}
 use Rattle.cedr_worker.specs.declared.stop.SourceStop.TheVariants as stop
@@ -29,12 +29,12 @@ meant given None = given
 meant given (Some s) = given ++ last_message (last_at s) ∷ []
 
 -- the bytes that may still come: none where a read gave 0
-abbrev pub MayCome : Bool → List ℕ → Type 0
-MayCome ended more = ended ≡ true → more ≡ []
+abbrev pub BytesMayCome : Bool → List ℕ → Type 0
+BytesMayCome ended more = ended ≡ true → more ≡ []
 
 -- these are the first messages of the good lines of all bytes, whatever may still come after the bytes read
 pub record IsGiven (shape : Shape) (bytes : List ℕ) (given : List Message) (ended : Bool) : Type 0 where
-  pub front : (more : List ℕ) → MayCome ended more → IsFrontOf given (messages_behind [] (judged shape (bytes ++ more)).good)
+  pub front : (more : List ℕ) → BytesMayCome ended more → IsFrontOf given (messages_behind [] (judged shape (bytes ++ more)).good)
   pub legal : IsLegal given
   pub goes : is_over given ≡ false
 
@@ -46,8 +46,8 @@ pub record ClosedAs (shape : Shape) (bytes : List ℕ) (given : List Message) (e
 
 -- this is the first line with a fault, whatever may still come, and the messages of all lines before it were given
 pub record RefusedAs (shape : Shape) (bytes : List ℕ) (given : List Message) (ended : Bool) (line : ℕ) (fault : LineFault) : Type 0 where
-  pub first : (more : List ℕ) → MayCome ended more → (judged shape (bytes ++ more)).fault ≡ Some (record { line = line; fault = fault })
-  pub all : (more : List ℕ) → MayCome ended more → given ≡ messages_behind [] (judged shape (bytes ++ more)).good
+  pub first : (more : List ℕ) → BytesMayCome ended more → (judged shape (bytes ++ more)).fault ≡ Some (record { line = line; fault = fault })
+  pub all : (more : List ℕ) → BytesMayCome ended more → given ≡ messages_behind [] (judged shape (bytes ++ more)).good
 
 -- what a stop says of the bytes read and the messages given; a refused read comes after none that gave 0
 abbrev pub StoppedAs : SourceStop → Shape → List ℕ → List Message → Bool → Type 0

@@ -1,8 +1,8 @@
 -- What a turn tries on each out edge.
 use Rattle.std.specs.Prelude.{◌≡◌, ◌≢◌, ◌⊎◌, ℕ, ◌<◌, List, [], length, slice_index_or}
-use Rattle.cedr_edge.specs.Ends.{raised}
-use Rattle.cedr_outlet.specs.Outgoing.{Outgoing}
-use Rattle.cedr_outlet.specs.Outlets.{Put}
+use Rattle.cedr_base.specs.Counters.{raised}
+use Rattle.worker_outlets.specs.Outgoing.{Outgoing}
+use Rattle.worker_outlets.specs.Outlets.{Put}
 
 -- one message more was sent over an edge, or none was, and then what was pending met a full queue
 abbrev pub TriedOn : Outgoing → Outgoing → Type 0

@@ -1,13 +1,13 @@
 ghost use Rattle.std.specs.Prelude.{◌≡◌, false, List, [], ◌∷◌, ◌++◌, map, Ok, Err, Some, None};
 ghost use Rattle.cedr_base.specs.declared.change.Message.{Message as Sent};
-ghost use Rattle.cedr_laws.specs.Lawful.{is_over};
-ghost use Rattle.cedr_outlet.specs.Outlets.{AllTotal, AllStaged, bare};
+ghost use Rattle.node_laws.specs.Lawful.{is_over};
+ghost use Rattle.worker_outlets.specs.Outlets.{AllTotal, AllStaged, bare};
 ghost use Rattle.cedr_worker.specs.SourceSteps.{MayPass, Passed};
 
 use crate::stop::SourceStop;
 use cedr_base::Message;
-use cedr_outlet::{Last, Outlets};
 use std::alloc::Global;
+use worker_outlets::{Last, Outlets};
 
 /// What a step's answer gives is pending on each out edge: its message, or the last one where the source stops. Answers
 /// why the source stops, if it does. Where memory lacks for the message nothing of it is pending.

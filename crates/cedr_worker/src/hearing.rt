@@ -100,7 +100,7 @@ pub(crate) fn take_next<R: Wait>(
 
 /// Publishes what is pending, if something is. `None` where nothing is, or memory lacks for it: all of it stays pending.
 pub(crate) fn show<R: Wait>(rt: &R, writer: &mut Writer, pending: bool) -> Option<Note>
-    requires { writer.old.told ≡ false }
+    requires { writer.old.concluded ≡ false }
     ensures some { IfSome result (λ n. (pending ≡ true) × (writer.new ≡ record writer.old { published = writer.old.all }) × (n ≡ record { history = writer.old.history; list = writer.old.all; last = false })) }
     ensures none { IfNone result (writer.new ≡ writer.old) }
 {

@@ -1,27 +1,27 @@
 ghost use Rattle.std.specs.Prelude.{◌≡◌, ◌≢◌, ◌<◌, ◌↔◌, true, false, List, [], length, map, replicate, IfOk};
 ghost use Rattle.std.specs.List.{All};
-ghost use Rattle.cedr_edge.specs.Ends.{InEnd, OutEnd, told};
-ghost use Rattle.cedr_laws.specs.Lawful.{any_broken, all_over};
+ghost use Rattle.cedr_edge.specs.Ends.{InEnd, OutEnd, as_u64};
+ghost use Rattle.node_laws.specs.Lawful.{any_broken, all_over};
 ghost use Rattle.cedr_node.specs.Nodes.{made_of, port_count, NodeStands};
-ghost use Rattle.cedr_outlet.specs.Outlets.{AllOver, edge_of, sent_of, sent_count, end_edge, end_sent};
+ghost use Rattle.worker_outlets.specs.Outlets.{AllOver, outlet_edge, sent_of, sent_count, end_edge, end_sent};
 ghost use Rattle.cedr_worker.specs.declared.turn.Turn.TheVariants.{Moved, Idle, Ended};
 ghost use Rattle.cedr_worker.specs.Inputs.{taken_in, taken_count};
 ghost use Rattle.cedr_worker.specs.Operators.{MovedTurn, IdleTurn, TurnSteps, NoneBroken, SoundEnd, LostEnd};
 ghost use Rattle.cedr_worker.specs.Workers.{IsWorking, SameOperator};
 
 use crate::ran::Ran;
-use crate::rest::rest;
+use crate::resting::rest;
 use crate::turn::Turn;
 use crate::working::work;
 use cedr_base::OutOfMemory;
 use cedr_edge::{EdgeIn, EdgeOut};
 use cedr_io::Gate;
 use cedr_node::Node;
-use cedr_outlet::Outlets;
 use crossbeam_utils::Backoff;
 use std::alloc::Global;
 use std::sync::Wait;
 use std::time::Clock;
+use worker_outlets::Outlets;
 
 /// The worker of a plan's node that takes messages: it takes from its inputs, one for each port, lets the node take what
 /// came, and puts what the node gives on each of its out edges.
@@ -55,7 +55,7 @@ pub struct OperatorEnd {
 
 /// How many messages were taken from all inputs, or the last `u64` where there are more.
 fn count_taken(inputs: &Vec<EdgeIn>) -> u64
-    ensures { result ≡ told (taken_count inputs.now.items) }
+    ensures { result ≡ as_u64 (taken_count inputs.now.items) }
 {
     let mut count = 0u64;
     for input in inputs {
@@ -82,7 +82,7 @@ impl OperatorWorker {
         ensures number { IfOk result (λ worker. worker.number ≡ number) }
         ensures node { IfOk result (λ worker. worker.node ≡ node) }
         ensures inputs { IfOk result (λ worker. worker.inputs ≡ inputs) }
-        ensures outlets { IfOk result (λ worker. map edge_of worker.outlets ≡ map end_edge outputs.items) }
+        ensures outlets { IfOk result (λ worker. map outlet_edge worker.outlets ≡ map end_edge outputs.items) }
     {
         let outlets = Outlets::new(alloc, outputs)?;
         Ok(OperatorWorker {
@@ -158,15 +158,15 @@ impl OperatorWorker {
         ensures number { result.number ≡ self.number }
         ensures node { result.node ≡ self.node }
         ensures inputs { result.inputs ≡ self.inputs }
-        ensures edges { map end_edge result.outputs.items ≡ map edge_of self.outlets }
+        ensures edges { map end_edge result.outputs.items ≡ map outlet_edge self.outlets }
         ensures sent { map end_sent result.outputs.items ≡ map sent_of self.outlets }
         ensures lacked { result.lacked ≡ self.lacked }
         ensures sound { result.lacked ≡ false → SoundEnd result.node (taken_in result.inputs.items) result.outputs.items }
         ensures lost { result.lacked ≡ true → LostEnd (made_of result.node) (taken_in result.inputs.items) result.outputs.items }
         ensures over { 0 < length result.outputs.items → all_over (taken_in result.inputs.items) ≡ true }
         ensures ran_number { result.ran.number ≡ self.number }
-        ensures ran_taken { result.ran.taken ≡ told (taken_count self.inputs.items) }
-        ensures ran_put { result.ran.put ≡ told (sent_count self.outlets) }
+        ensures ran_taken { result.ran.taken ≡ as_u64 (taken_count self.inputs.items) }
+        ensures ran_put { result.ran.put ≡ as_u64 (sent_count self.outlets) }
     {
         let taken = count_taken(&self.inputs);
         let put = self.outlets.sent_count();

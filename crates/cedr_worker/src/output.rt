@@ -1,17 +1,17 @@
 ghost use Rattle.std.specs.Prelude.{◌≡◌, ◌≢◌, ◌↔◌, ◌∷◌, [], true, false, None, length, MatchBool};
-ghost use Rattle.cedr_edge.specs.Ends.{told};
+ghost use Rattle.cedr_edge.specs.Ends.{as_u64};
 ghost use Rattle.cedr_history.specs.Lists.{nothing, Extends};
-ghost use Rattle.cedr_laws.specs.Lawful.{is_over};
+ghost use Rattle.node_laws.specs.Lawful.{is_over};
 ghost use Rattle.cedr_node.specs.Nodes.{made_of, NodeStands};
 ghost use Rattle.cedr_plan.specs.declared.plan.NodeKind.TheVariants as kind;
 ghost use Rattle.cedr_worker.specs.declared.turn.Turn.TheVariants.{Moved, Idle, Ended};
 ghost use Rattle.cedr_worker.specs.Inputs.{Asked, KeptIn};
 ghost use Rattle.cedr_worker.specs.Outputs.{passed_by, output_list, IsBeginning};
-ghost use Rattle.cedr_worker.specs.OutputTurns.{IsNoted, OutputWorks, SameOutput, HasEnded, MovedOutput, IdleOutput, StaysLost};
+ghost use Rattle.cedr_worker.specs.OutputTurns.{IsNoted, OutputWorks, SameOutput, OutputHasEnded, MovedOutput, IdleOutput, StaysLost};
 
 use crate::hearing::{show, take_next};
 use crate::ran::Ran;
-use crate::rest::rest;
+use crate::resting::rest;
 use crate::turn::Turn;
 use cedr_edge::EdgeIn;
 use cedr_history::{Note, Writer};
@@ -68,7 +68,7 @@ impl OutputWorker {
         requires kind { (made_of node).kind ≡ kind.Output }
         requires stands { NodeStands node ([] ∷ []) [] }
         requires taken { input.taken ≡ [] }
-        requires writer { (writer.published ≡ nothing) × (writer.all ≡ nothing) × (writer.told ≡ false) }
+        requires writer { (writer.published ≡ nothing) × (writer.all ≡ nothing) × (writer.concluded ≡ false) }
         ensures works { OutputWorks result }
         ensures number { result.number ≡ number }
         ensures node { result.node ≡ node }
@@ -130,7 +130,7 @@ impl OutputWorker {
         requires { OutputWorks self.old }
         ensures works { OutputWorks self.new }
         ensures same { SameOutput self.old self.new }
-        ensures ended { result ≡ Ended ↔ HasEnded self.new }
+        ensures ended { result ≡ Ended ↔ OutputHasEnded self.new }
         ensures moved { result ≡ Moved ↔ ((result ≢ Ended) × MovedOutput self.old self.new) }
         ensures idle { result ≡ Idle → IdleOutput self.old self.new }
         ensures steps { KeptIn self.old.input self.new.input }
@@ -152,7 +152,7 @@ impl OutputWorker {
         requires { OutputWorks self.old }
         ensures works { OutputWorks self.new }
         ensures same { SameOutput self.old self.new }
-        ensures ended { HasEnded self.new }
+        ensures ended { OutputHasEnded self.new }
     {
         let backoff = Backoff::new();
         for _ in rt.forever() {
@@ -169,7 +169,7 @@ impl OutputWorker {
     /// and else a beginning of it. It takes no memory.
     pub fn finish(self) -> OutputEnd
         requires works { OutputWorks self }
-        requires ended { HasEnded self }
+        requires ended { OutputHasEnded self }
         ensures number { result.number ≡ self.number }
         ensures node { result.node ≡ self.node }
         ensures input { result.input ≡ self.input }
@@ -182,9 +182,9 @@ impl OutputWorker {
         ensures lost { result.lacked ≡ true → IsBeginning result.node result.input.taken result.writer.published }
         ensures short { Extends result.writer.published (output_list result.node result.input.taken) }
         ensures noted { IsNoted result.note result.writer }
-        ensures untold { result.writer.told ≡ false }
+        ensures unconcluded { result.writer.concluded ≡ false }
         ensures ran_number { result.ran.number ≡ self.number }
-        ensures ran_taken { result.ran.taken ≡ told (length self.input.taken) }
+        ensures ran_taken { result.ran.taken ≡ as_u64 (length self.input.taken) }
         ensures ran_put { result.ran.put ≡ 0 }
     {
         let taken = self.input.count();

@@ -2,7 +2,7 @@ ghost use Rattle.std.specs.Prelude.{◌≡◌, ◌<◌, ◌≤◌, List, ℕ, fa
 ghost use Rattle.cedr_base.specs.declared.change.Message.{Message as Sent};
 ghost use Rattle.cedr_text.specs.declared.event_line.Shape.{Shape};
 ghost use Rattle.cedr_guard.specs.declared.refusal.TheConstants.{FILE_LIMIT};
-ghost use Rattle.cedr_source.specs.Reads.{Reads, is_ended};
+ghost use Rattle.cedr_source.specs.Reads.{ReadsSource, is_ended};
 ghost use Rattle.cedr_worker.specs.declared.reading.TheConstants.{BLOCK};
 ghost use Rattle.cedr_worker.specs.SourceSteps.{TookStep, Advanced, BlockCame};
 
@@ -22,9 +22,9 @@ pub(crate) fn take_step<S: Source>(
     block: &mut [u8],
 ) -> Result<Option<Message>, SourceStop>
     requires room { length block.old ≡ BLOCK }
-    requires reads { (shape : Shape) × (bytes : List ℕ) × (given : List Sent) × Reads lines.old shape bytes given }
-    ensures took { (shape : Shape) (bytes : List ℕ) (given : List Sent) → Reads lines.old shape bytes given → TookStep result lines.old lines.new (S.rest source.old) (S.rest source.new) (S.faults source.old) (S.faults source.new) shape bytes given }
-    ensures advanced { (shape : Shape) (bytes : List ℕ) (given : List Sent) → Reads lines.old shape bytes given → IfOk result (λ _. Advanced (S.rest source.old) (S.rest source.new) lines.old lines.new) }
+    requires reads { (shape : Shape) × (bytes : List ℕ) × (given : List Sent) × ReadsSource lines.old shape bytes given }
+    ensures took { (shape : Shape) (bytes : List ℕ) (given : List Sent) → ReadsSource lines.old shape bytes given → TookStep result lines.old lines.new (S.rest source.old) (S.rest source.new) (S.faults source.old) (S.faults source.new) shape bytes given }
+    ensures advanced { (shape : Shape) (bytes : List ℕ) (given : List Sent) → ReadsSource lines.old shape bytes given → IfOk result (λ _. Advanced (S.rest source.old) (S.rest source.new) lines.old lines.new) }
 {
     match lines.take_line() {
         Ok(None) => Ok(None),
@@ -47,8 +47,8 @@ fn read_block<S: Source>(
 ) -> Result<Option<Message>, SourceStop>
     requires room { length block.old ≡ BLOCK }
     requires goes_on { is_ended lines.old ≡ false }
-    ensures took { (shape : Shape) (bytes : List ℕ) (given : List Sent) → Reads lines.old shape bytes given → length bytes ≤ FILE_LIMIT → TookStep result lines.old lines.new (S.rest source.old) (S.rest source.new) (S.faults source.old) (S.faults source.new) shape bytes given }
-    ensures came { (shape : Shape) (bytes : List ℕ) (given : List Sent) → Reads lines.old shape bytes given → length bytes ≤ FILE_LIMIT → IfOk result (λ _. BlockCame (S.rest source.old) (S.rest source.new) lines.old lines.new) }
+    ensures took { (shape : Shape) (bytes : List ℕ) (given : List Sent) → ReadsSource lines.old shape bytes given → length bytes ≤ FILE_LIMIT → TookStep result lines.old lines.new (S.rest source.old) (S.rest source.new) (S.faults source.old) (S.faults source.new) shape bytes given }
+    ensures came { (shape : Shape) (bytes : List ℕ) (given : List Sent) → ReadsSource lines.old shape bytes given → length bytes ≤ FILE_LIMIT → IfOk result (λ _. BlockCame (S.rest source.old) (S.rest source.new) lines.old lines.new) }
 {
     let Ok(count) = source.read(block) else {
         return Err(SourceStop::ReadFault);

@@ -1,8 +1,8 @@
 ghost use Rattle.std.specs.Prelude.{◌≡◌, ◌<◌, ◌⊎◌, ◌↔◌, ◌≢◌, ◌&&◌, ℕ, true, false, not, is_none, List, [], length, map, Option, Some, None, IsSome, IfOk, IfErr};
 ghost use Rattle.std.specs.List.{All};
 ghost use Rattle.cedr_text.specs.declared.event_line.Shape.{Shape};
-ghost use Rattle.cedr_edge.specs.Ends.{OutEnd, told};
-ghost use Rattle.cedr_outlet.specs.Outlets.{AllOver, SomePut, bare, edge_of, sent_of, total_of, sent_count, end_edge, end_sent};
+ghost use Rattle.cedr_edge.specs.Ends.{OutEnd, as_u64};
+ghost use Rattle.worker_outlets.specs.Outlets.{AllOver, SomePut, bare, outlet_edge, sent_of, total_of, sent_count, end_edge, end_sent};
 ghost use Rattle.cedr_worker.specs.declared.turn.Turn.TheVariants.{Moved, Idle, Ended};
 ghost use Rattle.cedr_worker.specs.Sources.{SourceWorks, SourceEnds};
 ghost use Rattle.cedr_worker.specs.Tries.{AllTried};
@@ -11,18 +11,18 @@ ghost use Rattle.cedr_worker.specs.SourceTurns.{SameSource, Stepped, Rests, Brok
 use crate::giving::give_answer;
 use crate::ran::Ran;
 use crate::reading::{BLOCK, take_step};
-use crate::rest::rest;
+use crate::resting::rest;
 use crate::stop::SourceStop;
 use crate::turn::Turn;
 use cedr_edge::EdgeOut;
 use cedr_io::{Gate, Source};
-use cedr_outlet::Outlets;
 use cedr_source::SourceLines;
 use cedr_text::Shape;
 use crossbeam_utils::Backoff;
 use std::alloc::Global;
 use std::sync::Wait;
 use std::time::Clock;
+use worker_outlets::Outlets;
 
 /// Reads one event source and sends the messages of its lines on each of its out edges, with `End` after them, or
 /// `Broken` where it stopped otherwise.
@@ -70,7 +70,7 @@ impl<S: Source + Drop> SourceWorker<S> {
         requires some { 0 < length outputs.items }
         ensures works { IfOk result (λ w. SourceWorks S.rest S.faults shape (S.rest source) (S.faults source) w) }
         ensures number { IfOk result (λ w. (w.number ≡ number) × (w.source ≡ source)) }
-        ensures edges { IfOk result (λ w. map edge_of w.outlets ≡ map end_edge outputs.items) }
+        ensures edges { IfOk result (λ w. map outlet_edge w.outlets ≡ map end_edge outputs.items) }
         ensures err { IfErr result (λ n. n.source ≡ source) }
     {
         let Ok(block) = vec![in alloc; 0u8; BLOCK] else {
@@ -176,9 +176,9 @@ impl<S: Source + Drop> SourceWorker<S> {
         ensures ends { (shape : Shape) (content : Option (List ℕ)) (count : ℕ) → SourceWorks S.rest S.faults shape content count self → SourceEnds S.rest S.faults shape content count result }
         ensures number { (result.number ≡ self.number) × (result.source ≡ self.source) }
         ensures stop { self.stop ≡ Some result.stop }
-        ensures edges { map end_edge result.outputs.items ≡ map edge_of self.outlets }
+        ensures edges { map end_edge result.outputs.items ≡ map outlet_edge self.outlets }
         ensures sent { map end_sent result.outputs.items ≡ map sent_of self.outlets }
-        ensures ran { (result.ran.number ≡ self.number) × (result.ran.taken ≡ 0) × (result.ran.put ≡ told (sent_count self.outlets)) }
+        ensures ran { (result.ran.number ≡ self.number) × (result.ran.taken ≡ 0) × (result.ran.put ≡ as_u64 (sent_count self.outlets)) }
     {
         let SourceWorker {
             number,

@@ -1,8 +1,8 @@
 ghost use Rattle.std.specs.Prelude.{◌≡◌};
 ghost use Rattle.cedr_worker.specs.Stops.{last_at};
 
-use cedr_outlet::Last;
 use cedr_text::LineFault;
+use worker_outlets::Last;
 
 /// Why a worker reads no more of its source.
 #[derive(Clone, Copy, Debug, PartialEq, Eq)]

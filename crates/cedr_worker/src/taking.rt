@@ -1,19 +1,19 @@
 ghost use Rattle.std.specs.Prelude.{◌≡◌, ◌<◌, ◌++◌, ◌∷◌, [], true, false, Bool, List, map, length, IfOk, OnOk, OnErr};
 ghost use Rattle.cedr_base.specs.declared.change.Message.{Message as Sent};
-ghost use Rattle.cedr_drive.specs.Driving.{MayTake};
-ghost use Rattle.cedr_laws.specs.Lawful.{all_over};
-ghost use Rattle.cedr_laws.specs.Lists.{Lists, with_more};
+ghost use Rattle.op_driver.specs.Driving.{MayTake};
+ghost use Rattle.node_laws.specs.Lawful.{all_over};
+ghost use Rattle.node_laws.specs.Lists.{Lists, with_more};
 ghost use Rattle.cedr_node.specs.Nodes.{made_of, NodeStands};
-ghost use Rattle.cedr_outlet.specs.Outlets.{total_of, bare};
+ghost use Rattle.worker_outlets.specs.Outlets.{total_of, bare};
 ghost use Rattle.cedr_worker.specs.Inputs.{TakenSoFar, TakenAt, taken_in};
-ghost use Rattle.cedr_worker.specs.Operators.{Sound, Works};
+ghost use Rattle.cedr_worker.specs.Operators.{Sound, NodeWorks};
 
 use cedr_base::{Message, OutOfMemory};
 use cedr_edge::EdgeIn;
 use cedr_node::Node;
-use cedr_outlet::Outlets;
 use std::alloc::Global;
 use std::sync::Wait;
+use worker_outlets::Outlets;
 
 /// What a round of takes came to.
 #[derive(Clone, Copy)]
@@ -108,9 +108,9 @@ fn take_at<R: Wait>(
     port: usize,
     lacked: bool,
 ) -> Takes
-    requires works { (broke : Bool) × Works node.old (taken_in inputs.old.items) outlets.old lacked broke }
+    requires works { (broke : Bool) × NodeWorks node.old (taken_in inputs.old.items) outlets.old lacked broke }
     requires within { port < length inputs.old.items }
-    ensures works { (broke : Bool) → Works node.old (taken_in inputs.old.items) outlets.old lacked broke → Works node.new (taken_in inputs.new.items) outlets.new result.lacked broke }
+    ensures works { (broke : Bool) → NodeWorks node.old (taken_in inputs.old.items) outlets.old lacked broke → NodeWorks node.new (taken_in inputs.new.items) outlets.new result.lacked broke }
     ensures made { made_of node.new ≡ made_of node.old }
     ensures taken { TakenAt inputs.old.items inputs.new.items port result.moved }
     ensures bare { map bare outlets.new ≡ map bare outlets.old }
@@ -147,8 +147,8 @@ fn take_each<R: Wait>(
     outlets: &mut Outlets,
     lacked: bool,
 ) -> Takes
-    requires { (broke : Bool) × Works node.old (taken_in inputs.old.items) outlets.old lacked broke }
-    ensures works { (broke : Bool) → Works node.old (taken_in inputs.old.items) outlets.old lacked broke → Works node.new (taken_in inputs.new.items) outlets.new result.lacked broke }
+    requires { (broke : Bool) × NodeWorks node.old (taken_in inputs.old.items) outlets.old lacked broke }
+    ensures works { (broke : Bool) → NodeWorks node.old (taken_in inputs.old.items) outlets.old lacked broke → NodeWorks node.new (taken_in inputs.new.items) outlets.new result.lacked broke }
     ensures made { made_of node.new ≡ made_of node.old }
     ensures taken { TakenSoFar inputs.old.items inputs.new.items result.moved (length inputs.old.items) }
     ensures bare { map bare outlets.new ≡ map bare outlets.old }
@@ -177,8 +177,8 @@ pub(crate) fn take_unless<R: Wait>(
     pending: bool,
     lacked: bool,
 ) -> Takes
-    requires { (broke : Bool) × Works node.old (taken_in inputs.old.items) outlets.old lacked broke }
-    ensures works { (broke : Bool) → Works node.old (taken_in inputs.old.items) outlets.old lacked broke → Works node.new (taken_in inputs.new.items) outlets.new result.lacked broke }
+    requires { (broke : Bool) × NodeWorks node.old (taken_in inputs.old.items) outlets.old lacked broke }
+    ensures works { (broke : Bool) → NodeWorks node.old (taken_in inputs.old.items) outlets.old lacked broke → NodeWorks node.new (taken_in inputs.new.items) outlets.new result.lacked broke }
     ensures made { made_of node.new ≡ made_of node.old }
     ensures taken { pending ≡ false → TakenSoFar inputs.old.items inputs.new.items result.moved (length inputs.old.items) }
     ensures waits { pending ≡ true → (inputs.new.items ≡ inputs.old.items) × (result.moved ≡ false) }

@@ -7,7 +7,7 @@ use anyhow::{Result, bail};
 use cedr_base::{Message, OutOfMemory};
 use cedr_guard::Refusal;
 use cedr_io::{Files, MemFiles, MemSource, Source};
-use cedr_source::{SourceFault, SourceLines, SourceStep, read_messages};
+use cedr_source::{SourceLines, SourceStep, Unread, read_messages};
 use cedr_text::{write_change, write_number, write_time};
 use std::alloc::Global;
 
@@ -160,12 +160,12 @@ fn read_whole<S: Source>(
             put_messages(messages.as_slice(), &mut text)?;
             tell(rt, alloc, text.as_slice())
         }
-        Err(SourceFault::Refused(refusal)) => tell_refusal(rt, &refusal),
-        Err(SourceFault::Failed) => {
+        Err(Unread::Refused(refusal)) => tell_refusal(rt, &refusal),
+        Err(Unread::Failed) => {
             println!(rt; "  a read was refused")?;
             Ok(())
         }
-        Err(SourceFault::OutOfMemory) => bail!("out of memory"),
+        Err(Unread::OutOfMemory) => bail!("out of memory"),
     }
 }
 

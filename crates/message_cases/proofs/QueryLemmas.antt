@@ -4,7 +4,7 @@ use Rattle.cedr_base.specs.declared.row.Row.{Row}
 use Rattle.cedr_base.specs.declared.change.Change.TheVariants.{Add}
 use Rattle.cedr_base.specs.Rows.{SameRows, IsRow, AreRows}
 use Rattle.cedr_base.proofs.Bags.{count_of-append, count_of-cons}
-use Rattle.cedr_query.proofs.Changing.{rows_led}
+use Rattle.cedr_table.proofs.Changing.{rows_led}
 use Rattle.cedr_table.specs.Operators.{Tables, table_at, HaveRows}
 
 -- a row more leaves a table of rows

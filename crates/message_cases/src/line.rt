@@ -1,12 +1,12 @@
 ghost use Rattle.std.specs.Prelude.{◌≡◌, ◌≤◌, true, IfOk};
 ghost use Rattle.cedr_base.specs.Rows.{IsRow};
 ghost use Rattle.cedr_base.specs.declared.time.TheConstants.{FOREVER};
-ghost use Rattle.cedr_laws.specs.Pass.{IsLevel};
+ghost use Rattle.node_laws.specs.Pass.{HasBlockWithin};
 
 use anyhow::{Result, bail};
 use cedr_base::{FOREVER, Field, Level, OutOfMemory, Payload, Row, Text, Time};
-use cedr_testing::{MIDDLE, STRONG, Told};
 use std::alloc::Global;
+use test_feeding::{Brief, MIDDLE, STRONG};
 
 /// A time, which may be `inf`.
 pub(crate) fn time(word: &str) -> Result<Time>
@@ -32,7 +32,7 @@ fn bound(word: &str) -> Result<Option<u64>> {
 
 /// Whether the block isn't over the memory.
 fn is_level(level: Level) -> bool
-    ensures { result ≡ true → IsLevel level }
+    ensures { result ≡ true → HasBlockWithin level }
 {
     match (level.block, level.memory) {
         (_, None) => true,
@@ -43,7 +43,7 @@ fn is_level(level: Level) -> bool
 
 /// A port's level: `strong`, `middle`, or `block BOUND memory BOUND`.
 pub(crate) fn level(words: &[&str]) -> Result<Level>
-    ensures { IfOk result IsLevel }
+    ensures { IfOk result HasBlockWithin }
 {
     let level = match words {
         ["strong"] => STRONG,
@@ -61,26 +61,26 @@ pub(crate) fn level(words: &[&str]) -> Result<Level>
 }
 
 /// An addition of a row of one number.
-fn addition(number: &str, begin: &str, end: &str) -> Result<Told> {
-    Ok(Told::Add(number.parse::<i128>()?, time(begin)?, time(end)?))
+fn addition(number: &str, begin: &str, end: &str) -> Result<Brief> {
+    Ok(Brief::Add(number.parse::<i128>()?, time(begin)?, time(end)?))
 }
 
 /// A retraction of a row that was added.
-fn retraction(added: Told, to: &str) -> Result<Told> {
+fn retraction(added: Brief, to: &str) -> Result<Brief> {
     match added {
-        Told::Add(number, begin, end) => Ok(Told::Cut(number, begin, end, time(to)?)),
+        Brief::Add(number, begin, end) => Ok(Brief::Cut(number, begin, end, time(to)?)),
         _ => bail!("only a row is retracted"),
     }
 }
 
 /// A message: `+ NUMBER BEGIN END`, `- NUMBER BEGIN END TO`, `= MARK`, `end` or `broken`.
-pub(crate) fn message(words: &[&str]) -> Result<Told> {
+pub(crate) fn message(words: &[&str]) -> Result<Brief> {
     match words {
         ["+", number, begin, end] => addition(number, begin, end),
         ["-", number, begin, end, to] => retraction(addition(number, begin, end)?, to),
-        ["=", mark] => Ok(Told::Mark(time(mark)?)),
-        ["end"] => Ok(Told::End),
-        ["broken"] => Ok(Told::Broken),
+        ["=", mark] => Ok(Brief::Mark(time(mark)?)),
+        ["end"] => Ok(Brief::End),
+        ["broken"] => Ok(Brief::Broken),
         _ => bail!("no such message"),
     }
 }

@@ -1,8 +1,8 @@
 ghost use Rattle.std.specs.Prelude.{ℕ, ◌≡◌, ◌<◌, List, [], All, IfOk, OnOk, length, slice_index_or};
 ghost use Rattle.cedr_plan.specs.Rules.{IsPlan};
-ghost use Rattle.cedr_testing.specs.Came.{StandsFor};
-ghost use Rattle.cedr_testing.specs.declared.came.Came.{Came};
-ghost use Rattle.message_cases.specs.FedNets.{WasFed};
+ghost use Rattle.test_feeding.specs.Came.{CameFor};
+ghost use Rattle.test_feeding.specs.declared.came.Came.{Came};
+ghost use Rattle.message_cases.specs.FedNets.{NetWasFed};
 
 use crate::line::message;
 use crate::plan::find_node;
@@ -11,9 +11,9 @@ use anyhow::{Result, bail};
 use cedr_base::{Message, OutOfMemory};
 use cedr_net::SerialNet;
 use cedr_plan::{Plan, PlanNode};
-use cedr_testing::{Came, message_of};
 use op_node::is_source;
 use std::alloc::Global;
+use test_feeding::{Came, message_of};
 
 /// A plan, its network, and what came of each of its sources.
 #[derive(Drop)]
@@ -36,7 +36,7 @@ pub(crate) fn play(rt: &impl Print, alloc: Global, plan: Plan, lines: &[String])
 
 fn nothing_came(alloc: Global, nodes: usize) -> Result<Vec<Came>, OutOfMemory>
     ensures count { IfOk result (λ came. length came.items ≡ nodes) }
-    ensures none { IfOk result (λ came. (k : ℕ) (d : Came) → k < length came.items → StandsFor (slice_index_or came.items k d) []) }
+    ensures none { IfOk result (λ came. (k : ℕ) (d : Came) → k < length came.items → CameFor (slice_index_or came.items k d) []) }
 {
     let mut came = Vec::new(alloc);
     for _ in 0..nodes {
@@ -48,7 +48,7 @@ fn nothing_came(alloc: Global, nodes: usize) -> Result<Vec<Came>, OutOfMemory>
 /// The network of a plan, to which nothing came.
 fn start(alloc: Global, plan: Plan) -> Result<FedNet, OutOfMemory>
     requires { IsPlan plan }
-    ensures { IfOk result (λ fed. WasFed fed.plan.nodes.items fed.net fed.came.items) }
+    ensures { IfOk result (λ fed. NetWasFed fed.plan.nodes.items fed.net fed.came.items) }
 {
     let came = nothing_came(alloc, plan.nodes.len())?;
     let net = SerialNet::new(alloc, &plan)?;
@@ -57,8 +57,8 @@ fn start(alloc: Global, plan: Plan) -> Result<FedNet, OutOfMemory>
 
 /// One line: a message behind the name of its source, `turn NODE..`, `settle`, or what is asked of the network.
 fn step(rt: &impl Print, alloc: Global, fed: &mut FedNet, line: &str) -> Result<()>
-    requires { WasFed fed.old.plan.nodes.items fed.old.net fed.old.came.items }
-    ensures { OnOk result (WasFed fed.new.plan.nodes.items fed.new.net fed.new.came.items) }
+    requires { NetWasFed fed.old.plan.nodes.items fed.old.net fed.old.came.items }
+    ensures { OnOk result (NetWasFed fed.new.plan.nodes.items fed.new.net fed.new.came.items) }
 {
     let words: Vec<&str> = line.split_whitespace().collect(alloc)?;
     match words.as_slice() {
@@ -102,8 +102,8 @@ fn answer(
     name: &str,
     words: &[&str],
 ) -> Result<()>
-    requires { WasFed fed.old.plan.nodes.items fed.old.net fed.old.came.items }
-    ensures { OnOk result (WasFed fed.new.plan.nodes.items fed.new.net fed.new.came.items) }
+    requires { NetWasFed fed.old.plan.nodes.items fed.old.net fed.old.came.items }
+    ensures { OnOk result (NetWasFed fed.new.plan.nodes.items fed.new.net fed.new.came.items) }
 {
     let message = message_of(alloc, message(words)?)?;
     let Some(place) = find_node(fed.plan.nodes.as_slice(), name) else {
@@ -119,8 +119,8 @@ fn answer(
 
 /// Feeds a source, where the message may come there. Whether it was fed.
 fn feed(alloc: Global, fed: &mut FedNet, place: usize, message: Message) -> Result<bool>
-    requires { WasFed fed.old.plan.nodes.items fed.old.net fed.old.came.items }
-    ensures { OnOk result (WasFed fed.new.plan.nodes.items fed.new.net fed.new.came.items) }
+    requires { NetWasFed fed.old.plan.nodes.items fed.old.net fed.old.came.items }
+    ensures { OnOk result (NetWasFed fed.new.plan.nodes.items fed.new.net fed.new.came.items) }
 {
     if place >= fed.plan.nodes.len() || !is_source(&fed.plan.nodes[place].kind) {
         return Ok(false);
@@ -134,8 +134,8 @@ fn feed(alloc: Global, fed: &mut FedNet, place: usize, message: Message) -> Resu
 }
 
 fn settle(rt: &impl Print, alloc: Global, fed: &mut FedNet, line: &str) -> Result<()>
-    requires { WasFed fed.old.plan.nodes.items fed.old.net fed.old.came.items }
-    ensures { OnOk result (WasFed fed.new.plan.nodes.items fed.new.net fed.new.came.items) }
+    requires { NetWasFed fed.old.plan.nodes.items fed.old.net fed.old.came.items }
+    ensures { OnOk result (NetWasFed fed.new.plan.nodes.items fed.new.net fed.new.came.items) }
 {
     fed.net.settle(alloc)?;
     println!(rt; "{line}")?;
@@ -158,8 +158,8 @@ fn places(alloc: Global, nodes: &[PlanNode], names: &[&str]) -> Result<Vec<usize
 
 /// Turns nodes of the plan, one after the other.
 fn turn(rt: &impl Print, alloc: Global, fed: &mut FedNet, line: &str, names: &[&str]) -> Result<()>
-    requires { WasFed fed.old.plan.nodes.items fed.old.net fed.old.came.items }
-    ensures { OnOk result (WasFed fed.new.plan.nodes.items fed.new.net fed.new.came.items) }
+    requires { NetWasFed fed.old.plan.nodes.items fed.old.net fed.old.came.items }
+    ensures { OnOk result (NetWasFed fed.new.plan.nodes.items fed.new.net fed.new.came.items) }
 {
     let schedule = places(alloc, fed.plan.nodes.as_slice(), names)?;
     fed.net.run_schedule(alloc, schedule.as_slice())?;
@@ -169,7 +169,7 @@ fn turn(rt: &impl Print, alloc: Global, fed: &mut FedNet, line: &str, names: &[&
 
 /// Writes what a port of a node forgot.
 fn tell_forgotten(rt: &impl Print, fed: &FedNet, line: &str, name: &str, port: usize) -> Result<()>
-    requires { WasFed fed.now.plan.nodes.items fed.now.net fed.now.came.items }
+    requires { NetWasFed fed.now.plan.nodes.items fed.now.net fed.now.came.items }
 {
     let nodes = fed.plan.nodes.as_slice();
     let Some(place) = find_node(nodes, name) else {

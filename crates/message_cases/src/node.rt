@@ -1,7 +1,7 @@
 ghost use Rattle.std.specs.Prelude.{◌≡◌, [], IfOk, OnOk, length, replicate};
-ghost use Rattle.cedr_laws.specs.Pass.{IsLevel};
+ghost use Rattle.node_laws.specs.Pass.{HasBlockWithin};
 ghost use Rattle.cedr_plan.specs.Rules.{IsPlan};
-ghost use Rattle.message_cases.specs.FedNodes.{AllCame, WasFed};
+ghost use Rattle.message_cases.specs.FedNodes.{AllCame, NodeWasFed};
 ghost use Rattle.op_node.specs.Ready.{IsReady};
 
 use crate::line::message;
@@ -11,9 +11,9 @@ use anyhow::{Result, bail};
 use cedr_base::{Message, OutOfMemory};
 use cedr_node::Node;
 use cedr_plan::{Plan, PlanNode};
-use cedr_testing::{Came, message_of};
 use op_node::is_source;
 use std::alloc::Global;
+use test_feeding::{Came, message_of};
 
 /// A node, and what came on its ports.
 #[derive(Drop)]
@@ -60,8 +60,8 @@ fn nothing_came(alloc: Global, ports: usize) -> Result<Vec<Came>, OutOfMemory>
 /// A node of a plan to which nothing came.
 fn start(alloc: Global, planned: &PlanNode) -> Result<FedNode, OutOfMemory>
     requires ready { IsReady planned.now.kind (length planned.now.inputs.items) }
-    requires level { IsLevel planned.now.level }
-    ensures { IfOk result (λ fed. WasFed fed.node fed.came.items) }
+    requires level { HasBlockWithin planned.now.level }
+    ensures { IfOk result (λ fed. NodeWasFed fed.node fed.came.items) }
 {
     let came = nothing_came(alloc, planned.inputs.len())?;
     let node = Node::new(alloc, planned)?;
@@ -70,8 +70,8 @@ fn start(alloc: Global, planned: &PlanNode) -> Result<FedNode, OutOfMemory>
 
 /// One line: a message behind the number of its port, `forgotten PORT` or `ended`.
 fn step(rt: &impl Print, alloc: Global, fed: &mut FedNode, line: &str) -> Result<()>
-    requires { WasFed fed.old.node fed.old.came.items }
-    ensures { OnOk result (WasFed fed.new.node fed.new.came.items) }
+    requires { NodeWasFed fed.old.node fed.old.came.items }
+    ensures { OnOk result (NodeWasFed fed.new.node fed.new.came.items) }
 {
     let words: Vec<&str> = line.split_whitespace().collect(alloc)?;
     match words.as_slice() {
@@ -95,8 +95,8 @@ fn answer(
     port: usize,
     message: Message,
 ) -> Result<()>
-    requires { WasFed fed.old.node fed.old.came.items }
-    ensures { OnOk result (WasFed fed.new.node fed.new.came.items) }
+    requires { NodeWasFed fed.old.node fed.old.came.items }
+    ensures { OnOk result (NodeWasFed fed.new.node fed.new.came.items) }
 {
     match feed(alloc, fed, port, message)? {
         None => println!(rt; "{line}: may not come")?,
@@ -115,8 +115,8 @@ fn feed(
     port: usize,
     message: Message,
 ) -> Result<Option<Vec<Message>>, OutOfMemory>
-    requires { WasFed fed.old.node fed.old.came.items }
-    ensures { OnOk result (WasFed fed.new.node fed.new.came.items) }
+    requires { NodeWasFed fed.old.node fed.old.came.items }
+    ensures { OnOk result (NodeWasFed fed.new.node fed.new.came.items) }
 {
     if port >= fed.came.len() || !fed.came[port].may_come(&message) {
         return Ok(None);
@@ -131,7 +131,7 @@ fn feed(
 
 /// Writes what a port forgot.
 fn tell_forgotten(rt: &impl Print, fed: &FedNode, line: &str, port: usize) -> Result<()>
-    requires { WasFed fed.now.node fed.now.came.items }
+    requires { NodeWasFed fed.now.node fed.now.came.items }
 {
     if port >= fed.came.len() {
         bail!("no such port: {line}");

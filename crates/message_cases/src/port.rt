@@ -1,12 +1,12 @@
-ghost use Rattle.cedr_laws.specs.Pass.{IsLevel};
+ghost use Rattle.node_laws.specs.Pass.{HasBlockWithin};
 
 use crate::line::message;
 use crate::shown::{Moment, word_of, write_messages};
 use anyhow::Result;
 use cedr_align::{Aligner, Fate};
 use cedr_base::{Level, Message, OutOfMemory};
-use cedr_testing::{Came, message_of};
 use std::alloc::Global;
+use test_feeding::{Came, message_of};
 
 /// The aligner of a port, and what came there.
 #[derive(Drop)]
@@ -20,7 +20,7 @@ type Taken = (Fate, Vec<Message>);
 
 /// Feeds a new port line by line, and writes what it passes on.
 pub(crate) fn play(rt: &impl Print, alloc: Global, level: Level, lines: &[String]) -> Result<()>
-    requires { IsLevel level }
+    requires { HasBlockWithin level }
 {
     let mut port = FedPort {
         aligner: Aligner::new(level, alloc),

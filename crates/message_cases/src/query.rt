@@ -11,9 +11,9 @@ use cedr_base::{Row, Time};
 use cedr_plan::{Plan, PlanNode};
 use cedr_query::{evaluate, reach};
 use cedr_table::Table;
-use cedr_testing::no_tables;
 use op_node::is_source;
 use std::alloc::Global;
+use test_feeding::no_tables;
 
 /// Fills the tables of a plan's sources line by line, and writes what the query makes of them.
 pub(crate) fn play(rt: &impl Print, alloc: Global, plan: &Plan, lines: &[String]) -> Result<()>

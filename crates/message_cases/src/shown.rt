@@ -1,8 +1,8 @@
 use anyhow::Result;
 use cedr_base::{Change, FOREVER, Field, Message, Row, Time};
-use cedr_laws::{Cause, Forgotten};
-use cedr_testing::{Told, tell, tell_change};
+use node_laws::{Cause, Forgotten};
 use std::fmt;
+use test_feeding::{Brief, brief_of, brief_of_change};
 
 /// A time as lines have it: `inf` where it is `FOREVER`.
 #[derive(Clone, Copy)]
@@ -19,18 +19,18 @@ impl fmt::Display for Moment {
 
 /// A message as lines have it.
 #[derive(Clone, Copy)]
-struct Words(Told);
+struct Words(Brief);
 
 impl fmt::Display for Words {
     fn fmt<W: fmt::Write>(&self, f: &mut fmt::Formatter<W>) -> fmt::Result {
         match self.0 {
-            Told::Add(number, begin, end) => write!(f, "+ {number} {begin} {}", Moment(end)),
-            Told::Cut(number, begin, end, to) => {
+            Brief::Add(number, begin, end) => write!(f, "+ {number} {begin} {}", Moment(end)),
+            Brief::Cut(number, begin, end, to) => {
                 write!(f, "- {number} {begin} {} {to}", Moment(end))
             }
-            Told::Mark(time) => write!(f, "= {}", Moment(time)),
-            Told::End => write!(f, "end"),
-            Told::Broken => write!(f, "broken"),
+            Brief::Mark(time) => write!(f, "= {}", Moment(time)),
+            Brief::End => write!(f, "end"),
+            Brief::Broken => write!(f, "broken"),
         }
     }
 }
@@ -63,7 +63,7 @@ fn write_field<W: fmt::Write>(f: &mut fmt::Formatter<W>, field: &Field) -> fmt::
 /// Writes messages, each in a line.
 pub(crate) fn write_messages(rt: &impl Print, messages: &[Message]) -> Result<()> {
     for message in messages {
-        println!(rt; "  {}", Words(tell(message)))?;
+        println!(rt; "  {}", Words(brief_of(message)))?;
     }
     Ok(())
 }
@@ -71,7 +71,7 @@ pub(crate) fn write_messages(rt: &impl Print, messages: &[Message]) -> Result<()
 /// Writes changes, each in a line.
 pub(crate) fn write_changes(rt: &impl Print, changes: &[Change]) -> Result<()> {
     for change in changes {
-        println!(rt; "  {}", Words(tell_change(change)))?;
+        println!(rt; "  {}", Words(brief_of_change(change)))?;
     }
     Ok(())
 }
@@ -95,7 +95,7 @@ pub(crate) fn word_of(cause: Cause) -> &'static str {
 /// Writes what was forgotten, each change in a line, with the cause and the greatest time before it.
 pub(crate) fn write_forgotten(rt: &impl Print, forgotten: &[Forgotten]) -> Result<()> {
     for one in forgotten {
-        let change = Words(tell_change(&one.change));
+        let change = Words(brief_of_change(&one.change));
         println!(rt; "  {change}: {} {}", word_of(one.cause), Moment(one.high))?;
     }
     Ok(())

@@ -3,9 +3,9 @@ use crate::step::Asked;
 use anyhow::{Result, bail};
 use cedr_base::Change;
 use cedr_table::Table;
-use cedr_testing::repair;
 use std::alloc::Global;
 use std::mem;
+use test_feeding::repair;
 
 /// What an operator answered with.
 #[derive(Drop)]
@@ -28,14 +28,18 @@ impl Answered {
     /// Writes what is asked for.
     pub(crate) fn tell(&mut self, rt: &impl Print, alloc: Global, asked: Asked) -> Result<()> {
         match asked {
-            Asked::Answers => write_changes(rt, self.changes.as_slice())?,
-            Asked::Count => println!(rt; "  {}", self.changes.len())?,
-            Asked::Rows => {}
-        }
-        self.settle(alloc)?;
-        match asked {
-            Asked::Rows => write_rows(rt, &self.rows),
-            _ => Ok(()),
+            Asked::Answers => {
+                write_changes(rt, self.changes.as_slice())?;
+                self.settle(alloc)
+            }
+            Asked::Count => {
+                println!(rt; "  {}", self.changes.len())?;
+                self.settle(alloc)
+            }
+            Asked::Rows => {
+                self.settle(alloc)?;
+                write_rows(rt, &self.rows)
+            }
         }
     }
 

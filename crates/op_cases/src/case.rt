@@ -7,8 +7,8 @@ use crate::step::{Step, read_step};
 use anyhow::{Result, bail};
 use cedr_base::{Change, FOREVER, Time};
 use cedr_table::{Operator, Table, no_marks};
-use cedr_testing::{feed, no_tables, raise};
 use std::alloc::Global;
+use test_feeding::{feed, no_tables, raise};
 
 /// A new operator takes the steps that lines say. Each line is written, and what it leads to.
 pub(crate) fn play<O: Operator + Drop>(

@@ -45,7 +45,6 @@
 
 mod answered;
 mod case;
-mod made;
 mod operators;
 mod shown;
 mod step;

@@ -1,12 +1,17 @@
+ghost use Rattle.std.specs.Prelude.{◌∷◌, [], IfOk};
+ghost use Rattle.change_laws.specs.Times.{IsWhile};
+
 use crate::case::play;
-use crate::made::{
-    make_group, make_hop, make_join, make_project, make_select, make_sequence, make_shift,
-    make_unless, make_window,
-};
-use crate::word::read_ports;
+use crate::word::{read_columns, read_ports, read_test, read_types, read_while};
 use anyhow::{Result, bail};
-use op_life::{Ends, Starts};
-use op_row::Union;
+use cedr_expr::{Keep, Test, Tests};
+use cedr_table::Operator;
+use op_group::Group;
+use op_join::Join;
+use op_life::{Ends, Hop, Shift, Starts, Window};
+use op_row::{Project, Select, Union};
+use pat_seq::Sequence;
+use pat_unless::Unless;
 use std::alloc::Global;
 
 /// Plays steps on the operator that a line says.
@@ -17,77 +22,187 @@ pub(crate) fn play_operator(
     steps: &[String],
 ) -> Result<()> {
     let words: Vec<&str> = line.split_whitespace().collect(alloc)?;
-    let words = words.as_slice();
-    match words {
-        ["select" | "project", ..] => play_columns(rt, alloc, words, steps),
-        ["group", ..] => play_group(rt, alloc, words, steps),
-        ["union" | "join", ..] => play_tables(rt, alloc, words, steps),
-        ["sequence" | "unless", ..] => play_pattern(rt, alloc, words, steps),
-        _ => play_lifetime(rt, alloc, words, steps),
+    match words.as_slice() {
+        [kind, words @ ..] => play_kind(rt, alloc, kind, words, steps),
+        [] => bail!("no operator"),
     }
 }
 
-fn play_columns(rt: &impl Print, alloc: Global, words: &[&str], steps: &[String]) -> Result<()> {
-    match words {
-        ["select", types, "where", tests @ ..] => {
-            play(rt, alloc, make_select(alloc, types, tests)?, 1, steps)
-        }
-        ["project", types, "keep", columns] => {
-            play(rt, alloc, make_project(alloc, types, columns)?, 1, steps)
-        }
+/// Plays steps on an operator of a kind that is made of these words.
+fn play_kind(
+    rt: &impl Print,
+    alloc: Global,
+    kind: &str,
+    words: &[&str],
+    steps: &[String],
+) -> Result<()> {
+    match kind {
+        "select" => play_select(rt, alloc, words, steps),
+        "project" => play_project(rt, alloc, words, steps),
+        "union" => play_union(rt, alloc, words, steps),
+        "join" => play_join(rt, alloc, words, steps),
+        "group" => play_group(rt, alloc, words, steps),
+        "sequence" => play_sequence(rt, alloc, words, steps),
+        "unless" => play_unless(rt, alloc, words, steps),
+        _ => play_lifetime(rt, alloc, kind, words, steps),
+    }
+}
+
+fn play_lifetime(
+    rt: &impl Print,
+    alloc: Global,
+    kind: &str,
+    words: &[&str],
+    steps: &[String],
+) -> Result<()> {
+    match kind {
+        "window" => play(rt, alloc, Window::new(one_while(words)?), 1, steps),
+        "shift" => play(rt, alloc, Shift::new(one_while(words)?), 1, steps),
+        "hop" => play_hop(rt, alloc, words, steps),
+        "starts" => play(rt, alloc, Starts::new(), 1, steps),
+        "ends" => play(rt, alloc, Ends::new(), 1, steps),
         _ => bail!("no such operator"),
     }
 }
 
-fn play_lifetime(rt: &impl Print, alloc: Global, words: &[&str], steps: &[String]) -> Result<()> {
+fn play_select(rt: &impl Print, alloc: Global, words: &[&str], steps: &[String]) -> Result<()> {
     match words {
-        ["window", width] => play(rt, alloc, make_window(width)?, 1, steps),
-        ["shift", by] => play(rt, alloc, make_shift(by)?, 1, steps),
-        ["hop", every, width] => play(rt, alloc, make_hop(every, width)?, 1, steps),
-        ["starts"] => play(rt, alloc, Starts::new(), 1, steps),
-        ["ends"] => play(rt, alloc, Ends::new(), 1, steps),
-        _ => bail!("no such operator"),
+        [types, "where", tests @ ..] => {
+            let select = Select::new(make_tests(alloc, types, "-", tests)?);
+            play(rt, alloc, select, 1, steps)
+        }
+        _ => bail!("no select"),
+    }
+}
+
+fn play_project(rt: &impl Print, alloc: Global, words: &[&str], steps: &[String]) -> Result<()> {
+    match words {
+        [types, "keep", columns] => {
+            let project = Project::new(make_keep(alloc, types, columns)?);
+            play(rt, alloc, project, 1, steps)
+        }
+        _ => bail!("no project"),
+    }
+}
+
+fn play_union(rt: &impl Print, alloc: Global, words: &[&str], steps: &[String]) -> Result<()> {
+    match words {
+        [ports] => {
+            let ports = read_ports(ports)?;
+            play(rt, alloc, Union::new(ports), ports, steps)
+        }
+        _ => bail!("no union"),
+    }
+}
+
+fn play_join(rt: &impl Print, alloc: Global, words: &[&str], steps: &[String]) -> Result<()> {
+    match words {
+        [left, right, "where", tests @ ..] => {
+            let join = Join::new(alloc, make_tests(alloc, left, right, tests)?);
+            play(rt, alloc, join, 2, steps)
+        }
+        _ => bail!("no join"),
+    }
+}
+
+fn play_hop(rt: &impl Print, alloc: Global, words: &[&str], steps: &[String]) -> Result<()> {
+    match words {
+        [every, width] => {
+            let hop = Hop::new(read_while(every)?, read_while(width)?);
+            play(rt, alloc, hop, 1, steps)
+        }
+        _ => bail!("no hop"),
     }
 }
 
 fn play_group(rt: &impl Print, alloc: Global, words: &[&str], steps: &[String]) -> Result<()> {
     match words {
-        ["group", types, "by", keys, "count", "sums", sums] => {
-            let group = make_group(alloc, types, keys, true, sums)?;
-            play(rt, alloc, group, 1, steps)
+        [types, "by", keys, "count", "sums", sums] => {
+            play(
+                rt,
+                alloc,
+                make_group(alloc, types, keys, true, sums)?,
+                1,
+                steps,
+            )
         }
-        ["group", types, "by", keys, "sums", sums] => {
-            let group = make_group(alloc, types, keys, false, sums)?;
-            play(rt, alloc, group, 1, steps)
+        [types, "by", keys, "sums", sums] => {
+            play(
+                rt,
+                alloc,
+                make_group(alloc, types, keys, false, sums)?,
+                1,
+                steps,
+            )
         }
-        _ => bail!("no such operator"),
+        _ => bail!("no group"),
     }
 }
 
-fn play_tables(rt: &impl Print, alloc: Global, words: &[&str], steps: &[String]) -> Result<()> {
+fn make_group(alloc: Global, types: &str, keys: &str, count: bool, sums: &str) -> Result<Group>
+    ensures { IfOk result (λ op. ⟦<Group as Operator>⟧.stands op ([] ∷ []) (0 ∷ [])) }
+{
+    let keys = make_keep(alloc, types, keys)?;
+    let sums = make_keep(alloc, types, sums)?;
+    Ok(Group::new(alloc, keys, count, sums))
+}
+
+/// A sequence's tests see the payloads of all ports as one.
+fn play_sequence(rt: &impl Print, alloc: Global, words: &[&str], steps: &[String]) -> Result<()> {
     match words {
-        ["union", ports] => {
-            let ports = read_ports(ports)?;
-            play(rt, alloc, Union::new(ports), ports, steps)
+        [ports, scope, types, "where", tests @ ..] => {
+            let (ports, scope) = (read_ports(ports)?, read_while(scope)?);
+            let tests = make_tests(alloc, types, "-", tests)?;
+            play(
+                rt,
+                alloc,
+                Sequence::new(alloc, ports, scope, tests)?,
+                ports,
+                steps,
+            )
         }
-        ["join", left, right, "where", tests @ ..] => {
-            play(rt, alloc, make_join(alloc, left, right, tests)?, 2, steps)
-        }
-        _ => bail!("no such operator"),
+        _ => bail!("no sequence"),
     }
 }
 
-fn play_pattern(rt: &impl Print, alloc: Global, words: &[&str], steps: &[String]) -> Result<()> {
+fn play_unless(rt: &impl Print, alloc: Global, words: &[&str], steps: &[String]) -> Result<()> {
     match words {
-        ["sequence", ports, scope, types, "where", tests @ ..] => {
-            let ports = read_ports(ports)?;
-            let sequence = make_sequence(alloc, ports, scope, types, tests)?;
-            play(rt, alloc, sequence, ports, steps)
+        [scope, hold, left, right, "where", tests @ ..] => {
+            let (scope, hold) = (read_while(scope)?, read_while(hold)?);
+            let tests = make_tests(alloc, left, right, tests)?;
+            play(rt, alloc, Unless::new(alloc, scope, hold, tests), 2, steps)
         }
-        ["unless", scope, hold, left, right, "where", tests @ ..] => {
-            let unless = make_unless(alloc, (scope, hold), (left, right), tests)?;
-            play(rt, alloc, unless, 2, steps)
-        }
-        _ => bail!("no such operator"),
+        _ => bail!("no unless"),
     }
+}
+
+/// The while that is the one word.
+fn one_while(words: &[&str]) -> Result<u64>
+    ensures { IfOk result IsWhile }
+{
+    match words {
+        [word] => read_while(word),
+        _ => bail!("not one while"),
+    }
+}
+
+/// Tests of payloads of the types of two words.
+fn make_tests(alloc: Global, left: &str, right: &str, words: &[&str]) -> Result<Tests> {
+    let tests = read_tests(alloc, words)?;
+    let (left, right) = (read_types(alloc, left)?, read_types(alloc, right)?);
+    Ok(Tests::new(tests, left.as_slice(), right.as_slice())?)
+}
+
+fn read_tests(alloc: Global, words: &[&str]) -> Result<Vec<Test>> {
+    let mut tests = Vec::new(alloc);
+    for word in words {
+        tests.push(read_test(alloc, word)?)?;
+    }
+    Ok(tests)
+}
+
+/// The columns that are kept of payloads of the types of a word.
+fn make_keep(alloc: Global, types: &str, columns: &str) -> Result<Keep> {
+    let types = read_types(alloc, types)?;
+    Ok(Keep::new(read_columns(alloc, columns)?, types.as_slice())?)
 }

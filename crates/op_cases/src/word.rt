@@ -1,5 +1,5 @@
 ghost use Rattle.std.specs.Prelude.{◌≤◌, IfOk};
-ghost use Rattle.cedr_stream.specs.Times.{IsWhile};
+ghost use Rattle.change_laws.specs.Times.{IsWhile};
 
 use anyhow::{Result, bail};
 use cedr_base::{FOREVER, Field, FieldType, Text, Time};

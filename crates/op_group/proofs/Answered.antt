@@ -11,8 +11,8 @@ use Rattle.cedr_base.specs.declared.change.Change.{Change}
 use Rattle.cedr_base.specs.declared.change.Change.TheVariants.{Add, Cut}
 use Rattle.cedr_base.specs.Changes.{IsChange, MayFollow, sync_of, changed_row}
 use Rattle.cedr_base.specs.Rows.{AreRows}
-use Rattle.cedr_stream.specs.Repairs.{IsMoved}
-use Rattle.cedr_stream.proofs.Moves.{may_is}
+use Rattle.change_laws.specs.Repairs.{IsMoved}
+use Rattle.change_laws.proofs.Moves.{may_is}
 use Rattle.cedr_table.proofs.RowsLemmas.{moved_are}
 use Rattle.op_group.specs.declared.segment.Segment.{Segment}
 use Rattle.op_group.specs.declared.points.CutPoint.{CutPoint}
@@ -23,17 +23,17 @@ use Rattle.op_group.specs.Points.{has_point, Had, Follows}
 use Rattle.op_group.specs.Cuts.{one_at}
 use Rattle.op_group.specs.Measures.{edge_at, edges_of}
 use Rattle.op_group.specs.TimeLaws.{above_test, one_elsewhere, false_not_true}
-use Rattle.op_group.specs.LawWords.{last_of, Untouched}
+use Rattle.op_group.specs.LawWords.{last_time, Untouched}
 use Rattle.op_group.specs.BoundLaws.{untouched_sums, same_outside}
 use Rattle.cedr_base.specs.Order.{payload_cmp}
-use Rattle.cedr_stream.proofs.Moves.{sum_by-moved}
+use Rattle.change_laws.proofs.Moves.{sum_by-moved}
 use Rattle.op_group.proofs.SinceLemmas.{cut_since}
 use Rattle.op_group.specs.GroupLaws.{payload_exact, payload_itself}
-use Rattle.op_group.specs.State.{ShowsFrom, ShowsRows, KeepsGroups, NoneEmpty, IsPassed, Answers, cuts_of}
+use Rattle.op_group.specs.State.{ShowsFrom, ShowsRows, KeepsGroups, NoneEmpty, IsPassed, AnswersGroup, cuts_of}
 use Rattle.op_group.proofs.GroupRepairs.{group_moves, group_follows, rows_of_are, other_shows}
 
 -- the last time that a change touches is the end of its row
-pub last_row : (c : Change) → (changed_row c).end ≡ last_of c
+pub last_row : (c : Change) → (changed_row c).end ≡ last_time c
 last_row (Add r) = refl
 last_row (Cut r e) = refl
 
@@ -54,7 +54,7 @@ turned_test : (key other : List Field) (b : Bool) → same_payload other key ≡
 turned_test key other true h k = let same = payload_exact other key h in let e : true ≡ false = sym (payload_itself key) ∙ (ap (same_payload key) (sym same) ∙ k) in cc
 turned_test key other false h k = refl
 
-edges_elsewhere : (t : ℕ) (c : Change) → IsChange c → nat_eq (sync_of c) t ≡ false → nat_eq (last_of c) t ≡ false → Untouched (edge_at t) c
+edges_elsewhere : (t : ℕ) (c : Change) → IsChange c → nat_eq (sync_of c) t ≡ false → nat_eq (last_time c) t ≡ false → Untouched (edge_at t) c
 edges_elsewhere t (Add a) is first last = omega (arith, one_elsewhere a.begin t first, one_elsewhere a.end t last)
 edges_elsewhere t (Cut a e) is first last =
     let low = is.1 in (
@@ -63,11 +63,11 @@ edges_elsewhere t (Cut a e) is first last =
     )
 
 -- at other times than the two that a change touches no begin and no end comes or goes
-same_edges : (c : Change) (old new : List Row) (t : ℕ) → IsChange c → IsMoved c old new → nat_eq (sync_of c) t ≡ false → nat_eq (last_of c) t ≡ false → edges_of old t ≡ edges_of new t
+same_edges : (c : Change) (old new : List Row) (t : ℕ) → IsChange c → IsMoved c old new → nat_eq (sync_of c) t ≡ false → nat_eq (last_time c) t ≡ false → edges_of old t ≡ edges_of new t
 same_edges c old new t is moved first last = omega (arith, sum_by-moved (edge_at t) c old new moved.sums, untouched_sums (edge_at t) c (edges_elsewhere t c is first last))
 
 -- a change is seen before the last time that it touches
-pub seen_before : (c : Change) → IsChange c → sync_of c < last_of c
+pub seen_before : (c : Change) → IsChange c → sync_of c < last_time c
 seen_before (Add a) is = is.lives
 seen_before (Cut a e) is = is.2
 
@@ -98,7 +98,7 @@ module _ (key : List Field) (before between after : List (List Field × BTreeMap
   module _ (g : Grouping) (c : Change) (old new : List Row) (mark : ℕ) (all all' due due' : List CutPoint)
       (own : key ≡ key_of g (changed_row c)) (may : MayFollow old [] c) (moved : IsMoved c old new) (late : mark ≤ sync_of c)
       (change : (xs ys : List Row) (m from : ℕ) → ShowsFrom g.sums m from cuts xs → MayFollow xs [] c → IsMoved c xs ys → m ≤ sync_of c → ShowsFrom g.sums m from cuts' ys)
-      (follows_all : Follows all all' key cuts' (sync_of c) (last_of c)) (follows_due : Follows due due' key cuts' (sync_of c) (last_of c))
+      (follows_all : Follows all all' key cuts' (sync_of c) (last_time c)) (follows_due : Follows due due' key cuts' (sync_of c) (last_time c))
       (keeps : KeepsGroups g before all due old mark) where
     is : IsChange c
     is = may_is old [] c may
@@ -131,13 +131,13 @@ module _ (key : List Field) (before between after : List (List Field × BTreeMap
         }
 
     -- at other times than the two that the change touches the group has the same cut points
-    same_cut : (t : ℕ) → nat_eq (sync_of c) t ≡ false → nat_eq (last_of c) t ≡ false → is_some (segment_at t cuts') ≡ is_some (segment_at t cuts)
+    same_cut : (t : ℕ) → nat_eq (sync_of c) t ≡ false → nat_eq (last_time c) t ≡ false → is_some (segment_at t cuts') ≡ is_some (segment_at t cuts)
     same_cut t first last =
         cut_since g.sums mark (keeps.shown key).from cuts' (rows_of g key new) t shown_new
         ∙ (ap (λ n. nat_lt 0 (cond (nat_le (keeps.shown key).from t) n 0)) (sym (same_edges c (rows_of g key old) (rows_of g key new) t is group_moved first last))
         ∙ sym (cut_since g.sums mark (keeps.shown key).from cuts (rows_of g key old) t shown_old))
 
-    entered_at : (t : ℕ) (other : List Field) (f l d : Bool) → nat_eq (sync_of c) t ≡ f → nat_eq (last_of c) t ≡ l → same_payload key other ≡ d → has_point all' t other ≡ cond ((f || l) && d) (is_some (segment_at t cuts')) (has_point all t other) → has_point all' t other ≡ is_some (segment_at t (cuts_of after other))
+    entered_at : (t : ℕ) (other : List Field) (f l d : Bool) → nat_eq (sync_of c) t ≡ f → nat_eq (last_time c) t ≡ l → same_payload key other ≡ d → has_point all' t other ≡ cond ((f || l) && d) (is_some (segment_at t cuts')) (has_point all t other) → has_point all' t other ≡ is_some (segment_at t (cuts_of after other))
     entered_at t other true l true first last h e = e ∙ ap (λ cs. is_some (segment_at t cs)) (sym (own_at other h))
     entered_at t other true l false first last h e = e ∙ (keeps.entered t other ∙ ap (λ cs. is_some (segment_at t cs)) (sym (other_at other h)))
     entered_at t other false true true first last h e = e ∙ ap (λ cs. is_some (segment_at t cs)) (sym (own_at other h))
@@ -155,7 +155,7 @@ module _ (key : List Field) (before between after : List (List Field × BTreeMap
     none_at u other true h early none =
         let seen = seen_before c is in
         let gone : is_some (segment_at u cuts) ≡ false = ap (λ cs. is_some (segment_at u cs)) (out ∙ ap (cuts_of before) (payload_exact key other h)) ∙ ap (λ o. is_some o) none in
-        ap (segment_at u) (own_at other h) ∙ none_from (segment_at u cuts') (same_cut u (above_test (sync_of c) u (omega arith)) (above_test (last_of c) u (omega arith)) ∙ gone)
+        ap (segment_at u) (own_at other h) ∙ none_from (segment_at u cuts') (same_cut u (above_test (sync_of c) u (omega arith)) (above_test (last_time c) u (omega arith)) ∙ gone)
     none_at u other false h early none = ap (segment_at u) (other_at other h) ∙ none
 
     still_passed : (t : ℕ) (other : List Field) → IsPassed g before old mark t other → IsPassed g after new mark t other
@@ -174,10 +174,10 @@ module _ (key : List Field) (before between after : List (List Field × BTreeMap
       ordered = λ other. ordered_at other (same_payload key other) refl;
       some_cuts = some_cuts keeps.some_cuts;
       shown = λ other. shown_at other (same_payload key other) refl;
-      entered = λ t other. entered_at t other (nat_eq (sync_of c) t) (nat_eq (last_of c) t) (same_payload key other) refl refl refl (follows_all t other);
-      still = λ t other. follow_true ((nat_eq (sync_of c) t || nat_eq (last_of c) t) && same_payload key other) (is_some (segment_at t cuts')) (has_point due t other) (has_point all t other) (has_point due' t other) (has_point all' t other) (follows_due t other) (follows_all t other) (keeps.still t other);
+      entered = λ t other. entered_at t other (nat_eq (sync_of c) t) (nat_eq (last_time c) t) (same_payload key other) refl refl refl (follows_all t other);
+      still = λ t other. follow_true ((nat_eq (sync_of c) t || nat_eq (last_time c) t) && same_payload key other) (is_some (segment_at t cuts')) (has_point due t other) (has_point all t other) (has_point due' t other) (has_point all' t other) (follows_due t other) (follows_all t other) (keeps.still t other);
       passed = λ t other there gone.
-          let both = follow_apart ((nat_eq (sync_of c) t || nat_eq (last_of c) t) && same_payload key other) (is_some (segment_at t cuts')) (has_point due t other) (has_point all t other) (has_point due' t other) (has_point all' t other) (follows_due t other) (follows_all t other) there gone in
+          let both = follow_apart ((nat_eq (sync_of c) t || nat_eq (last_time c) t) && same_payload key other) (is_some (segment_at t cuts')) (has_point due t other) (has_point all t other) (has_point due' t other) (has_point all' t other) (follows_due t other) (follows_all t other) there gone in
           still_passed t other (keeps.passed t other both.0 both.1);
     }
       where
@@ -187,11 +187,11 @@ module _ (key : List Field) (before between after : List (List Field × BTreeMap
 
 -- the group's answer, from the whole table
 pub own_answers : (key : List Field) (before : List (List Field × BTreeMap ℕ Segment)) (cuts : List (ℕ × Segment)) → cuts ≡ cuts_of before key → (g : Grouping) (c : Change) (old new : List Row) (mark : ℕ) (all due : List CutPoint) (outs outs' : List Change) → key ≡ key_of g (changed_row c)
-    → ((xs ys : List Row) (m from : ℕ) → ShowsFrom g.sums m from cuts xs → MayFollow xs [] c → IsMoved c xs ys → m ≤ sync_of c → AreRows xs → AreRows ys → Answers g.counted g.sums key xs ys outs outs')
-    → KeepsGroups g before all due old mark → MayFollow old [] c → IsMoved c old new → mark ≤ sync_of c → AreRows old → Answers g.counted g.sums (key_of g (changed_row c)) (rows_of g (key_of g (changed_row c)) old) (rows_of g (key_of g (changed_row c)) new) outs outs'
+    → ((xs ys : List Row) (m from : ℕ) → ShowsFrom g.sums m from cuts xs → MayFollow xs [] c → IsMoved c xs ys → m ≤ sync_of c → AreRows xs → AreRows ys → AnswersGroup g.counted g.sums key xs ys outs outs')
+    → KeepsGroups g before all due old mark → MayFollow old [] c → IsMoved c old new → mark ≤ sync_of c → AreRows old → AnswersGroup g.counted g.sums (key_of g (changed_row c)) (rows_of g (key_of g (changed_row c)) old) (rows_of g (key_of g (changed_row c)) new) outs outs'
 own_answers key before cuts out g c old new mark all due outs outs' own answers keeps may moved late are =
     let test : same_payload key (key_of g (changed_row c)) ≡ true = ap (same_payload key) (sym own) ∙ payload_itself key in
-    subst (λ k. Answers g.counted g.sums k (rows_of g k old) (rows_of g k new) outs outs') own
+    subst (λ k. AnswersGroup g.counted g.sums k (rows_of g k old) (rows_of g k new) outs outs') own
     (answers (rows_of g key old) (rows_of g key new) mark (keeps.shown key).from (subst (λ cs. ShowsFrom g.sums mark (keeps.shown key).from cs (rows_of g key old)) (sym out) (keeps.shown key).shown) (group_follows g key c old test may) (group_moves g key c old new test moved) late
     (rows_of_are g key old are) (rows_of_are g key new (moved_are c old new (may_is old [] c may) moved are)))
 
@@ -218,7 +218,7 @@ module _ (g : Grouping) (groups : List (List Field × BTreeMap ℕ Segment)) (al
   )
 
 -- a set follows a change at its two times
-pub follows_change : (old new : List CutPoint) (key : List Field) (cuts : List (ℕ × Segment)) (c : Change) (first : ℕ) (r : Row) → first ≡ sync_of c → r ≡ changed_row c → Follows old new key cuts first r.end → Follows old new key cuts (sync_of c) (last_of c)
+pub follows_change : (old new : List CutPoint) (key : List Field) (cuts : List (ℕ × Segment)) (c : Change) (first : ℕ) (r : Row) → first ≡ sync_of c → r ≡ changed_row c → Follows old new key cuts first r.end → Follows old new key cuts (sync_of c) (last_time c)
 follows_change old new key cuts c first r e f h =
-    let end : r.end ≡ last_of c = ap (λ (x : Row). x.end) f ∙ last_row c in
-    subst (λ (n : ℕ). Follows old new key cuts n (last_of c)) e (subst (λ (n : ℕ). Follows old new key cuts first n) end h)
+    let end : r.end ≡ last_time c = ap (λ (x : Row). x.end) f ∙ last_row c in
+    subst (λ (n : ℕ). Follows old new key cuts n (last_time c)) e (subst (λ (n : ℕ). Follows old new key cuts first n) end h)

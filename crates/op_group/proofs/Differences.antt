@@ -8,10 +8,10 @@ use Rattle.cedr_base.specs.declared.change.Change.TheVariants.{Add, Cut}
 use Rattle.cedr_base.specs.Rows.{IsRow, AreRows, one_if_same, count_of}
 use Rattle.cedr_base.specs.Changes.{all_puts, all_takes, remnant}
 use Rattle.cedr_base.proofs.Bags.{count_of-cons, count_of-append, one_if_same_exact}
-use Rattle.cedr_stream.specs.Repairs.{AllFrom}
-use Rattle.cedr_stream.proofs.BagSums.{count_of-itself}
-use Rattle.cedr_stream.proofs.Moves.{remnant_none}
-use Rattle.cedr_stream.proofs.RepairLemmas.{AllChanges, AllChanges-append, AllFrom-append, takes-append, puts-append, Turns}
+use Rattle.change_laws.specs.Repairs.{AllFrom}
+use Rattle.change_laws.proofs.BagSums.{count_of-itself}
+use Rattle.change_laws.proofs.Moves.{remnant_none}
+use Rattle.change_laws.proofs.RepairLemmas.{AllChanges, AllChanges-append, AllFrom-append, takes-append, puts-append, Turns}
 use Rattle.op_group.specs.Cuts.{withdrawn_unless, added_unless, differences}
 use Rattle.cedr_table.proofs.RowsLemmas.{first_is, others_are}
 

@@ -9,19 +9,19 @@ use Rattle.cedr_base.specs.declared.change.Change.TheVariants.{Add, Cut}
 use Rattle.cedr_base.specs.Rows.{IsRow, AreRows, one_if_same, count_of}
 use Rattle.cedr_base.specs.Changes.{IsChange, sync_of, puts, takes, MayFollow, changed_row}
 use Rattle.cedr_base.proofs.Bags.{count_of-append, one_of_itself}
-use Rattle.cedr_stream.specs.Repairs.{IsMoved, Repair}
-use Rattle.cedr_stream.proofs.BagSums.{sum_by-without}
-use Rattle.cedr_stream.proofs.Moves.{sum_by-moved, remnant_some, remnant_none}
-use Rattle.cedr_stream.proofs.RepairLemmas.{repair_by_turns}
+use Rattle.change_laws.specs.Repairs.{IsMoved, Repair}
+use Rattle.change_laws.proofs.BagSums.{sum_by-without}
+use Rattle.change_laws.proofs.Moves.{sum_by-moved, remnant_some, remnant_none}
+use Rattle.change_laws.proofs.RepairLemmas.{repair_by_turns}
 use Rattle.op_group.specs.declared.segment.Segment.{Segment}
-use Rattle.op_group.specs.Groups.{Grouping, number_at, key_of, same_payload, rows_of, segments, grouped, open_from}
+use Rattle.op_group.specs.Groups.{Grouping, column_number, key_of, same_payload, rows_of, segments, grouped, open_from}
 use Rattle.op_group.specs.Cuts.{differences}
-use Rattle.op_group.specs.Measures.{edge_at, part_at, is_cut_of, key_in, IsMade}
+use Rattle.op_group.specs.Measures.{edge_at, part_at, is_cut_of, key_in, IsGroupRow}
 use Rattle.op_group.specs.SegmentLaws.{sum_by-filter, segments_are, segment_fits}
 use Rattle.op_group.specs.GroupLaws.{payload_exact, payload_itself, fits_key, grouped_count, made_from_there, there_from_made, same_at, count_alike}
 use Rattle.op_group.specs.LawWords.{Untouched, keyed, SameAt}
 use Rattle.op_group.specs.BoundLaws.{open_below, open_at, test_open, was_open, same_outside, untouched_sums}
-use Rattle.op_group.specs.State.{ShowsFrom, asked, Turned}
+use Rattle.op_group.specs.State.{ShowsFrom, grouping_asked, Turned}
 use Rattle.op_group.specs.StateLaws.{from_alike}
 use Rattle.cedr_table.proofs.RowsLemmas.{fewer_are, moved_are}
 use Rattle.op_group.proofs.Turning.{edges_are_times}
@@ -91,15 +91,15 @@ other_sum g key w c old new other moved = omega (
 
 -- a change leaves each group of another key the same at each time
 pub other_same : (g : Grouping) (key : List Field) (c : Change) (old new : List Row) (t : ℕ) → same_payload key (key_of g (changed_row c)) ≡ false → IsMoved c old new → SameAt g key old new t
-other_same g key c old new t other moved = same_at g key old new t (other_sum g key (edge_at t) c old new other moved) (other_sum g key (part_at (λ _. 1) t) c old new other moved) (λ column. other_sum g key (part_at (number_at column) t) c old new other moved)
+other_same g key c old new t other moved = same_at g key old new t (other_sum g key (edge_at t) c old new other moved) (other_sum g key (part_at (λ _. 1) t) c old new other moved) (λ column. other_sum g key (part_at (column_number column) t) c old new other moved)
 
 -- a map that shows another group goes on showing it
 pub other_shows : (g : Grouping) (key : List Field) (c : Change) (old new : List Row) (mark from : ℕ) (cuts : List (ℕ × Segment)) → same_payload key (key_of g (changed_row c)) ≡ false → IsMoved c old new → ShowsFrom g.sums mark from cuts (rows_of g key old) → ShowsFrom g.sums mark from cuts (rows_of g key new)
 other_shows g key c old new mark from cuts other moved shows = from_alike g.sums mark from cuts (rows_of g key old) (rows_of g key new)
     (λ t. (other_same g key c old new t other moved).edges) (λ t. (other_same g key c old new t other moved).living) (λ t. (other_same g key c old new t other moved).sums) shows
 
-segments_asked : (g : Grouping) (key : List Field) (rows : List Row) → segments (asked g.counted g.sums) key rows ≡ segments g key rows
-segments_asked g key rows = segments_are (asked g.counted g.sums) key rows ∙ sym (segments_are g key rows)
+segments_asked : (g : Grouping) (key : List Field) (rows : List Row) → segments (grouping_asked g.counted g.sums) key rows ≡ segments g key rows
+segments_asked g key rows = segments_are (grouping_asked g.counted g.sums) key rows ∙ sym (segments_are g key rows)
 
 -- a row of a result is there once, and is a row
 one_made : (g : Grouping) (rows : List Row) (r : Row) → count_of r (grouped g rows) ≤ 1
@@ -108,7 +108,7 @@ one_made g rows r = elim (cases_lt 0 (count_of r (grouped g rows))) [
   | inr none ↦ omega arith
 ]
 
-made_is_row : (g : Grouping) (rows : List Row) (r : Row) → AreRows rows → IsMade g rows r → IsRow r
+made_is_row : (g : Grouping) (rows : List Row) (r : Row) → AreRows rows → IsGroupRow g rows r → IsRow r
 made_is_row g rows r are made =
     let order = made.order in
     let time = edges_are_times (rows_of g (key_in g r) rows) r.end (rows_of_are g (key_in g r) rows are) made.ends in
@@ -120,11 +120,11 @@ module _ (g : Grouping) (key : List Field) (c : Change) (old new : List Row) (ma
   new_rows : AreRows new
   new_rows = moved_are c old new is moved old_rows
 
-  shows_key : (rows : List Row) (r : Row) → 0 < count_of r (segments (asked g.counted g.sums) key (rows_of g key rows)) → key_in g r ≡ key
-  shows_key rows r there = fits_key (asked g.counted g.sums) key (rows_of g key rows) (is_cut_of (rows_of g key rows)) r (segment_fits (asked g.counted g.sums) key (rows_of g key rows) r there)
+  shows_key : (rows : List Row) (r : Row) → 0 < count_of r (segments (grouping_asked g.counted g.sums) key (rows_of g key rows)) → key_in g r ≡ key
+  shows_key rows r there = fits_key (grouping_asked g.counted g.sums) key (rows_of g key rows) (is_cut_of (rows_of g key rows)) r (segment_fits (grouping_asked g.counted g.sums) key (rows_of g key rows) r there)
 
   -- what one group makes is what all make, at its rows
-  own_count : (rows : List Row) (r : Row) → key_in g r ≡ key → count_of r (segments (asked g.counted g.sums) key (rows_of g key rows)) ≡ count_of r (grouped g rows)
+  own_count : (rows : List Row) (r : Row) → key_in g r ≡ key → count_of r (segments (grouping_asked g.counted g.sums) key (rows_of g key rows)) ≡ count_of r (grouped g rows)
   own_count rows r same =
       ap (count_of r) (segments_asked g key (rows_of g key rows))
       ∙ (ap (λ k. count_of r (segments g k (rows_of g k rows))) (sym same)

@@ -12,11 +12,11 @@ use Rattle.cedr_base.specs.declared.row.Row.{Row}
 use Rattle.cedr_base.specs.declared.change.Change.TheVariants.{Add, Cut}
 use Rattle.cedr_base.specs.declared.change.Change.{Change}
 use Rattle.cedr_base.specs.Changes.{IsChange, remnant, sync_of}
-use Rattle.cedr_stream.specs.Repairs.{IsMoved}
-use Rattle.cedr_stream.proofs.Moves.{sum_by-moved, remnant_some, remnant_none}
+use Rattle.change_laws.specs.Repairs.{IsMoved}
+use Rattle.change_laws.proofs.Moves.{sum_by-moved, remnant_some, remnant_none}
 use Rattle.op_group.specs.declared.segment.Segment.{Segment}
-use Rattle.op_group.specs.Groups.{number_of, number_at, lives_at}
-use Rattle.op_group.specs.Cuts.{Shows, one_at, summed, shifted_by, StaysBetweenCuts}
+use Rattle.op_group.specs.Groups.{field_number, column_number, lives_at}
+use Rattle.op_group.specs.Cuts.{ShowsCuts, one_at, summed, shifted_by, StaysBetweenCuts}
 use Rattle.op_group.specs.Measures.{edge_at, part_at, edges_of, living_of, sums_of}
 use Rattle.op_group.specs.SegmentLaws.{map_alike}
 use Rattle.op_group.specs.TimeLaws.{above_test, one_elsewhere, not_valid_yet}
@@ -26,7 +26,7 @@ use Rattle.op_group.proofs.SinceLemmas.{Starts, since_there, since_before, since
 use Rattle.op_group.proofs.Turning.{group_outside}
 
 -- a number that is added to a sum is below 2^128
-number_fits : (o : Option Field) → number_of o < 2 ^ 128
+number_fits : (o : Option Field) → field_number o < 2 ^ 128
 number_fits None = lit< tt
 number_fits (Some (Number n)) = mod_below _ (2 ^ 128) (lit< tt)
 number_fits (Some (Bytes text)) = lit< tt
@@ -76,8 +76,8 @@ starts_after sums c old new mark from is moved late below (inl at_cut) = let low
 starts_after sums c old new mark from is moved late below (inr quiet) = inr (λ t before. sym (group_outside sums c old new t is moved (inl (omega arith))).1 ∙ quiet t before)
 
 -- a row that came
-pub add_shows : (sums : List ℕ) (mark from : ℕ) (cuts cuts' : List (ℕ × Segment)) (old new : List Row) (a : Row) (numbers : List ℕ) → ShowsFrom sums mark from cuts old → IsChange (Add a) → mark ≤ a.begin → IsMoved (Add a) old new → numbers ≡ map (λ column. shifted_by true (number_of (slice_get a.payload column))) sums
-    → Shows cuts' (λ t. since from 0 (edges_of old) t + one_at a.begin t + one_at a.end t) (λ t. cond (lives_at t a) (since from 0 (living_of old) t + 1) (since from 0 (living_of old) t))
+pub add_shows : (sums : List ℕ) (mark from : ℕ) (cuts cuts' : List (ℕ × Segment)) (old new : List Row) (a : Row) (numbers : List ℕ) → ShowsFrom sums mark from cuts old → IsChange (Add a) → mark ≤ a.begin → IsMoved (Add a) old new → numbers ≡ map (λ column. shifted_by true (field_number (slice_get a.payload column))) sums
+    → ShowsCuts cuts' (λ t. since from 0 (edges_of old) t + one_at a.begin t + one_at a.end t) (λ t. cond (lives_at t a) (since from 0 (living_of old) t + 1) (since from 0 (living_of old) t))
     (λ t. cond (lives_at t a) (summed (since from (replicate (length sums) 0) (sums_of sums old) t) numbers) (since from (replicate (length sums) 0) (sums_of sums old) t))
     → ShowsFrom sums mark from cuts' new
 add_shows sums mark from cuts cuts' old new a numbers was is_row late moved is shows =
@@ -100,7 +100,7 @@ add_shows sums mark from cuts cuts' old new a numbers was is_row late moved is s
           (since_is from (replicate (length sums) 0) (λ t. cond (lives_at t a) (summed (since from (replicate (length sums) 0) (sums_of sums old) t) numbers) (since from (replicate (length sums) 0) (sums_of sums old) t)) (sums_of sums new)
           (λ t under. ap (λ b. cond b (summed (since from (replicate (length sums) 0) (sums_of sums old) t) numbers) (since from (replicate (length sums) 0) (sums_of sums old) t)) (not_valid_yet a.begin a.end t (omega arith)) ∙ since_before from (replicate (length sums) 0) (sums_of sums old) t under)
           (λ t over. ap (λ ns. cond (lives_at t a) (summed ns numbers) ns) (since_there from (replicate (length sums) 0) (sums_of sums old) t over)
-          ∙ sym (more_sums (lives_at t a) sums (λ column. sum_by (part_at (number_at column) t) old) (λ column. sum_by (part_at (number_at column) t) new) (λ column. number_at column a) (λ column. omega (arith, sum_by-moved (part_at (number_at column) t) (Add a) old new moved.sums))
+          ∙ sym (more_sums (lives_at t a) sums (λ column. sum_by (part_at (column_number column) t) old) (λ column. sum_by (part_at (column_number column) t) new) (λ column. column_number column a) (λ column. omega (arith, sum_by-moved (part_at (column_number column) t) (Add a) old new moved.sums))
           ∙ ap (λ ns. cond (lives_at t a) (summed (sums_of sums old t) ns) (sums_of sums old t)) (sym is))))
           shows;
     }
@@ -140,8 +140,8 @@ remnant_edges a e t = elim (cases_lt a.begin e) [
 ]
 
 -- a row that was cut
-pub cut_shows : (sums : List ℕ) (mark from : ℕ) (cuts cuts' : List (ℕ × Segment)) (old new : List Row) (a : Row) (e : ℕ) (numbers : List ℕ) → ShowsFrom sums mark from cuts old → IsChange (Cut a e) → mark ≤ e → IsMoved (Cut a e) old new → numbers ≡ map (λ column. shifted_by false (number_of (slice_get a.payload column))) sums
-    → Shows cuts' (λ t. (since from 0 (edges_of old) t + cond (nat_lt a.begin e) (one_at e t) 0) - one_at a.end t - cond (nat_lt a.begin e) 0 (one_at a.begin t))
+pub cut_shows : (sums : List ℕ) (mark from : ℕ) (cuts cuts' : List (ℕ × Segment)) (old new : List Row) (a : Row) (e : ℕ) (numbers : List ℕ) → ShowsFrom sums mark from cuts old → IsChange (Cut a e) → mark ≤ e → IsMoved (Cut a e) old new → numbers ≡ map (λ column. shifted_by false (field_number (slice_get a.payload column))) sums
+    → ShowsCuts cuts' (λ t. (since from 0 (edges_of old) t + cond (nat_lt a.begin e) (one_at e t) 0) - one_at a.end t - cond (nat_lt a.begin e) 0 (one_at a.begin t))
     (λ t. cond (nat_le e t && nat_lt t a.end) (since from 0 (living_of old) t - 1) (since from 0 (living_of old) t))
     (λ t. cond (nat_le e t && nat_lt t a.end) (summed (since from (replicate (length sums) 0) (sums_of sums old) t) numbers) (since from (replicate (length sums) 0) (sums_of sums old) t))
     → ShowsFrom sums mark from cuts' new
@@ -167,7 +167,7 @@ cut_shows sums mark from cuts cuts' old new a e numbers was is_cut late moved is
           (since_is from (replicate (length sums) 0) (λ t. cond (nat_le e t && nat_lt t a.end) (summed (since from (replicate (length sums) 0) (sums_of sums old) t) numbers) (since from (replicate (length sums) 0) (sums_of sums old) t)) (sums_of sums new)
           (λ t under. ap (λ b. cond b (summed (since from (replicate (length sums) 0) (sums_of sums old) t) numbers) (since from (replicate (length sums) 0) (sums_of sums old) t)) (not_valid_yet e a.end t (omega arith)) ∙ since_before from (replicate (length sums) 0) (sums_of sums old) t under)
           (λ t over. ap (λ ns. cond (nat_le e t && nat_lt t a.end) (summed ns numbers) ns) (since_there from (replicate (length sums) 0) (sums_of sums old) t over)
-          ∙ sym (fewer_sums (nat_le e t && nat_lt t a.end) sums (λ column. sum_by (part_at (number_at column) t) old) (λ column. sum_by (part_at (number_at column) t) new) (λ column. number_at column a) (λ column. number_fits (slice_get a.payload column)) (λ column. cut_part (number_at column) a e t old new refl low high moved)
+          ∙ sym (fewer_sums (nat_le e t && nat_lt t a.end) sums (λ column. sum_by (part_at (column_number column) t) old) (λ column. sum_by (part_at (column_number column) t) new) (λ column. column_number column a) (λ column. number_fits (slice_get a.payload column)) (λ column. cut_part (column_number column) a e t old new refl low high moved)
           ∙ ap (λ ns. cond (nat_le e t && nat_lt t a.end) (summed (sums_of sums old t) ns) (sums_of sums old t)) (sym is))))
           shows;
     }

@@ -16,12 +16,12 @@ use Rattle.cedr_base.specs.declared.row.Row.{Row}
 use Rattle.cedr_base.specs.Rows.{row_cmp, count_of}
 use Rattle.op_group.specs.declared.segment.Segment.{Segment}
 use Rattle.op_group.specs.Groups.{segments}
-use Rattle.op_group.specs.Cuts.{segment_at, totals, begun, ended_at, rows_after, rows_in}
+use Rattle.op_group.specs.Cuts.{segment_at, totals, row_begun, ended_at, rows_after, rows_of_cuts}
 use Rattle.op_group.specs.Measures.{living_of, sums_of, among, AllAbove, Ascends, row_from, one_row, rows_at, Fits, is_cut_of}
 use Rattle.op_group.specs.TimeLaws.{above_test, same_count, false_not_true}
 use Rattle.op_group.specs.CutLaws.{above_among, fits_from_there, there_from_fits}
 use Rattle.op_group.specs.SegmentLaws.{fits_alike, segment_fits, fits_segment}
-use Rattle.op_group.specs.State.{ShowsFrom, asked}
+use Rattle.op_group.specs.State.{ShowsFrom, grouping_asked}
 use Rattle.op_group.proofs.Times.{at_is, lt_cmp, gt_cmp, cmp_lt, not_lt_cmp}
 use Rattle.op_group.proofs.SinceLemmas.{cut_is, cut_shown}
 
@@ -78,17 +78,17 @@ module _ (living : ℕ → ℕ) (sums : ℕ → List ℕ) where
   ended_is counted key p q s true h e f = refl
   ended_is counted key p q s false h e f = ap (λ n. record { end = q; begin = p; payload = key ++ totals counted n s.totals } ∷ []) e ∙ ap (λ ns. record { end = q; begin = p; payload = key ++ totals counted (living p) ns } ∷ []) f
 
-  ended_one : (counted : Bool) (key : List Field) (p q : ℕ) (s : Segment) → s.living ≡ living p → s.totals ≡ sums p → ended_at (begun counted key p s) q ≡ one_row counted key living sums p q
+  ended_one : (counted : Bool) (key : List Field) (p q : ℕ) (s : Segment) → s.living ≡ living p → s.totals ≡ sums p → ended_at (row_begun counted key p s) q ≡ one_row counted key living sums p q
   ended_one counted key p q s e f = ended_is counted key p q s (nat_eq s.living 0) refl e f ∙ ap {B = List Row} (λ n. cond (nat_eq n 0) [] (row_from counted key living sums p q ∷ [])) e
 
-  after_first : (counted : Bool) (key : List Field) (p : ℕ) (s : Segment) (cuts : List (ℕ × Segment)) → s.living ≡ living p → s.totals ≡ sums p → AllAgree cuts → rows_after counted key (begun counted key p s) cuts ≡ rows_at counted key living sums (p ∷ times_of cuts)
+  after_first : (counted : Bool) (key : List Field) (p : ℕ) (s : Segment) (cuts : List (ℕ × Segment)) → s.living ≡ living p → s.totals ≡ sums p → AllAgree cuts → rows_after counted key (row_begun counted key p s) cuts ≡ rows_at counted key living sums (p ∷ times_of cuts)
   after_first counted key p s [] e f agree = refl
   after_first counted key p s (c ∷ cuts) e f agree =
-      ap (λ rows. rows ++ rows_after counted key (begun counted key c.0 c.1) cuts) (ended_one counted key p c.0 s e f)
+      ap (λ rows. rows ++ rows_after counted key (row_begun counted key c.0 c.1) cuts) (ended_one counted key p c.0 s e f)
       ∙ ap (λ rows. one_row counted key living sums p c.0 ++ rows) (after_first counted key c.0 c.1 cuts agree.0.0 agree.0.1 agree.1)
 
   -- the rows of entries are those between their times
-  rows_are : (counted : Bool) (key : List Field) (cuts : List (ℕ × Segment)) → AllAgree cuts → rows_in counted key cuts ≡ rows_at counted key living sums (times_of cuts)
+  rows_are : (counted : Bool) (key : List Field) (cuts : List (ℕ × Segment)) → AllAgree cuts → rows_of_cuts counted key cuts ≡ rows_at counted key living sums (times_of cuts)
   rows_are counted key [] agree = refl
   rows_are counted key (c ∷ cuts) agree = after_first counted key c.0 c.1 cuts agree.0.0 agree.0.1 agree.1
 
@@ -186,19 +186,19 @@ cond_true true c h = (refl, h)
 cond_true false c h = cc
 
 module _ (counted : Bool) (sums : List ℕ) (key : List Field) (cuts : List (ℕ × Segment)) (rows : List Row) (lo hi mark from : ℕ) (up : Ascends (times_of cuts)) (shows : ShowsFrom sums mark from cuts rows) (low : from ≤ lo) where
-  found_are : rows_in counted key (between lo hi cuts) ≡ rows_at counted key (living_of rows) (sums_of sums rows) (times_of (between lo hi cuts))
+  found_are : rows_of_cuts counted key (between lo hi cuts) ≡ rows_at counted key (living_of rows) (sums_of sums rows) (times_of (between lo hi cuts))
   found_are = rows_are (living_of rows) (sums_of sums rows) counted key (between lo hi cuts) (agree_kept (living_of rows) (sums_of sums rows) (within lo hi) cuts (agree_shown sums mark from cuts rows up shows))
 
   found_up : Ascends (times_of (between lo hi cuts))
   found_up = ascend_kept (within lo hi) cuts up
 
-  found_fits : (r : Row) → 0 < count_of r (rows_in counted key (between lo hi cuts)) → Fits counted key (living_of rows) (sums_of sums rows) (λ t. cond (within lo hi t) (is_cut_of rows t) false) r
+  found_fits : (r : Row) → 0 < count_of r (rows_of_cuts counted key (between lo hi cuts)) → Fits counted key (living_of rows) (sums_of sums rows) (λ t. cond (within lo hi t) (is_cut_of rows t) false) r
   found_fits r there = fits_alike counted key (living_of rows) (living_of rows) (sums_of sums rows) (sums_of sums rows) (λ t. among t (times_of (between lo hi cuts))) (λ t. cond (within lo hi t) (is_cut_of rows t) false) r
       (λ t over under. among_between sums mark from cuts rows lo hi t shows low) refl refl
       (fits_from_there counted key (living_of rows) (sums_of sums rows) (times_of (between lo hi cuts)) r found_up (omega (arith, there, ap (count_of r) found_are)))
 
   -- a row that is found lies between the two times
-  pub found_within : (r : Row) → 0 < count_of r (rows_in counted key (between lo hi cuts)) → (lo ≤ r.begin) × (r.end ≤ hi)
+  pub found_within : (r : Row) → 0 < count_of r (rows_of_cuts counted key (between lo hi cuts)) → (lo ≤ r.begin) × (r.end ≤ hi)
   found_within r there =
       let fits = found_fits r there in
       ((true_within lo hi r.begin (cond_true (within lo hi r.begin) (is_cut_of rows r.begin) fits.starts).0).0, (true_within lo hi r.end (cond_true (within lo hi r.end) (is_cut_of rows r.end) fits.ends).0).1)
@@ -207,16 +207,16 @@ module _ (counted : Bool) (sums : List ℕ) (key : List Field) (cuts : List (ℕ
   cut_within t low high = ap (λ b. cond b (is_cut_of rows t) false) (within_true lo hi t low high)
 
   -- and is one that the group makes, and each of these between the two times is found
-  pub found_is : (r : Row) → lo ≤ r.begin → r.end ≤ hi → count_of r (rows_in counted key (between lo hi cuts)) ≡ count_of r (segments (asked counted sums) key rows)
-  found_is r after before = same_count (count_of r (rows_in counted key (between lo hi cuts))) (count_of r (segments (asked counted sums) key rows))
-      (λ there. fits_segment (asked counted sums) key rows r (fits_alike counted key (living_of rows) (living_of rows) (sums_of sums rows) (sums_of sums rows) (λ t. cond (within lo hi t) (is_cut_of rows t) false) (is_cut_of rows) r
+  pub found_is : (r : Row) → lo ≤ r.begin → r.end ≤ hi → count_of r (rows_of_cuts counted key (between lo hi cuts)) ≡ count_of r (segments (grouping_asked counted sums) key rows)
+  found_is r after before = same_count (count_of r (rows_of_cuts counted key (between lo hi cuts))) (count_of r (segments (grouping_asked counted sums) key rows))
+      (λ there. fits_segment (grouping_asked counted sums) key rows r (fits_alike counted key (living_of rows) (living_of rows) (sums_of sums rows) (sums_of sums rows) (λ t. cond (within lo hi t) (is_cut_of rows t) false) (is_cut_of rows) r
       (λ t over under. cut_within t (omega arith) (omega arith)) refl refl (found_fits r there)))
       (λ there. ap (count_of r) found_are ∙ there_from_fits counted key (living_of rows) (sums_of sums rows) (times_of (between lo hi cuts)) r found_up
       (fits_alike counted key (living_of rows) (living_of rows) (sums_of sums rows) (sums_of sums rows) (is_cut_of rows) (λ t. among t (times_of (between lo hi cuts))) r
-      (λ t over under. sym (among_between sums mark from cuts rows lo hi t shows low ∙ cut_within t (omega arith) (omega arith))) refl refl (segment_fits (asked counted sums) key rows r there)))
+      (λ t over under. sym (among_between sums mark from cuts rows lo hi t shows low ∙ cut_within t (omega arith) (omega arith))) refl refl (segment_fits (grouping_asked counted sums) key rows r there)))
 
-  pub found_none : (r : Row) → ((lo ≤ r.begin) × (r.end ≤ hi) → ⊥) → count_of r (rows_in counted key (between lo hi cuts)) ≡ 0
-  found_none r outside = elim (cases_lt 0 (count_of r (rows_in counted key (between lo hi cuts)))) [ inl there ↦ absurd (outside (found_within r there)) | inr none ↦ omega arith ]
+  pub found_none : (r : Row) → ((lo ≤ r.begin) × (r.end ≤ hi) → ⊥) → count_of r (rows_of_cuts counted key (between lo hi cuts)) ≡ 0
+  found_none r outside = elim (cases_lt 0 (count_of r (rows_of_cuts counted key (between lo hi cuts)))) [ inl there ↦ absurd (outside (found_within r there)) | inr none ↦ omega arith ]
 
 -- each row ends after the one before it
 abbrev EndAfter : ℕ → List Row → Type 0
@@ -233,7 +233,7 @@ ends_one (Some row) t q rows h ends = (h, ends)
 
 rows_end : (counted : Bool) (key : List Field) (o : Option (ℕ × List Field)) (t : ℕ) (cuts : List (ℕ × Segment)) → AllAbove t (times_of cuts) → Ascends (times_of cuts) → EndAfter t (rows_after counted key o cuts)
 rows_end counted key o t [] above up = tt
-rows_end counted key o t (e ∷ cuts) above up = ends_one o t e.0 (rows_after counted key (begun counted key e.0 e.1) cuts) above.0 (rows_end counted key (begun counted key e.0 e.1) e.0 cuts up.0 up.1)
+rows_end counted key o t (e ∷ cuts) above up = ends_one o t e.0 (rows_after counted key (row_begun counted key e.0 e.1) cuts) above.0 (rows_end counted key (row_begun counted key e.0 e.1) e.0 cuts up.0 up.1)
 
 greater_first : (a b : Row) → b.end < a.end → is_lt (row_cmp a b) ≡ false
 greater_first a b h = ap (λ o. is_lt (Rattle.std.specs.Ordering.ordering_then o (Rattle.std.specs.Ordering.ordering_then (nat_cmp a.begin b.begin) (Rattle.cedr_base.specs.Order.payload_cmp a.payload b.payload)))) (gt_cmp a.end b.end h)
@@ -246,10 +246,10 @@ sorted_ends t (x ∷ y ∷ rows) ends (suc k) d low high =
     let next : suc k + 1 ≡ suc (k + 1) = omega arith in
     subst (λ (n : ℕ). is_lt (row_cmp (get_or (x ∷ y ∷ rows) n d) (get_or (x ∷ y ∷ rows) (suc k) d)) ≡ false) (sym next) (sorted_ends x.end (y ∷ rows) ends.1 k d (omega arith) (omega arith))
 
-sorted_first : (counted : Bool) (key : List Field) (cuts : List (ℕ × Segment)) → Ascends (times_of cuts) → IsSorted row_cmp (rows_in counted key cuts)
+sorted_first : (counted : Bool) (key : List Field) (cuts : List (ℕ × Segment)) → Ascends (times_of cuts) → IsSorted row_cmp (rows_of_cuts counted key cuts)
 sorted_first counted key [] up = λ k d low high. absurd (omega arith)
-sorted_first counted key (e ∷ cuts) up = sorted_ends e.0 (rows_in counted key (e ∷ cuts)) (rows_end counted key (begun counted key e.0 e.1) e.0 cuts up.0 up.1)
+sorted_first counted key (e ∷ cuts) up = sorted_ends e.0 (rows_of_cuts counted key (e ∷ cuts)) (rows_end counted key (row_begun counted key e.0 e.1) e.0 cuts up.0 up.1)
 
 -- the rows of a part of a map stand in canonical order
-pub rows_sorted : (counted : Bool) (key : List Field) (lo hi : ℕ) (cuts : List (ℕ × Segment)) → IsStrictlySortedBy nat_cmp (keys_of cuts) → IsSorted row_cmp (rows_in counted key (between lo hi cuts))
+pub rows_sorted : (counted : Bool) (key : List Field) (lo hi : ℕ) (cuts : List (ℕ × Segment)) → IsStrictlySortedBy nat_cmp (keys_of cuts) → IsSorted row_cmp (rows_of_cuts counted key (between lo hi cuts))
 rows_sorted counted key lo hi cuts ordered = sorted_first counted key (between lo hi cuts) (ascend_kept (within lo hi) cuts (times_ascend cuts ordered))

@@ -6,7 +6,7 @@ use Rattle.std.specs.declared.cmp.Ordering.TheVariants.{Less}
 use Rattle.std.specs.BTreeMap.{BTreeMap, get, is_at}
 use Rattle.std.proofs.lemmas.Bool.{cases_lt, eq-eqb, eqb-true, eqb-false}
 use Rattle.op_group.specs.declared.segment.Segment.{Segment}
-use Rattle.op_group.specs.Cuts.{Shows, StaysBetweenCuts, IsEdit, IsLastCut, IsCarried, segment_at, one_at, raised, shifted, summed}
+use Rattle.op_group.specs.Cuts.{ShowsCuts, StaysBetweenCuts, IsEdit, IsLastCut, IsCarried, segment_at, one_at, edge_raised, segment_shifted, summed}
 use Rattle.op_group.specs.TimeLaws.{one_here, one_elsewhere, above_test}
 use Rattle.op_group.proofs.Times.{at_is, lt_cmp, cmp_lt, not_lt_cmp}
 
@@ -59,34 +59,34 @@ edit_shows_at old new at t w there true is e here other = e ∙ here refl
 edit_shows_at old new at t w there false is e here other = e ∙ other refl
 
 -- what an edit at one time shows
-pub edit_shows : (old new : List (ℕ × Segment)) (at : ℕ) (w : Option Segment) (edges living edges' living' : ℕ → ℕ) (sums sums' : ℕ → List ℕ) → IsEdit at w old new → Shows old edges living sums
+pub edit_shows : (old new : List (ℕ × Segment)) (at : ℕ) (w : Option Segment) (edges living edges' living' : ℕ → ℕ) (sums sums' : ℕ → List ℕ) → IsEdit at w old new → ShowsCuts old edges living sums
     → w ≡ shown (edges' at) (living' at) (sums' at)
     → ((t : ℕ) → nat_eq at t ≡ false → shown (edges t) (living t) (sums t) ≡ shown (edges' t) (living' t) (sums' t))
-    → Shows new edges' living' sums'
+    → ShowsCuts new edges' living' sums'
 edit_shows old new at w n l n' l' s s' edit shows here other = record {
   at = λ t. edit_shows_at old new at t w (shown (n' t) (l' t) (s' t)) (is_at (nat_cmp at) t) refl (edit t)
       (λ is. here ∙ ap (λ u. shown (n' u) (l' u) (s' u)) (eqb-true at t (sym (at_is at t) ∙ is)))
       (λ is. shows.at t ∙ other t (sym (at_is at t) ∙ is));
 }
 
-raised_shows_at : (n n' l : ℕ) (ts : List ℕ) (o : Option Segment) → o ≡ shown n l ts → is_some o ≡ true → n' ≡ n + 1 → option_map raised o ≡ shown n' l ts
+raised_shows_at : (n n' l : ℕ) (ts : List ℕ) (o : Option Segment) → o ≡ shown n l ts → is_some o ≡ true → n' ≡ n + 1 → option_map edge_raised o ≡ shown n' l ts
 raised_shows_at n n' l ts None e there more = cc
 raised_shows_at n n' l ts (Some s) e there more =
     let is = shown_some s n l ts e in
     let many : 0 < n' = omega arith in
-    let fields = is_its_fields (raised s) n' l ts (let x = is.edges_are in omega arith) is.living_are is.sums_are in
+    let fields = is_its_fields (edge_raised s) n' l ts (let x = is.edges_are in omega arith) is.living_are is.sums_are in
     ap (λ x. Some x) fields ∙ sym (shows_some n' l ts many)
 
 -- one edge more at a cut point
-pub raise_shows : (old new : List (ℕ × Segment)) (at width : ℕ) → is_some (segment_at at old) ≡ true → IsEdit at (option_map raised (segment_at at old)) old new
-    → (edges living : ℕ → ℕ) (sums : ℕ → List ℕ) → Shows old edges living sums → StaysBetweenCuts width edges living sums → Shows new (λ t. edges t + one_at at t) living sums
+pub raise_shows : (old new : List (ℕ × Segment)) (at width : ℕ) → is_some (segment_at at old) ≡ true → IsEdit at (option_map edge_raised (segment_at at old)) old new
+    → (edges living : ℕ → ℕ) (sums : ℕ → List ℕ) → ShowsCuts old edges living sums → StaysBetweenCuts width edges living sums → ShowsCuts new (λ t. edges t + one_at at t) living sums
 raise_shows old new at width there edit n l s shows stays =
-    edit_shows old new at (option_map raised (segment_at at old)) n l (λ t. n t + one_at at t) l s s edit shows
+    edit_shows old new at (option_map edge_raised (segment_at at old)) n l (λ t. n t + one_at at t) l s s edit shows
     (raised_shows_at (n at) (n at + one_at at at) (l at) (s at) (segment_at at old) (shows.at at) there (omega (arith, one_here at)))
     (λ t is. let none = one_elsewhere at t is in let same : n t ≡ n t + one_at at t = omega arith in ap (λ k. shown k (l t) (s t)) same)
 
 -- no edge stands where the map has nothing
-pub no_edge : (cuts : List (ℕ × Segment)) (edges living : ℕ → ℕ) (sums : ℕ → List ℕ) (t : ℕ) → Shows cuts edges living sums → segment_at t cuts ≡ None → edges t ≡ 0
+pub no_edge : (cuts : List (ℕ × Segment)) (edges living : ℕ → ℕ) (sums : ℕ → List ℕ) (t : ℕ) → ShowsCuts cuts edges living sums → segment_at t cuts ≡ None → edges t ≡ 0
 no_edge cuts n l s t shows none = shown_none (n t) (l t) (s t) (sym none ∙ shows.at t)
 
 -- up to a time no edge stands, where none stands before it and none at it
@@ -106,7 +106,7 @@ record IsCarriedOn (at : ℕ) (s : Segment) (living : ℕ → ℕ) (sums : ℕ �
   living_are : s.living ≡ living at
   sums_are : s.totals ≡ sums at
 
-carried_on : (cuts : List (ℕ × Segment)) (at width : ℕ) (s : Segment) (edges living : ℕ → ℕ) (sums : ℕ → List ℕ) → IsCarried cuts at width s → Shows cuts edges living sums → StaysBetweenCuts width edges living sums → edges at ≡ 0 → IsCarriedOn at s living sums
+carried_on : (cuts : List (ℕ × Segment)) (at width : ℕ) (s : Segment) (edges living : ℕ → ℕ) (sums : ℕ → List ℕ) → IsCarried cuts at width s → ShowsCuts cuts edges living sums → StaysBetweenCuts width edges living sums → edges at ≡ 0 → IsCarriedOn at s living sums
 carried_on cuts at width s n l ts carried shows stays here = elim carried.carried [
   | inl fresh ↦
       let none = none_before n at (λ u below. no_edge cuts n l ts u shows (fresh.0 u below)) here in
@@ -120,7 +120,7 @@ carried_on cuts at width s n l ts carried shows stays here = elim carried.carrie
 
 -- a new cut point shows what is valid there
 pub carried_shows : (old new : List (ℕ × Segment)) (at width : ℕ) (s : Segment) → is_some (segment_at at old) ≡ false → IsCarried old at width s → IsEdit at (Some s) old new
-    → (edges living : ℕ → ℕ) (sums : ℕ → List ℕ) → Shows old edges living sums → StaysBetweenCuts width edges living sums → Shows new (λ t. edges t + one_at at t) living sums
+    → (edges living : ℕ → ℕ) (sums : ℕ → List ℕ) → ShowsCuts old edges living sums → StaysBetweenCuts width edges living sums → ShowsCuts new (λ t. edges t + one_at at t) living sums
 carried_shows old new at width s missing carried edit n l ts shows stays =
     let none : n at ≡ 0 = none_where_missing (segment_at at old) missing (shows.at at) in
     let on = carried_on old at width s n l ts carried shows stays none in
@@ -159,24 +159,24 @@ stays_more width n m l s h stays = record {
 }
 
 -- a map that shows some numbers shows all that are the same at each time
-pub shows_alike : (cuts : List (ℕ × Segment)) (n n' l l' : ℕ → ℕ) (s s' : ℕ → List ℕ) → ((t : ℕ) → n t ≡ n' t) → ((t : ℕ) → l t ≡ l' t) → ((t : ℕ) → s t ≡ s' t) → Shows cuts n l s → Shows cuts n' l' s'
+pub shows_alike : (cuts : List (ℕ × Segment)) (n n' l l' : ℕ → ℕ) (s s' : ℕ → List ℕ) → ((t : ℕ) → n t ≡ n' t) → ((t : ℕ) → l t ≡ l' t) → ((t : ℕ) → s t ≡ s' t) → ShowsCuts cuts n l s → ShowsCuts cuts n' l' s'
 shows_alike cuts n n' l l' s s' e f g shows = record { at = λ t. shows.at t ∙ (ap (λ k. shown k (l t) (s t)) (e t) ∙ (ap (λ k. shown (n' t) k (s t)) (f t) ∙ ap (λ k. shown (n' t) (l' t) k) (g t))) }
 
-shift_one : (up : Bool) (numbers : List ℕ) (n l : ℕ) (ts : List ℕ) (b : Bool) → option_map (shifted up numbers) (cond b None (Some (record { edges = n; living = l; totals = ts }))) ≡ cond b None (Some (shifted up numbers (record { edges = n; living = l; totals = ts })))
+shift_one : (up : Bool) (numbers : List ℕ) (n l : ℕ) (ts : List ℕ) (b : Bool) → option_map (segment_shifted up numbers) (cond b None (Some (record { edges = n; living = l; totals = ts }))) ≡ cond b None (Some (segment_shifted up numbers (record { edges = n; living = l; totals = ts })))
 shift_one up numbers n l ts true = refl
 shift_one up numbers n l ts false = refl
 
 abbrev moved_by : Bool → ℕ → ℕ
 moved_by up l = cond up (l + 1) (l - 1)
 
-shift_shows_at : (up : Bool) (numbers : List ℕ) (n l : ℕ) (ts : List ℕ) (o : Option Segment) (b : Bool) → o ≡ shown n l ts → cond b (option_map (shifted up numbers) o) o ≡ shown n (cond b (moved_by up l) l) (cond b (summed ts numbers) ts)
-shift_shows_at up numbers n l ts o true e = ap (option_map (shifted up numbers)) e ∙ shift_one up numbers n l ts (nat_eq n 0)
+shift_shows_at : (up : Bool) (numbers : List ℕ) (n l : ℕ) (ts : List ℕ) (o : Option Segment) (b : Bool) → o ≡ shown n l ts → cond b (option_map (segment_shifted up numbers) o) o ≡ shown n (cond b (moved_by up l) l) (cond b (summed ts numbers) ts)
+shift_shows_at up numbers n l ts o true e = ap (option_map (segment_shifted up numbers)) e ∙ shift_one up numbers n l ts (nat_eq n 0)
 shift_shows_at up numbers n l ts o false e = e
 
 -- a row more or less between two times
-pub shift_shows : (old new : List (ℕ × Segment)) (from to : ℕ) (up : Bool) (numbers : List ℕ) (n l : ℕ → ℕ) (s : ℕ → List ℕ) → Shows old n l s
-    → ((u : ℕ) → segment_at u new ≡ cond (nat_le from u && nat_lt u to) (option_map (shifted up numbers) (segment_at u old)) (segment_at u old))
-    → Shows new n (λ t. cond (nat_le from t && nat_lt t to) (moved_by up (l t)) (l t)) (λ t. cond (nat_le from t && nat_lt t to) (summed (s t) numbers) (s t))
+pub shift_shows : (old new : List (ℕ × Segment)) (from to : ℕ) (up : Bool) (numbers : List ℕ) (n l : ℕ → ℕ) (s : ℕ → List ℕ) → ShowsCuts old n l s
+    → ((u : ℕ) → segment_at u new ≡ cond (nat_le from u && nat_lt u to) (option_map (segment_shifted up numbers) (segment_at u old)) (segment_at u old))
+    → ShowsCuts new n (λ t. cond (nat_le from t && nat_lt t to) (moved_by up (l t)) (l t)) (λ t. cond (nat_le from t && nat_lt t to) (summed (s t) numbers) (s t))
 shift_shows old new from to up numbers n l s shows moved = record {
   at = λ t. moved t ∙ shift_shows_at up numbers (n t) (l t) (s t) (segment_at t old) (nat_le from t && nat_lt t to) (shows.at t);
 }

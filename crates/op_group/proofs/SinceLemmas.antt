@@ -7,7 +7,7 @@ use Rattle.std.proofs.lemmas.List.Sums.{sum_by-cons}
 use Rattle.cedr_base.specs.declared.field.Field.{Field}
 use Rattle.cedr_base.specs.declared.row.Row.{Row}
 use Rattle.op_group.specs.declared.segment.Segment.{Segment}
-use Rattle.op_group.specs.Groups.{lives_at, number_at}
+use Rattle.op_group.specs.Groups.{lives_at, column_number}
 use Rattle.op_group.specs.Cuts.{StaysBetweenCuts, segment_at}
 use Rattle.op_group.specs.Measures.{part_at, edges_of, living_of, sums_of, is_cut_of, Fits}
 use Rattle.op_group.specs.TimeLaws.{false_not_true}
@@ -38,7 +38,7 @@ no_parts weight (r ∷ rows) t none =
 zero_sums_at : (columns : List ℕ) (rows : List Row) (t : ℕ) → living_of rows t ≡ 0 → sums_of columns rows t ≡ replicate (length columns) 0
 zero_sums_at [] rows t none = refl
 zero_sums_at (column ∷ columns) rows t none =
-    ap (λ n. (n % 2 ^ 128) ∷ sums_of columns rows t) (no_parts (number_at column) rows t none) ∙ ap (λ ns. 0 ∷ ns) (zero_sums_at columns rows t none)
+    ap (λ n. (n % 2 ^ 128) ∷ sums_of columns rows t) (no_parts (column_number column) rows t none) ∙ ap (λ ns. 0 ∷ ns) (zero_sums_at columns rows t none)
 
 record IsQuiet (columns : List ℕ) (rows : List Row) (t : ℕ) : Type 0 where
   living : living_of rows t ≡ 0

@@ -10,8 +10,8 @@ use Rattle.cedr_base.specs.declared.change.Change.{Change}
 use Rattle.cedr_base.specs.Order.{payload_cmp}
 use Rattle.cedr_base.specs.Changes.{MayFollow, sync_of, changed_row}
 use Rattle.cedr_base.specs.Rows.{AreRows}
-use Rattle.cedr_stream.specs.Repairs.{IsMoved}
-use Rattle.cedr_stream.proofs.Moves.{may_is}
+use Rattle.change_laws.specs.Repairs.{IsMoved}
+use Rattle.change_laws.proofs.Moves.{may_is}
 use Rattle.cedr_table.specs.Operators.{Tables, table_at, mark_at, with_table, CanTake, Gains}
 use Rattle.cedr_table.specs.PortLaws.{table_at-with}
 use Rattle.cedr_table.proofs.RowsLemmas.{moved_are}
@@ -21,7 +21,7 @@ use Rattle.op_group.specs.Groups.{Grouping, key_of, rows_of, grouped, open_from}
 use Rattle.op_group.specs.Cuts.{differences}
 use Rattle.op_group.specs.Measures.{sums_of}
 use Rattle.op_group.specs.LawWords.{shown_as}
-use Rattle.op_group.specs.State.{KeepsGroups, Answers, StandsForGroups}
+use Rattle.op_group.specs.State.{KeepsGroups, AnswersGroup, StandsForGroups}
 use Rattle.op_group.proofs.GroupRepairs.{group_repairs}
 
 -- on the only port
@@ -61,12 +61,12 @@ stands_after g groups groups' points points' tables marks port c after g' same k
 
 -- and what was appended repairs the result
 pub gains_after : (g : Grouping) (groups : List (List Field × BTreeMap ℕ Segment)) (points : Points) (tables : Tables) (marks : List ℕ) (port : ℕ) (c : Change) (after : List Row) (outs outs' : List Change)
-    → (g' : Grouping) → g' ≡ g → ((old new : List Row) (mark : ℕ) → KeepsGroups g' groups points.all.keys points.due.keys old mark → MayFollow old [] c → IsMoved c old new → mark ≤ sync_of c → AreRows old → Answers g'.counted g'.sums (key_of g' (changed_row c)) (rows_of g' (key_of g' (changed_row c)) old) (rows_of g' (key_of g' (changed_row c)) new) outs outs')
+    → (g' : Grouping) → g' ≡ g → ((old new : List Row) (mark : ℕ) → KeepsGroups g' groups points.all.keys points.due.keys old mark → MayFollow old [] c → IsMoved c old new → mark ≤ sync_of c → AreRows old → AnswersGroup g'.counted g'.sums (key_of g' (changed_row c)) (rows_of g' (key_of g' (changed_row c)) old) (rows_of g' (key_of g' (changed_row c)) new) outs outs')
     → StandsForGroups g groups points tables marks → CanTake tables marks port c → IsMoved c (table_at tables port) after
     → Gains (grouped g (table_at tables 0)) (grouped g (table_at (with_table tables port after) 0)) (open_from (mark_at marks 0) (grouped g (table_at tables 0))) outs outs'
 gains_after g groups points tables marks port c after outs outs' g' same answers stands can moved =
     let one = on_one tables marks port c after stands.table can moved in
-    let answer = subst (λ (k : Grouping). Answers k.counted k.sums (key_of k (changed_row c)) (rows_of k (key_of k (changed_row c)) (table_at tables 0)) (rows_of k (key_of k (changed_row c)) after) outs outs') same
+    let answer = subst (λ (k : Grouping). AnswersGroup k.counted k.sums (key_of k (changed_row c)) (rows_of k (key_of k (changed_row c)) (table_at tables 0)) (rows_of k (key_of k (changed_row c)) after) outs outs') same
     (answers (table_at tables 0) after (mark_at marks 0) (subst (λ (k : Grouping). KeepsGroups k groups points.all.keys points.due.keys (table_at tables 0) (mark_at marks 0)) (sym same) stands.keeps) one.may one.moved one.from stands.rows) in
     subst (λ (rows : List Row). Gains (grouped g (table_at tables 0)) (grouped g rows) (open_from (mark_at marks 0) (grouped g (table_at tables 0))) outs outs') (sym one.new_table)
     (record {

@@ -8,17 +8,17 @@ use Rattle.cedr_base.specs.declared.row.Row.{Row}
 use Rattle.cedr_base.specs.declared.change.Change.{Change}
 use Rattle.cedr_base.specs.Rows.{IsRow, AreRows, count_of}
 use Rattle.cedr_base.specs.Changes.{IsChange, sync_of}
-use Rattle.cedr_stream.specs.Repairs.{IsMoved}
-use Rattle.cedr_stream.proofs.Moves.{sum_by-moved}
+use Rattle.change_laws.specs.Repairs.{IsMoved}
+use Rattle.change_laws.proofs.Moves.{sum_by-moved}
 use Rattle.op_group.specs.declared.segment.Segment.{Segment}
-use Rattle.op_group.specs.Groups.{number_at, segments}
-use Rattle.op_group.specs.Cuts.{segment_at, rows_in, IsNextCut, IsLastCut}
+use Rattle.op_group.specs.Groups.{column_number, segments}
+use Rattle.op_group.specs.Cuts.{segment_at, rows_of_cuts, IsNextCut, IsLastCut}
 use Rattle.op_group.specs.Measures.{edge_at, part_at, edges_of, living_of, sums_of, Ascends, Fits, is_cut_of}
 use Rattle.op_group.specs.TimeLaws.{below_test, same_count, false_not_true}
 use Rattle.op_group.specs.SegmentLaws.{fits_alike, segment_fits, fits_segment, map_alike}
-use Rattle.op_group.specs.LawWords.{last_of, Untouched, Outside}
+use Rattle.op_group.specs.LawWords.{last_time, Untouched, Outside}
 use Rattle.op_group.specs.BoundLaws.{untouched_sums, edges_untouched, parts_untouched}
-use Rattle.op_group.specs.State.{ShowsFrom, asked, Turned}
+use Rattle.op_group.specs.State.{ShowsFrom, grouping_asked, Turned}
 use Rattle.cedr_table.proofs.RowsLemmas.{first_is, others_are}
 use Rattle.op_group.proofs.SinceLemmas.{Starts, cut_is, some_cut, low_cut, gone_before}
 use Rattle.op_group.proofs.Regions.{times_of, between, found_is, found_within, found_none}
@@ -28,7 +28,7 @@ pub group_outside : (sums : List ℕ) (c : Change) (old new : List Row) (t : ℕ
 group_outside sums c old new t is moved outside = (
   still (edge_at t) (edges_untouched t c is outside),
   still (part_at (λ _. 1) t) (parts_untouched (λ _. 1) (λ r e. refl) t c is outside),
-  map_alike (λ column. sum_by (part_at (number_at column) t) old % 2 ^ 128) (λ column. sum_by (part_at (number_at column) t) new % 2 ^ 128) sums (λ column. ap (λ n. n % 2 ^ 128) (still (part_at (number_at column) t) (parts_untouched (number_at column) (λ r e. refl) t c is outside))),
+  map_alike (λ column. sum_by (part_at (column_number column) t) old % 2 ^ 128) (λ column. sum_by (part_at (column_number column) t) new % 2 ^ 128) sums (λ column. ap (λ n. n % 2 ^ 128) (still (part_at (column_number column) t) (parts_untouched (column_number column) (λ r e. refl) t c is outside))),
 )
   where
     still : (w : Row → ℕ) → Untouched w c → sum_by w old ≡ sum_by w new
@@ -36,19 +36,19 @@ group_outside sums c old new t is moved outside = (
 
 module _ (counted : Bool) (sums : List ℕ) (key : List Field) (c : Change) (old new : List Row) (is : IsChange c) (moved : IsMoved c old new) where
   -- a row all of whose times are outside is made of both or of none
-  same_made : (r : Row) → ((t : ℕ) → r.begin ≤ t → t ≤ r.end → Outside c t) → count_of r (segments (asked counted sums) key old) ≡ count_of r (segments (asked counted sums) key new)
-  same_made r outside = same_count (count_of r (segments (asked counted sums) key old)) (count_of r (segments (asked counted sums) key new))
+  same_made : (r : Row) → ((t : ℕ) → r.begin ≤ t → t ≤ r.end → Outside c t) → count_of r (segments (grouping_asked counted sums) key old) ≡ count_of r (segments (grouping_asked counted sums) key new)
+  same_made r outside = same_count (count_of r (segments (grouping_asked counted sums) key old)) (count_of r (segments (grouping_asked counted sums) key new))
       (λ there.
-      let fits = segment_fits (asked counted sums) key old r there in
+      let fits = segment_fits (grouping_asked counted sums) key old r there in
       let order : r.begin < r.end = fits.order in
       let first = group_outside sums c old new r.begin is moved (outside r.begin (omega arith) (omega arith)) in
-      fits_segment (asked counted sums) key new r (fits_alike counted key (living_of old) (living_of new) (sums_of sums old) (sums_of sums new) (is_cut_of old) (is_cut_of new) r
+      fits_segment (grouping_asked counted sums) key new r (fits_alike counted key (living_of old) (living_of new) (sums_of sums old) (sums_of sums new) (is_cut_of old) (is_cut_of new) r
       (λ t over under. ap (nat_lt 0) (group_outside sums c old new t is moved (outside t over under)).0) first.1 first.2 fits))
       (λ there.
-      let fits = segment_fits (asked counted sums) key new r there in
+      let fits = segment_fits (grouping_asked counted sums) key new r there in
       let order : r.begin < r.end = fits.order in
       let first = group_outside sums c old new r.begin is moved (outside r.begin (omega arith) (omega arith)) in
-      fits_segment (asked counted sums) key old r (fits_alike counted key (living_of new) (living_of old) (sums_of sums new) (sums_of sums old) (is_cut_of new) (is_cut_of old) r
+      fits_segment (grouping_asked counted sums) key old r (fits_alike counted key (living_of new) (living_of old) (sums_of sums new) (sums_of sums old) (is_cut_of new) (is_cut_of old) r
       (λ t over under. sym (ap (nat_lt 0) (group_outside sums c old new t is moved (outside t over under)).0)) (sym first.1) (sym first.2) fits))
 
 between_before : (counted : Bool) (key : List Field) (living : ℕ → ℕ) (sums : ℕ → List ℕ) (is_cut : ℕ → Bool) (r : Row) (lo : ℕ) → Fits counted key living sums is_cut r → is_cut lo ≡ true → r.begin < lo → r.end ≤ lo
@@ -86,7 +86,7 @@ edges_are_times rows t are cut = within_rows rows are (Rattle.std.proofs.lemmas.
 module _ (counted : Bool) (sums : List ℕ) (key : List Field) (c : Change) (old new : List Row) (cuts cuts' : List (ℕ × Segment)) (lo hi : ℕ)
     (is : IsChange c) (moved : IsMoved c old new) (old_rows : AreRows old) (new_rows : AreRows new)
     (up : Ascends (times_of cuts)) (up' : Ascends (times_of cuts')) (mark from : ℕ) (shows : ShowsFrom sums mark from cuts old) (shows' : ShowsFrom sums mark from cuts' new)
-    (first : IsLastCut cuts (sync_of c) lo) (last : IsNextCut cuts (last_of c + 1) hi) (late : mark ≤ sync_of c) where
+    (first : IsLastCut cuts (sync_of c) lo) (last : IsNextCut cuts (last_time c + 1) hi) (late : mark ≤ sync_of c) where
   -- the first of the two times is shown
   low : from ≤ lo
   low = elim first.there [
@@ -131,21 +131,21 @@ module _ (counted : Bool) (sums : List ℕ) (key : List Field) (c : Change) (old
     | inr there ↦ let after = last.after in after_all r rows (sym (same hi (inr (omega arith))) ∙ some_cut sums mark from cuts old hi shows there) fits over
   ]
 
-  apart_same : (r : Row) → (r.begin < lo) ⊎ (hi < r.end) → count_of r (segments (asked counted sums) key old) ≡ count_of r (segments (asked counted sums) key new)
-  apart_same r apart = elim (cases_lt 0 (count_of r (segments (asked counted sums) key old))) [
-    | inl there ↦ same_made counted sums key c old new is moved r (others_outside old r (λ t outside. refl) shows.starts old_rows (segment_fits (asked counted sums) key old r there) apart)
-    | inr none ↦ elim (cases_lt 0 (count_of r (segments (asked counted sums) key new))) [
-      | inl there ↦ same_made counted sums key c old new is moved r (others_outside new r still_cut shows'.starts new_rows (segment_fits (asked counted sums) key new r there) apart)
+  apart_same : (r : Row) → (r.begin < lo) ⊎ (hi < r.end) → count_of r (segments (grouping_asked counted sums) key old) ≡ count_of r (segments (grouping_asked counted sums) key new)
+  apart_same r apart = elim (cases_lt 0 (count_of r (segments (grouping_asked counted sums) key old))) [
+    | inl there ↦ same_made counted sums key c old new is moved r (others_outside old r (λ t outside. refl) shows.starts old_rows (segment_fits (grouping_asked counted sums) key old r there) apart)
+    | inr none ↦ elim (cases_lt 0 (count_of r (segments (grouping_asked counted sums) key new))) [
+      | inl there ↦ same_made counted sums key c old new is moved r (others_outside new r still_cut shows'.starts new_rows (segment_fits (grouping_asked counted sums) key new r there) apart)
       | inr nothing ↦ omega arith
     ]
   ]
 
-  apart_sums : (r : Row) → (r.begin < lo) ⊎ (hi < r.end) → count_of r (segments (asked counted sums) key new) + count_of r (rows_in counted key (between lo hi cuts)) ≡ count_of r (segments (asked counted sums) key old) + count_of r (rows_in counted key (between lo hi cuts'))
+  apart_sums : (r : Row) → (r.begin < lo) ⊎ (hi < r.end) → count_of r (segments (grouping_asked counted sums) key new) + count_of r (rows_of_cuts counted key (between lo hi cuts)) ≡ count_of r (segments (grouping_asked counted sums) key old) + count_of r (rows_of_cuts counted key (between lo hi cuts'))
   apart_sums r apart =
       let outside : (lo ≤ r.begin) × (r.end ≤ hi) → ⊥ = λ h. elim apart [ inl under ↦ (let x = h.0 in omega arith) | inr over ↦ (let x = h.1 in omega arith) ] in
       omega (arith, apart_same r apart, found_none counted sums key cuts old lo hi mark from up shows low r outside, found_none counted sums key cuts' new lo hi mark from up' shows' low r outside)
 
-  others_stay : (r : Row) → count_of r (segments (asked counted sums) key new) + count_of r (rows_in counted key (between lo hi cuts)) ≡ count_of r (segments (asked counted sums) key old) + count_of r (rows_in counted key (between lo hi cuts'))
+  others_stay : (r : Row) → count_of r (segments (grouping_asked counted sums) key new) + count_of r (rows_of_cuts counted key (between lo hi cuts)) ≡ count_of r (segments (grouping_asked counted sums) key old) + count_of r (rows_of_cuts counted key (between lo hi cuts'))
   others_stay r = elim (cases_lt r.begin lo) [
     | inl under ↦ apart_sums r (inl under)
     | inr begins ↦ elim (cases_lt hi r.end) [
@@ -154,14 +154,14 @@ module _ (counted : Bool) (sums : List ℕ) (key : List Field) (c : Change) (old
     ]
   ]
 
-  found_most : (cuts0 : List (ℕ × Segment)) (rows : List Row) → Ascends (times_of cuts0) → ShowsFrom sums mark from cuts0 rows → (r : Row) → count_of r (rows_in counted key (between lo hi cuts0)) ≤ count_of r (segments (asked counted sums) key rows)
-  found_most cuts0 rows up0 shows0 r = elim (cases_lt 0 (count_of r (rows_in counted key (between lo hi cuts0)))) [
+  found_most : (cuts0 : List (ℕ × Segment)) (rows : List Row) → Ascends (times_of cuts0) → ShowsFrom sums mark from cuts0 rows → (r : Row) → count_of r (rows_of_cuts counted key (between lo hi cuts0)) ≤ count_of r (segments (grouping_asked counted sums) key rows)
+  found_most cuts0 rows up0 shows0 r = elim (cases_lt 0 (count_of r (rows_of_cuts counted key (between lo hi cuts0)))) [
     | inl there ↦ let place = found_within counted sums key cuts0 rows lo hi mark from up0 shows0 low r there in omega (arith, found_is counted sums key cuts0 rows lo hi mark from up0 shows0 low r place.0 place.1)
     | inr none ↦ omega arith
   ]
 
   -- only the rows between the two times may change
-  pub turned_between : Turned counted sums key old new (rows_in counted key (between lo hi cuts)) (rows_in counted key (between lo hi cuts'))
+  pub turned_between : Turned counted sums key old new (rows_of_cuts counted key (between lo hi cuts)) (rows_of_cuts counted key (between lo hi cuts'))
   turned_between = record {
     some_old = λ r. found_most cuts old up shows r;
     some_new = λ r. found_most cuts' new up' shows' r;

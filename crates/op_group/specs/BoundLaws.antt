@@ -12,11 +12,11 @@ use Rattle.cedr_base.specs.declared.change.Change.TheVariants.{Add, Cut}
 use Rattle.cedr_base.specs.Rows.{one_if_same, count_of, SameRows}
 use Rattle.cedr_base.specs.Changes.{IsChange, sync_of, puts, takes}
 use Rattle.cedr_base.proofs.Bags.{count_of-cons, one_if_same_exact}
-use Rattle.cedr_stream.specs.Repairs.{IsMoved}
-use Rattle.cedr_stream.proofs.BagSums.{count_of-itself, same_back}
-use Rattle.cedr_stream.proofs.Moves.{sum_by-moved, remnant_some, remnant_none}
-use Rattle.op_group.specs.Groups.{Grouping, number_at, key_of, same_payload, rows_of, grouped, cut_points, least_from, is_open, open_from, lives_at}
-use Rattle.op_group.specs.Measures.{edge_at, part_at, edges_of, living_of, sums_of, among, row_from, Fits, is_cut_of, key_in, IsMade}
+use Rattle.change_laws.specs.Repairs.{IsMoved}
+use Rattle.change_laws.proofs.BagSums.{count_of-itself, same_back}
+use Rattle.change_laws.proofs.Moves.{sum_by-moved, remnant_some, remnant_none}
+use Rattle.op_group.specs.Groups.{Grouping, column_number, key_of, same_payload, rows_of, grouped, cut_points, least_from, is_open, open_from, lives_at}
+use Rattle.op_group.specs.Measures.{edge_at, part_at, edges_of, living_of, sums_of, among, row_from, Fits, is_cut_of, key_in, IsGroupRow}
 use Rattle.op_group.specs.TimeLaws.{below_test, above_test, one_elsewhere, false_not_true}
 use Rattle.op_group.specs.CutLaws.{next_of}
 use Rattle.op_group.specs.SegmentLaws.{sum_by-filter, cuts_ascend, among_cuts, edge_there, fits_alike}
@@ -178,7 +178,7 @@ pub same_outside : (g : Grouping) (key : List Field) (c : Change) (old new : Lis
 same_outside g key c old new t is moved outside = same_at g key old new t
     (still g key (edge_at t) c old new (edges_untouched t c is outside) moved)
     (still g key (part_at (λ _. 1) t) c old new (parts_untouched (λ _. 1) (λ r e. refl) t c is outside) moved)
-    (λ column. still g key (part_at (number_at column) t) c old new (parts_untouched (number_at column) (λ r e. refl) t c is outside) moved)
+    (λ column. still g key (part_at (column_number column) t) c old new (parts_untouched (column_number column) (λ r e. refl) t c is outside) moved)
 
 record IsLater (rows : List Row) (p : ℕ) : Type 0 where
   time : ℕ
@@ -226,7 +226,7 @@ begins_row g key rows p mark lives cut none =
 
 -- where a row of the new result is open at a mark before which nothing changed, a row with the same begin was
 -- open before
-pub was_open : (g : Grouping) (c : Change) (old new : List Row) (mark : ℕ) (r : Row) → IsChange c → IsMoved c old new → mark ≤ sync_of c → IsMade g new r → r.begin < mark → mark ≤ r.end → IsBegun g old r.begin mark
+pub was_open : (g : Grouping) (c : Change) (old new : List Row) (mark : ℕ) (r : Row) → IsChange c → IsMoved c old new → mark ≤ sync_of c → IsGroupRow g new r → r.begin < mark → mark ≤ r.end → IsBegun g old r.begin mark
 was_open g c old new mark r is moved from made less within =
     let same = same_outside g (key_in g r) c old new r.begin is moved (inl (omega arith)) in
     begins_row g (key_in g r) old r.begin mark

@@ -20,7 +20,7 @@ segment_at t cuts = lookup (is_at (nat_cmp t)) cuts
 
 -- The map shows these numbers: at a time where some begins and ends stand, how many they are, how many rows live from
 -- there on, and the sums over them; and nothing at any other time.
-pub record Shows (cuts : List (ℕ × Segment)) (edges living : ℕ → ℕ) (sums : ℕ → List ℕ) : Type 0 where
+pub record ShowsCuts (cuts : List (ℕ × Segment)) (edges living : ℕ → ℕ) (sums : ℕ → List ℕ) : Type 0 where
   pub at : (t : ℕ) → segment_at t cuts ≡ (if nat_eq (edges t) 0 then None else Some (record { edges = edges t; living = living t; totals = sums t }))
 
 -- where no begin and no end stands the rows that live stay the same, and before all of them there are none
@@ -39,8 +39,8 @@ abbrev pub totals : Bool → ℕ → List ℕ → List Field
 totals counted living sums = (if counted then modular living ∷ [] else []) ++ map (λ n. Number (cast_signed w128 n)) sums
 
 -- a row of the result that begins at a cut point and isn't ended yet
-abbrev pub begun : Bool → List Field → ℕ → Segment → Option (ℕ × List Field)
-begun counted key t segment = if nat_eq segment.living 0 then None else Some (t, key ++ totals counted segment.living segment.totals)
+abbrev pub row_begun : Bool → List Field → ℕ → Segment → Option (ℕ × List Field)
+row_begun counted key t segment = if nat_eq segment.living 0 then None else Some (t, key ++ totals counted segment.living segment.totals)
 
 -- the row ends at the next cut point
 abbrev pub ended_at : Option (ℕ × List Field) → ℕ → List Row
@@ -50,11 +50,11 @@ ended_at (Some row) t = record { end = t; begin = row.0; payload = row.1 } ∷ [
 -- the rows of cut points, where one has begun before them
 abbrev pub rows_after : Bool → List Field → Option (ℕ × List Field) → List (ℕ × Segment) → List Row
 rows_after counted key row [] = []
-rows_after counted key row (cut ∷ cuts) = ended_at row cut.0 ++ rows_after counted key (begun counted key cut.0 cut.1) cuts
+rows_after counted key row (cut ∷ cuts) = ended_at row cut.0 ++ rows_after counted key (row_begun counted key cut.0 cut.1) cuts
 
 -- the rows of cut points, where none has begun before them
-abbrev pub rows_in : Bool → List Field → List (ℕ × Segment) → List Row
-rows_in counted key cuts = rows_after counted key None cuts
+abbrev pub rows_of_cuts : Bool → List Field → List (ℕ × Segment) → List Row
+rows_of_cuts counted key cuts = rows_after counted key None cuts
 
 -- sums modulo 2^128, one by one
 abbrev pub summed : List ℕ → List ℕ → List ℕ
@@ -68,12 +68,12 @@ shifted_by true n = n
 shifted_by false n = (2 ^ 128 - n) % 2 ^ 128
 
 -- a row more or a row less
-abbrev pub shifted : Bool → List ℕ → Segment → Segment
-shifted up numbers s = record { edges = s.edges; living = if up then s.living + 1 else s.living - 1; totals = summed s.totals numbers }
+abbrev pub segment_shifted : Bool → List ℕ → Segment → Segment
+segment_shifted up numbers s = record { edges = s.edges; living = if up then s.living + 1 else s.living - 1; totals = summed s.totals numbers }
 
 -- a begin or an end more
-abbrev pub raised : Segment → Segment
-raised s = record s { edges = s.edges + 1 }
+abbrev pub edge_raised : Segment → Segment
+edge_raised s = record s { edges = s.edges + 1 }
 
 -- the new map has something else at one time alone
 abbrev pub IsEdit : ℕ → Option Segment → List (ℕ × Segment) → List (ℕ × Segment) → Type 0

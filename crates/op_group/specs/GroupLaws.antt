@@ -17,10 +17,10 @@ use Rattle.cedr_base.specs.Order.{payload_cmp}
 use Rattle.cedr_base.specs.OrderLaws.{payload_total}
 use Rattle.cedr_base.specs.Rows.{one_if_same, count_of, SameRows}
 use Rattle.cedr_base.proofs.RowLemmas.{exact_rows}
-use Rattle.cedr_stream.proofs.BagSums.{sum_by-same}
-use Rattle.op_group.specs.Groups.{Grouping, number_at, key_of, same_payload, distinct, rows_of, segments, grouped}
+use Rattle.change_laws.proofs.BagSums.{sum_by-same}
+use Rattle.op_group.specs.Groups.{Grouping, column_number, key_of, same_payload, distinct, rows_of, segments, grouped}
 use Rattle.op_group.specs.Cuts.{totals}
-use Rattle.op_group.specs.Measures.{edge_at, part_at, living_of, sums_of, Fits, is_cut_of, key_in, IsMade}
+use Rattle.op_group.specs.Measures.{edge_at, part_at, living_of, sums_of, Fits, is_cut_of, key_in, IsGroupRow}
 use Rattle.op_group.specs.TimeLaws.{same_count}
 use Rattle.op_group.specs.SegmentLaws.{sum_by-filter, fits_alike, segment_fits, fits_segment, map_alike}
 use Rattle.op_group.specs.LawWords.{SameAt}
@@ -102,7 +102,7 @@ key_found g key living sums r wide is =
 
 -- a row between neighbouring cut points of a group has the key of that group
 pub fits_key : (g : Grouping) (key : List Field) (rows : List Row) (is_cut : ℕ → Bool) (r : Row) → Fits g.counted key (living_of rows) (sums_of g.sums rows) is_cut r → key_in g r ≡ key
-fits_key g key rows is_cut r fits = key_found g key (living_of rows r.begin) (sums_of g.sums rows r.begin) r (length-map g.sums (λ column. sum_by (part_at (number_at column) r.begin) rows % 2 ^ 128)) fits.payload_is
+fits_key g key rows is_cut r fits = key_found g key (living_of rows r.begin) (sums_of g.sums rows r.begin) r (length-map g.sums (λ column. sum_by (part_at (column_number column) r.begin) rows % 2 ^ 128)) fits.payload_is
 
 empty_at : (g : Grouping) (key : List Field) (r : Row) (rows : List Row) (b : Bool) → list_any (same_payload key) (map (key_of g) rows) ≡ b → cond b (count_of r (segments g key (rows_of g key rows))) 0 ≡ count_of r (segments g key (rows_of g key rows))
 empty_at g key r rows true h = refl
@@ -122,21 +122,21 @@ grouped_count g rows r =
     ∙ empty_at g (key_in g r) r rows (list_any (same_payload (key_in g r)) (map (key_of g) rows)) refl)
 
 -- each row of the result is one that its group makes between neighbouring cut points
-pub made_from_there : (g : Grouping) (rows : List Row) (r : Row) → 0 < count_of r (grouped g rows) → IsMade g rows r
+pub made_from_there : (g : Grouping) (rows : List Row) (r : Row) → 0 < count_of r (grouped g rows) → IsGroupRow g rows r
 made_from_there g rows r there = segment_fits g (key_in g r) (rows_of g (key_in g r) rows) r (omega (arith, there, grouped_count g rows r))
 
 -- a row that its group makes between neighbouring cut points is in the result, once
-pub there_from_made : (g : Grouping) (rows : List Row) (r : Row) → IsMade g rows r → count_of r (grouped g rows) ≡ 1
+pub there_from_made : (g : Grouping) (rows : List Row) (r : Row) → IsGroupRow g rows r → count_of r (grouped g rows) ≡ 1
 there_from_made g rows r made = grouped_count g rows r ∙ fits_segment g (key_in g r) (rows_of g (key_in g r) rows) r made
 
 -- sums over a group that are the same make it the same
 pub same_at : (g : Grouping) (key : List Field) (xs ys : List Row) (t : ℕ) → sum_by (edge_at t) (rows_of g key xs) ≡ sum_by (edge_at t) (rows_of g key ys)
     → sum_by (part_at (λ _. 1) t) (rows_of g key xs) ≡ sum_by (part_at (λ _. 1) t) (rows_of g key ys)
-    → ((column : ℕ) → sum_by (part_at (number_at column) t) (rows_of g key xs) ≡ sum_by (part_at (number_at column) t) (rows_of g key ys)) → SameAt g key xs ys t
+    → ((column : ℕ) → sum_by (part_at (column_number column) t) (rows_of g key xs) ≡ sum_by (part_at (column_number column) t) (rows_of g key ys)) → SameAt g key xs ys t
 same_at g key xs ys t e l s = record {
   edges = e;
   living = l;
-  sums = map_alike (λ column. sum_by (part_at (number_at column) t) (rows_of g key xs) % 2 ^ 128) (λ column. sum_by (part_at (number_at column) t) (rows_of g key ys) % 2 ^ 128) g.sums (λ column. ap (λ n. n % 2 ^ 128) (s column));
+  sums = map_alike (λ column. sum_by (part_at (column_number column) t) (rows_of g key xs) % 2 ^ 128) (λ column. sum_by (part_at (column_number column) t) (rows_of g key ys) % 2 ^ 128) g.sums (λ column. ap (λ n. n % 2 ^ 128) (s column));
 }
 
 -- where a group of one table is at a time the same as in another, it is so the other way round
@@ -144,7 +144,7 @@ pub same_back_at : (g : Grouping) (key : List Field) (xs ys : List Row) (t : ℕ
 same_back_at g key xs ys t same = record { edges = sym same.edges; living = sym same.living; sums = sym same.sums }
 
 -- a row is made of two tables alike, where its group is the same all the while
-pub made_alike : (g : Grouping) (xs ys : List Row) (r : Row) → ((t : ℕ) → r.begin ≤ t → t ≤ r.end → SameAt g (key_in g r) xs ys t) → IsMade g xs r → IsMade g ys r
+pub made_alike : (g : Grouping) (xs ys : List Row) (r : Row) → ((t : ℕ) → r.begin ≤ t → t ≤ r.end → SameAt g (key_in g r) xs ys t) → IsGroupRow g xs r → IsGroupRow g ys r
 made_alike g xs ys r same made =
     let key = key_in g r in
     let order = made.order in
@@ -169,5 +169,5 @@ group_sum g key w xs ys same =
 -- two tables that are the same bag make the same result
 pub same_grouped : (g : Grouping) (xs ys : List Row) → SameRows xs ys → SameRows (grouped g xs) (grouped g ys)
 same_grouped g xs ys same = record {
-  each = λ r. count_alike g xs ys r (λ t over under. same_at g (key_in g r) xs ys t (group_sum g (key_in g r) (edge_at t) xs ys same) (group_sum g (key_in g r) (part_at (λ _. 1) t) xs ys same) (λ column. group_sum g (key_in g r) (part_at (number_at column) t) xs ys same));
+  each = λ r. count_alike g xs ys r (λ t over under. same_at g (key_in g r) xs ys t (group_sum g (key_in g r) (edge_at t) xs ys same) (group_sum g (key_in g r) (part_at (λ _. 1) t) xs ys same) (λ column. group_sum g (key_in g r) (part_at (column_number column) t) xs ys same));
 }

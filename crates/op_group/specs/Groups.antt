@@ -7,7 +7,7 @@ use Rattle.cedr_base.specs.declared.field.Field.{Field}
 use Rattle.cedr_base.specs.declared.field.Field.TheVariants.{Number, Bytes}
 use Rattle.cedr_base.specs.declared.row.Row.{Row}
 use Rattle.cedr_base.specs.Order.{payload_cmp}
-use Rattle.cedr_expr.specs.Columns.{kept}
+use Rattle.cedr_expr.specs.Columns.{kept_columns}
 use Rattle.cedr_table.specs.Operators.{Meaning, table_at, mark_at}
 
 -- What is asked of groups.
@@ -25,7 +25,7 @@ grouping_by keys counted sums = record { keys = keys; counted = counted; sums = 
 
 -- the key of a row: the fields in the columns of the key
 abbrev pub key_of : Grouping → Row → List Field
-key_of grouping r = kept grouping.keys r.payload
+key_of grouping r = kept_columns grouping.keys r.payload
 
 -- two payloads are the same where they compare as equal
 abbrev pub same_payload : List Field → List Field → Bool
@@ -65,18 +65,18 @@ abbrev pub modular : ℕ → Field
 modular n = Number (cast_signed w128 (n % 2 ^ 128))
 
 -- what a field adds to a sum, modulo 2^128: nothing where it isn't there or isn't a number
-abbrev pub number_of : Option Field → ℕ
-number_of None = 0
-number_of (Some (Number n)) = cast_unsigned w128 n % 2 ^ 128
-number_of (Some (Bytes text)) = 0
+abbrev pub field_number : Option Field → ℕ
+field_number None = 0
+field_number (Some (Number n)) = cast_unsigned w128 n % 2 ^ 128
+field_number (Some (Bytes text)) = 0
 
 -- what a row adds to the sum of a column
-abbrev pub number_at : ℕ → Row → ℕ
-number_at column r = number_of (slice_get r.payload column)
+abbrev pub column_number : ℕ → Row → ℕ
+column_number column r = field_number (slice_get r.payload column)
 
 -- the count of rows, where it is asked for, and then each sum over them
 abbrev pub totals_of : Grouping → List Row → List Field
-totals_of grouping rows = (if grouping.counted then modular (length rows) ∷ [] else []) ++ map (λ column. modular (sum_by (number_at column) rows)) grouping.sums
+totals_of grouping rows = (if grouping.counted then modular (length rows) ∷ [] else []) ++ map (λ column. modular (sum_by (column_number column) rows)) grouping.sums
 
 -- the row of two neighbouring cut points and of the rows that are valid between them: none where there are no such rows
 abbrev pub row_between : Grouping → List Field → ℕ → ℕ → List Row → List Row

@@ -19,9 +19,9 @@ pub record IsLeastOpen (mark : ℕ) (rows : List Row) (bound : ℕ) : Type 0 whe
   pub is : bound ≡ row.begin
 
 -- the last time that a change touches
-abbrev pub last_of : Change → ℕ
-last_of (Add r) = r.end
-last_of (Cut r e) = r.end
+abbrev pub last_time : Change → ℕ
+last_time (Add r) = r.end
+last_time (Cut r e) = r.end
 
 -- a change doesn't touch a weight
 abbrev pub Untouched : (Row → ℕ) → Change → Type 0
@@ -34,7 +34,7 @@ keyed g key w x = cond (same_payload key (key_of g x)) (w x) 0
 
 -- a time before a change is seen, or after the last time that it touches
 abbrev pub Outside : Change → ℕ → Type 0
-Outside c t = (t < sync_of c) ⊎ (last_of c < t)
+Outside c t = (t < sync_of c) ⊎ (last_time c < t)
 
 -- a row of the result begins at a time, and doesn't end before a mark
 pub record IsBegun (g : Grouping) (rows : List Row) (p mark : ℕ) : Type 0 where

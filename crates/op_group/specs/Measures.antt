@@ -2,7 +2,7 @@
 use Rattle.std.specs.Prelude.{ℕ, ◌≡◌, ◌<◌, ◌+◌, ◌-◌, ◌%◌, ◌^◌, List, [], ◌∷◌, ◌++◌, Bool, true, false, cond, length, map, take, sum_by, nat_lt, nat_eq}
 use Rattle.cedr_base.specs.declared.field.Field.{Field}
 use Rattle.cedr_base.specs.declared.row.Row.{Row}
-use Rattle.op_group.specs.Groups.{Grouping, lives_at, number_at, rows_of}
+use Rattle.op_group.specs.Groups.{Grouping, lives_at, column_number, rows_of}
 use Rattle.op_group.specs.Cuts.{one_at, totals}
 
 -- how many of its begin and its end stand at a time
@@ -23,7 +23,7 @@ living_of rows t = sum_by (part_at (λ _. 1) t) rows
 
 -- the sums of columns over the rows that are valid at a time, modulo 2^128
 abbrev pub sums_of : List ℕ → List Row → ℕ → List ℕ
-sums_of columns rows t = map (λ column. sum_by (part_at (number_at column) t) rows % 2 ^ 128) columns
+sums_of columns rows t = map (λ column. sum_by (part_at (column_number column) t) rows % 2 ^ 128) columns
 
 -- a time is among others
 abbrev pub among : ℕ → List ℕ → Bool
@@ -72,6 +72,6 @@ abbrev pub key_in : Grouping → Row → List Field
 key_in grouping r = take (length r.payload - (cond grouping.counted 1 0 + length grouping.sums)) r.payload
 
 -- a row is one of a result
-abbrev pub IsMade : Grouping → List Row → Row → Type 0
-IsMade grouping rows r = let group = rows_of grouping (key_in grouping r) rows in
+abbrev pub IsGroupRow : Grouping → List Row → Row → Type 0
+IsGroupRow grouping rows r = let group = rows_of grouping (key_in grouping r) rows in
     Fits grouping.counted (key_in grouping r) (living_of group) (sums_of grouping.sums group) (is_cut_of group) r

@@ -11,8 +11,8 @@ use Rattle.cedr_base.specs.declared.field.Field.TheVariants.{Number}
 use Rattle.cedr_base.specs.declared.row.Row.{Row}
 use Rattle.cedr_base.specs.Rows.{count_of}
 use Rattle.cedr_base.proofs.Bags.{count_of-cons}
-use Rattle.cedr_stream.proofs.BagSums.{count_of-itself, sum_by-without}
-use Rattle.op_group.specs.Groups.{Grouping, modular, number_at, totals_of, row_between, spans, neighbours, cut_points, put_time, segments, lives_at}
+use Rattle.change_laws.proofs.BagSums.{count_of-itself, sum_by-without}
+use Rattle.op_group.specs.Groups.{Grouping, modular, column_number, totals_of, row_between, spans, neighbours, cut_points, put_time, segments, lives_at}
 use Rattle.op_group.specs.Cuts.{one_at, totals, StaysBetweenCuts}
 use Rattle.op_group.specs.Measures.{edge_at, part_at, edges_of, living_of, sums_of, among, AllAbove, Ascends, one_row, rows_at, Fits, is_cut_of}
 use Rattle.op_group.specs.TimeLaws.{above_test, one_here, false_not_true, still_valid, not_valid_yet}
@@ -120,9 +120,9 @@ map_numbers : (f : ℕ → ℕ) (columns : List ℕ) → map (λ column. modular
 map_numbers f [] = refl
 map_numbers f (column ∷ columns) = ap (λ rest. modular (f column) ∷ rest) (map_numbers f columns)
 
-totals_are : (g : Grouping) (rows : List Row) (living : ℕ) (sums : List ℕ) → length rows ≡ living → map (λ column. sum_by (number_at column) rows % 2 ^ 128) g.sums ≡ sums → totals_of g rows ≡ totals g.counted living sums
+totals_are : (g : Grouping) (rows : List Row) (living : ℕ) (sums : List ℕ) → length rows ≡ living → map (λ column. sum_by (column_number column) rows % 2 ^ 128) g.sums ≡ sums → totals_of g rows ≡ totals g.counted living sums
 totals_are g rows living sums e f =
-    ap (λ rest. cond g.counted (modular (length rows) ∷ []) [] ++ rest) (map_numbers (λ column. sum_by (number_at column) rows) g.sums ∙ ap (λ ns. map (λ n. Number (cast_signed w128 n)) ns) f)
+    ap (λ rest. cond g.counted (modular (length rows) ∷ []) [] ++ rest) (map_numbers (λ column. sum_by (column_number column) rows) g.sums ∙ ap (λ ns. map (λ n. Number (cast_signed w128 n)) ns) f)
     ∙ ap (λ n. totals g.counted n sums) e
 
 row_between_at : (g : Grouping) (key : List Field) (p q : ℕ) (rows : List Row) (living : ℕ) (sums : List ℕ) → length rows ≡ living → totals_of g rows ≡ totals g.counted living sums
@@ -147,9 +147,9 @@ row_of_two : (g : Grouping) (key : List Field) (rows : List Row) (p q : ℕ) →
 row_of_two g key rows p q less ends =
     let chosen : filter (spans p q) rows ≡ filter (lives_at p) rows = filter_alike (spans p q) (lives_at p) rows (λ r there. spans_is r.begin r.end p q less (ends r there)) in
     let many : length (filter (spans p q) rows) ≡ living_of rows p = ap (λ (xs : List Row). length xs) chosen ∙ (length_is (filter (lives_at p) rows) ∙ sum_by-filter (λ _. 1) (lives_at p) rows) in
-    let sums : map (λ column. sum_by (number_at column) (filter (spans p q) rows) % 2 ^ 128) g.sums ≡ sums_of g.sums rows p =
-    map_alike (λ column. sum_by (number_at column) (filter (spans p q) rows) % 2 ^ 128) (λ column. sum_by (part_at (number_at column) p) rows % 2 ^ 128) g.sums
-    (λ column. ap (λ n. n % 2 ^ 128) (ap (sum_by (number_at column)) chosen ∙ sum_by-filter (number_at column) (lives_at p) rows)) in
+    let sums : map (λ column. sum_by (column_number column) (filter (spans p q) rows) % 2 ^ 128) g.sums ≡ sums_of g.sums rows p =
+    map_alike (λ column. sum_by (column_number column) (filter (spans p q) rows) % 2 ^ 128) (λ column. sum_by (part_at (column_number column) p) rows % 2 ^ 128) g.sums
+    (λ column. ap (λ n. n % 2 ^ 128) (ap (sum_by (column_number column)) chosen ∙ sum_by-filter (column_number column) (lives_at p) rows)) in
     row_between_at g key p q (filter (spans p q) rows) (living_of rows p) (sums_of g.sums rows p) many (totals_are g (filter (spans p q) rows) (living_of rows p) (sums_of g.sums rows p) many sums)
 
 next_end : (p q end : ℕ) (ts : List ℕ) → AllAbove q ts → p < q → among end (p ∷ q ∷ ts) ≡ true → p < end → q ≤ end
@@ -243,7 +243,7 @@ zeros f (column ∷ columns) h = ap (λ n. n ∷ map f columns) (h column) ∙ a
 pub group_stays : (columns : List ℕ) (rows : List Row) → StaysBetweenCuts (length columns) (edges_of rows) (living_of rows) (sums_of columns rows)
 group_stays columns rows = record {
   living_stays = λ p t h none. part_stays (λ _. 1) rows p t h none;
-  sums_stay = λ p t h none. map_alike (λ column. sum_by (part_at (number_at column) t) rows % 2 ^ 128) (λ column. sum_by (part_at (number_at column) p) rows % 2 ^ 128) columns (λ column. ap (λ n. n % 2 ^ 128) (part_stays (number_at column) rows p t h none));
+  sums_stay = λ p t h none. map_alike (λ column. sum_by (part_at (column_number column) t) rows % 2 ^ 128) (λ column. sum_by (part_at (column_number column) p) rows % 2 ^ 128) columns (λ column. ap (λ n. n % 2 ^ 128) (part_stays (column_number column) rows p t h none));
   none_live = λ t none. none_yet (λ _. 1) rows t none;
-  none_summed = λ t none. zeros (λ column. sum_by (part_at (number_at column) t) rows % 2 ^ 128) columns (λ column. ap (λ n. n % 2 ^ 128) (none_yet (number_at column) rows t none));
+  none_summed = λ t none. zeros (λ column. sum_by (part_at (column_number column) t) rows % 2 ^ 128) columns (λ column. ap (λ n. n % 2 ^ 128) (none_yet (column_number column) rows t none));
 }

@@ -15,7 +15,7 @@ use Rattle.op_group.specs.declared.points.CutPoint.{CutPoint}
 use Rattle.op_group.specs.declared.points.Points.{Points}
 use Rattle.op_group.specs.Points.{has_point, left_from, IsOpenCut}
 use Rattle.op_group.specs.Groups.{Grouping, same_payload, rows_of, segments}
-use Rattle.op_group.specs.Cuts.{Shows, segment_at, differences}
+use Rattle.op_group.specs.Cuts.{ShowsCuts, segment_at, differences}
 use Rattle.op_group.specs.Measures.{edges_of, living_of, sums_of}
 
 -- the cut points of a group, where there are any
@@ -36,7 +36,7 @@ since from before f t = if nat_le from t then f t else before
 pub record ShowsFrom (sums : List ℕ) (mark from : ℕ) (cuts : List (ℕ × Segment)) (rows : List Row) : Type 0 where
   pub below : from ≤ mark
   pub starts : ((from < mark) × (0 < edges_of rows from)) ⊎ ((t : ℕ) → t + 1 ≡ from → living_of rows t ≡ 0)
-  pub shows : Shows cuts (since from 0 (edges_of rows)) (since from 0 (living_of rows)) (since from (replicate (length sums) 0) (sums_of sums rows))
+  pub shows : ShowsCuts cuts (since from 0 (edges_of rows)) (since from 0 (living_of rows)) (since from (replicate (length sums) 0) (sums_of sums rows))
 
 -- the map shows the rows of a group from some time on
 pub record ShowsRows (sums : List ℕ) (mark : ℕ) (cuts : List (ℕ × Segment)) (rows : List Row) : Type 0 where
@@ -76,17 +76,17 @@ pub record StandsForGroups (g : Grouping) (groups : List (List Field × BTreeMap
   pub keeps : KeepsGroups g groups points.all.keys points.due.keys (table_at tables 0) (mark_at marks 0)
 
 -- what is asked of groups, but for the columns of the key
-abbrev pub asked : Bool → List ℕ → Grouping
-asked counted sums = record { keys = []; counted = counted; sums = sums }
+abbrev pub grouping_asked : Bool → List ℕ → Grouping
+grouping_asked counted sums = record { keys = []; counted = counted; sums = sums }
 
 -- the rows of one group's result that may change, before a change and after it: all others stay
 pub record Turned (counted : Bool) (sums : List ℕ) (key : List Field) (old new olds news : List Row) : Type 0 where
-  pub some_old : (r : Row) → count_of r olds ≤ count_of r (segments (asked counted sums) key old)
-  pub some_new : (r : Row) → count_of r news ≤ count_of r (segments (asked counted sums) key new)
-  pub others : (r : Row) → count_of r (segments (asked counted sums) key new) + count_of r olds ≡ count_of r (segments (asked counted sums) key old) + count_of r news
+  pub some_old : (r : Row) → count_of r olds ≤ count_of r (segments (grouping_asked counted sums) key old)
+  pub some_new : (r : Row) → count_of r news ≤ count_of r (segments (grouping_asked counted sums) key new)
+  pub others : (r : Row) → count_of r (segments (grouping_asked counted sums) key new) + count_of r olds ≡ count_of r (segments (grouping_asked counted sums) key old) + count_of r news
 
 -- what is appended is the difference between such rows
-pub record Answers (counted : Bool) (sums : List ℕ) (key : List Field) (old new : List Row) (before after : List Change) : Type 0 where
+pub record AnswersGroup (counted : Bool) (sums : List ℕ) (key : List Field) (old new : List Row) (before after : List Change) : Type 0 where
   pub olds : List Row
   pub news : List Row
   pub appended : after ≡ before ++ differences olds news

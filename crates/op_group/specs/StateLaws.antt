@@ -7,17 +7,17 @@ use Rattle.cedr_base.specs.declared.field.Field.{Field}
 use Rattle.cedr_base.specs.declared.row.Row.{Row}
 use Rattle.cedr_base.specs.declared.change.Change.{Change}
 use Rattle.cedr_base.specs.Rows.{SameRows}
-use Rattle.cedr_stream.specs.Repairs.{IsMoved}
-use Rattle.cedr_stream.proofs.Moves.{may_is}
+use Rattle.change_laws.specs.Repairs.{IsMoved}
+use Rattle.change_laws.proofs.Moves.{may_is}
 use Rattle.cedr_table.specs.Operators.{Tables, table_at, mark_at, with_table, CanTake, AllRise, SameTables}
 use Rattle.cedr_table.specs.PortLaws.{rise_length, rise_at, same_length, same_at, time_at, table_at-with}
 use Rattle.cedr_table.specs.OperatorLaws.{OperatorLaws}
-use Rattle.cedr_stream.proofs.BagSums.{same_back}
+use Rattle.change_laws.proofs.BagSums.{same_back}
 use Rattle.cedr_table.proofs.RowsLemmas.{same_are}
 use Rattle.op_group.specs.declared.segment.Segment.{Segment}
 use Rattle.op_group.specs.declared.points.CutPoint.{CutPoint}
 use Rattle.op_group.specs.declared.points.Points.{Points}
-use Rattle.op_group.specs.Groups.{Grouping, group_of, number_at, rows_of, grouped, open_from}
+use Rattle.op_group.specs.Groups.{Grouping, group_of, column_number, rows_of, grouped, open_from}
 use Rattle.op_group.specs.Measures.{edge_at, part_at, edges_of, living_of, sums_of}
 use Rattle.op_group.specs.LawWords.{SameAt, shown_as}
 use Rattle.op_group.specs.GroupLaws.{same_grouped, group_sum, same_at as same_sums}
@@ -64,7 +64,7 @@ from_alike sums mark from cuts xs ys e f g h = record {
 
 -- a group of two tables that are the same bag is the same at each time
 pub same_of_bags : (g : Grouping) (key : List Field) (xs ys : List Row) (t : ℕ) → SameRows xs ys → SameAt g key xs ys t
-same_of_bags g key xs ys t same = same_sums g key xs ys t (group_sum g key (edge_at t) xs ys same) (group_sum g key (part_at (λ _. 1) t) xs ys same) (λ column. group_sum g key (part_at (number_at column) t) xs ys same)
+same_of_bags g key xs ys t same = same_sums g key xs ys t (group_sum g key (edge_at t) xs ys same) (group_sum g key (part_at (λ _. 1) t) xs ys same) (λ column. group_sum g key (part_at (column_number column) t) xs ys same)
 
 -- what keeps a bag keeps each list of it
 keeps_alike : (g : Grouping) (groups : List (List Field × BTreeMap ℕ Segment)) (all due : List CutPoint) (xs ys : List Row) (mark : ℕ) → SameRows xs ys → KeepsGroups g groups all due xs mark → KeepsGroups g groups all due ys mark

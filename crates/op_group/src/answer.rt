@@ -6,7 +6,7 @@ ghost use Rattle.std.specs.BTreeMap.Range.{entries_between};
 ghost use Rattle.std.specs.Ordering.{nat_cmp};
 ghost use Rattle.std.specs.declared.ops.Bound.TheVariants.{Included};
 ghost use Rattle.cedr_base.specs.Rows.{count_of, row_cmp};
-ghost use Rattle.op_group.specs.Cuts.{begun, ended_at, rows_in, withdrawn_unless, added_unless, differences};
+ghost use Rattle.op_group.specs.Cuts.{row_begun, ended_at, rows_of_cuts, withdrawn_unless, added_unless, differences};
 
 use crate::cuts::Cuts;
 use crate::segment::Segment;
@@ -21,7 +21,7 @@ fn begun(
     at: Time,
     segment: &Segment,
 ) -> Result<Option<(Time, Payload)>, OutOfMemory>
-    ensures { IfOk result (λ row. row ≡ begun counted key.now at segment.now) }
+    ensures { IfOk result (λ row. row ≡ row_begun counted key.now at segment.now) }
 {
     if segment.living == 0 {
         return Ok(None);
@@ -58,7 +58,7 @@ pub(crate) fn rows_between(
     to: Time,
 ) -> Result<Vec<Row>, OutOfMemory>
     requires { from ≤ to }
-    ensures made { IfOk result (λ rows. rows.items ≡ rows_in counted key.now (entries_between nat_cmp (Included from) (Included to) cuts.now.entries)) }
+    ensures made { IfOk result (λ rows. rows.items ≡ rows_of_cuts counted key.now (entries_between nat_cmp (Included from) (Included to) cuts.now.entries)) }
     ensures sorted { IfOk result (λ rows. IsSorted row_cmp rows.items) }
     ensures ordered { IsOrdered nat_cmp cuts.now }
 {

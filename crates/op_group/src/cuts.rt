@@ -1,5 +1,5 @@
 ghost use Rattle.std.specs.Prelude.{◌≡◌, ◌+◌, ◌-◌, ◌<◌, ◌≤◌, ◌⊎◌, ℕ, List, Option, Some, None, IfOk, OnOk, cond, nat_le, nat_lt, ◌&&◌, length, option_map, if◌then◌else◌};
-ghost use Rattle.op_group.specs.Cuts.{Shows, StaysBetweenCuts, IsEdit, IsNextCut, IsLastCut, IsCarried, segment_at, one_at, raised, shifted, summed};
+ghost use Rattle.op_group.specs.Cuts.{ShowsCuts, StaysBetweenCuts, IsEdit, IsNextCut, IsLastCut, IsCarried, segment_at, one_at, edge_raised, segment_shifted, summed};
 
 use crate::segment::{Segment, Totals};
 use cedr_base::{OutOfMemory, Time};
@@ -55,7 +55,7 @@ fn carried(alloc: Global, cuts: &Cuts, at: Time, width: usize) -> Result<Segment
 
 /// A begin or an end more stands at a cut point.
 fn raise(cuts: &mut Cuts, at: Time) -> Result<(), OutOfMemory>
-    ensures { OnOk result (IsEdit at (option_map raised (segment_at at cuts.old.entries)) cuts.old.entries cuts.new.entries) }
+    ensures { OnOk result (IsEdit at (option_map edge_raised (segment_at at cuts.old.entries)) cuts.old.entries cuts.new.entries) }
 {
     match cuts.get_mut(&at) {
         Some(segment) => segment.add_edge(),
@@ -65,7 +65,7 @@ fn raise(cuts: &mut Cuts, at: Time) -> Result<(), OutOfMemory>
 
 /// A begin or an end more stands at a time.
 fn add_edge(alloc: Global, cuts: &mut Cuts, at: Time, width: usize) -> Result<(), OutOfMemory>
-    ensures { OnOk result ((edges : ℕ → ℕ) (living : ℕ → ℕ) (sums : ℕ → List ℕ) → Shows cuts.old.entries edges living sums → StaysBetweenCuts width edges living sums → Shows cuts.new.entries (λ t. edges t + one_at at t) living sums) }
+    ensures { OnOk result ((edges : ℕ → ℕ) (living : ℕ → ℕ) (sums : ℕ → List ℕ) → ShowsCuts cuts.old.entries edges living sums → StaysBetweenCuts width edges living sums → ShowsCuts cuts.new.entries (λ t. edges t + one_at at t) living sums) }
 {
     if cuts.contains_key(&at) {
         return raise(cuts, at);
@@ -77,7 +77,7 @@ fn add_edge(alloc: Global, cuts: &mut Cuts, at: Time, width: usize) -> Result<()
 
 /// A begin or an end less stands at a cut point, which goes with the last one.
 fn take_edge(cuts: &mut Cuts, at: Time)
-    ensures { (edges : ℕ → ℕ) (living : ℕ → ℕ) (sums : ℕ → List ℕ) → Shows cuts.old.entries edges living sums → 0 < edges at → Shows cuts.new.entries (λ t. edges t - one_at at t) living sums }
+    ensures { (edges : ℕ → ℕ) (living : ℕ → ℕ) (sums : ℕ → List ℕ) → ShowsCuts cuts.old.entries edges living sums → 0 < edges at → ShowsCuts cuts.new.entries (λ t. edges t - one_at at t) living sums }
 {
     let edges = match cuts.get(&at) {
         Some(segment) => segment.edges,
@@ -92,7 +92,7 @@ fn take_edge(cuts: &mut Cuts, at: Time)
 
 /// A row more is valid from a cut point on, or a row less.
 fn shift_at(cuts: &mut Cuts, at: Time, up: bool, numbers: &[u128]) -> Result<(), OutOfMemory>
-    ensures { OnOk result (IsEdit at (option_map (shifted up numbers.now) (segment_at at cuts.old.entries)) cuts.old.entries cuts.new.entries) }
+    ensures { OnOk result (IsEdit at (option_map (segment_shifted up numbers.now) (segment_at at cuts.old.entries)) cuts.old.entries cuts.new.entries) }
 {
     match cuts.get_mut(&at) {
         Some(segment) => segment.shift(up, numbers),
@@ -108,7 +108,7 @@ fn shift_between(
     up: bool,
     numbers: &[u128],
 ) -> Result<(), OutOfMemory>
-    ensures { OnOk result ((u : ℕ) → segment_at u cuts.new.entries ≡ (if nat_le from u && nat_lt u to then option_map (shifted up numbers.now) (segment_at u cuts.old.entries) else segment_at u cuts.old.entries)) }
+    ensures { OnOk result ((u : ℕ) → segment_at u cuts.new.entries ≡ (if nat_le from u && nat_lt u to then option_map (segment_shifted up numbers.now) (segment_at u cuts.old.entries) else segment_at u cuts.old.entries)) }
 {
     let mut at = from;
     while at < to {
@@ -126,8 +126,8 @@ pub(crate) fn add_row(
     end: Time,
     numbers: &[u128],
 ) -> Result<(), OutOfMemory>
-    ensures { OnOk result ((edges : ℕ → ℕ) (living : ℕ → ℕ) (sums : ℕ → List ℕ) → Shows cuts.old.entries edges living sums → StaysBetweenCuts (length numbers.now) edges living sums
-        → Shows cuts.new.entries (λ t. edges t + one_at begin t + one_at end t) (λ t. if nat_le begin t && nat_lt t end then living t + 1 else living t) (λ t. if nat_le begin t && nat_lt t end then summed (sums t) numbers.now else sums t)) }
+    ensures { OnOk result ((edges : ℕ → ℕ) (living : ℕ → ℕ) (sums : ℕ → List ℕ) → ShowsCuts cuts.old.entries edges living sums → StaysBetweenCuts (length numbers.now) edges living sums
+        → ShowsCuts cuts.new.entries (λ t. edges t + one_at begin t + one_at end t) (λ t. if nat_le begin t && nat_lt t end then living t + 1 else living t) (λ t. if nat_le begin t && nat_lt t end then summed (sums t) numbers.now else sums t)) }
 {
     let width = numbers.len();
     add_edge(alloc, cuts, begin, width)?;
@@ -143,7 +143,7 @@ fn add_earlier_end(
     earlier: Time,
     width: usize,
 ) -> Result<(), OutOfMemory>
-    ensures { OnOk result ((edges : ℕ → ℕ) (living : ℕ → ℕ) (sums : ℕ → List ℕ) → Shows cuts.old.entries edges living sums → StaysBetweenCuts width edges living sums → Shows cuts.new.entries (λ t. edges t + (if nat_lt begin earlier then one_at earlier t else 0)) living sums) }
+    ensures { OnOk result ((edges : ℕ → ℕ) (living : ℕ → ℕ) (sums : ℕ → List ℕ) → ShowsCuts cuts.old.entries edges living sums → StaysBetweenCuts width edges living sums → ShowsCuts cuts.new.entries (λ t. edges t + (if nat_lt begin earlier then one_at earlier t else 0)) living sums) }
 {
     if begin < earlier {
         return add_edge(alloc, cuts, earlier, width);
@@ -153,7 +153,7 @@ fn add_earlier_end(
 
 /// A cut row begins no more, where nothing is left of it.
 fn take_begin(cuts: &mut Cuts, begin: Time, earlier: Time)
-    ensures { (edges : ℕ → ℕ) (living : ℕ → ℕ) (sums : ℕ → List ℕ) → Shows cuts.old.entries edges living sums → (earlier ≤ begin → 0 < edges begin) → Shows cuts.new.entries (λ t. edges t - (if nat_lt begin earlier then 0 else one_at begin t)) living sums }
+    ensures { (edges : ℕ → ℕ) (living : ℕ → ℕ) (sums : ℕ → List ℕ) → ShowsCuts cuts.old.entries edges living sums → (earlier ≤ begin → 0 < edges begin) → ShowsCuts cuts.new.entries (λ t. edges t - (if nat_lt begin earlier then 0 else one_at begin t)) living sums }
 {
     if earlier <= begin {
         take_edge(cuts, begin);
@@ -169,8 +169,8 @@ pub(crate) fn cut_row(
     earlier: Time,
     numbers: &[u128],
 ) -> Result<(), OutOfMemory>
-    ensures { OnOk result ((edges : ℕ → ℕ) (living : ℕ → ℕ) (sums : ℕ → List ℕ) → Shows cuts.old.entries edges living sums → StaysBetweenCuts (length numbers.now) edges living sums → (earlier ≤ begin → 0 < edges begin) → 0 < edges end → begin < end
-        → Shows cuts.new.entries (λ t. (edges t + (if nat_lt begin earlier then one_at earlier t else 0)) - one_at end t - (if nat_lt begin earlier then 0 else one_at begin t)) (λ t. if nat_le earlier t && nat_lt t end then living t - 1 else living t) (λ t. if nat_le earlier t && nat_lt t end then summed (sums t) numbers.now else sums t)) }
+    ensures { OnOk result ((edges : ℕ → ℕ) (living : ℕ → ℕ) (sums : ℕ → List ℕ) → ShowsCuts cuts.old.entries edges living sums → StaysBetweenCuts (length numbers.now) edges living sums → (earlier ≤ begin → 0 < edges begin) → 0 < edges end → begin < end
+        → ShowsCuts cuts.new.entries (λ t. (edges t + (if nat_lt begin earlier then one_at earlier t else 0)) - one_at end t - (if nat_lt begin earlier then 0 else one_at begin t)) (λ t. if nat_le earlier t && nat_lt t end then living t - 1 else living t) (λ t. if nat_le earlier t && nat_lt t end then summed (sums t) numbers.now else sums t)) }
 {
     add_earlier_end(alloc, cuts, begin, earlier, numbers.len())?;
     shift_between(cuts, earlier, end, false, numbers)?;

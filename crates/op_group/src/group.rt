@@ -8,9 +8,9 @@ ghost use Rattle.cedr_base.specs.declared.field.Field.{Field};
 ghost use Rattle.cedr_base.specs.Order.{payload_cmp};
 ghost use Rattle.cedr_base.specs.Rows.{AreRows};
 ghost use Rattle.cedr_base.specs.Changes.{IsChange, MayFollow, sync_of, changed_row};
-ghost use Rattle.cedr_stream.specs.Repairs.{IsMoved};
+ghost use Rattle.change_laws.specs.Repairs.{IsMoved};
 ghost use Rattle.op_group.specs.Groups.{grouping_by, group_of, key_of, rows_of};
-ghost use Rattle.op_group.specs.State.{ShowsFrom, KeepsGroups, NoneEmpty, Answers, cuts_of};
+ghost use Rattle.op_group.specs.State.{ShowsFrom, KeepsGroups, NoneEmpty, AnswersGroup, cuts_of};
 
 use crate::answer::{push_differences, rows_between};
 use crate::bound::first_open;
@@ -33,13 +33,24 @@ pub(crate) type Groups = BTreeMap<Payload, Cuts>;
 /// It keeps no rows, but the cut points of each group with what is valid from each of them on. At a mark it forgets
 /// what no later change and no bound depends on: of the cut points before the mark a group keeps the last one, where
 /// some row is valid from it on, and a group that has no cut point left goes.
-#[derive(Drop)]
 pub struct Group {
     keys: Keep,
     count: bool,
     sums: Keep,
     pub(crate) groups: Groups,
     pub(crate) points: Points,
+}
+
+impl Drop for Group {
+    fn drop(self) {
+        let Group {
+            keys: _,
+            count: _,
+            sums: _,
+            groups: _,
+            points: _,
+        } = self;
+    }
 }
 
 impl Group {
@@ -95,7 +106,7 @@ fn answer_in(
 ) -> Result<(), OutOfMemory>
     requires { IsChange change.now }
     ensures shown { OnOk result ((old new : List Row) (mark from : ℕ) → ShowsFrom sums.now mark from cuts.old.entries old → MayFollow old [] change.now → IsMoved change.now old new → mark ≤ sync_of change.now → ShowsFrom sums.now mark from cuts.new.entries new) }
-    ensures answers { OnOk result ((old new : List Row) (mark from : ℕ) → ShowsFrom sums.now mark from cuts.old.entries old → MayFollow old [] change.now → IsMoved change.now old new → mark ≤ sync_of change.now → AreRows old → AreRows new → Answers count sums.now key.now old new out.old.items out.new.items) }
+    ensures answers { OnOk result ((old new : List Row) (mark from : ℕ) → ShowsFrom sums.now mark from cuts.old.entries old → MayFollow old [] change.now → IsMoved change.now old new → mark ≤ sync_of change.now → AreRows old → AreRows new → AnswersGroup count sums.now key.now old new out.old.items out.new.items) }
     ensures ordered { OnOk result (IsOrdered nat_cmp cuts.new) }
     ensures kept { take (length out.old.items) out.new.items ≡ out.old.items }
 {
@@ -148,7 +159,7 @@ pub(crate) fn answer(
     requires { IsChange change.now }
     ensures keeps { OnOk result ((old new : List Row) (mark : ℕ) → KeepsGroups (grouping_by keys.now count sums.now) groups.old.entries points.old.all.keys points.old.due.keys old mark → MayFollow old [] change.now → IsMoved change.now old new → mark ≤ sync_of change.now → KeepsGroups (grouping_by keys.now count sums.now) groups.new.entries points.new.all.keys points.new.due.keys new mark) }
     ensures answers { OnOk result ((old new : List Row) (mark : ℕ) → KeepsGroups (grouping_by keys.now count sums.now) groups.old.entries points.old.all.keys points.old.due.keys old mark → MayFollow old [] change.now → IsMoved change.now old new → mark ≤ sync_of change.now → AreRows old
-        → let key = key_of (grouping_by keys.now count sums.now) (changed_row change.now) in Answers count sums.now key (rows_of (grouping_by keys.now count sums.now) key old) (rows_of (grouping_by keys.now count sums.now) key new) out.old.items out.new.items) }
+        → let key = key_of (grouping_by keys.now count sums.now) (changed_row change.now) in AnswersGroup count sums.now key (rows_of (grouping_by keys.now count sums.now) key old) (rows_of (grouping_by keys.now count sums.now) key new) out.old.items out.new.items) }
     ensures kept { take (length out.old.items) out.new.items ≡ out.old.items }
 {
     let key = keys.apply(alloc, &change.row().payload)?;

@@ -1,7 +1,7 @@
 ghost use Rattle.std.specs.Prelude.{◌≡◌, ◌+◌, ◌-◌, ◌%◌, ◌^◌, ◌<◌, ◌++◌, ℕ, IfOk, OnOk, OnErr, Some, false, length, map, replicate};
 ghost use Rattle.std.specs.List.{slice_get};
-ghost use Rattle.op_group.specs.Groups.{number_of};
-ghost use Rattle.op_group.specs.Cuts.{raised, shifted, shifted_by, summed, totals};
+ghost use Rattle.op_group.specs.Groups.{field_number};
+ghost use Rattle.op_group.specs.Cuts.{edge_raised, segment_shifted, shifted_by, summed, totals};
 
 use cedr_base::{Field, OutOfMemory, Payload};
 use std::alloc::Global;
@@ -72,7 +72,7 @@ impl Totals {
 impl Segment {
     /// A begin or an end more stands at the cut point.
     pub(crate) fn add_edge(&mut self) -> Result<(), OutOfMemory>
-        ensures { OnOk result (self.new ≡ raised self.old) }
+        ensures { OnOk result (self.new ≡ edge_raised self.old) }
     {
         match self.edges.checked_add(1) {
             Some(edges) => {
@@ -85,7 +85,7 @@ impl Segment {
 
     /// A row more is valid from the cut point on, or a row less, and the numbers are added to the sums.
     pub(crate) fn shift(&mut self, up: bool, numbers: &[u128]) -> Result<(), OutOfMemory>
-        ensures { OnOk result (self.new ≡ shifted up numbers.now self.old) }
+        ensures { OnOk result (self.new ≡ segment_shifted up numbers.now self.old) }
     {
         if up {
             if self.living == usize::MAX {
@@ -113,7 +113,7 @@ impl Segment {
 
 /// What a field adds to a sum, modulo 2^128: nothing where it isn't there or isn't a number.
 fn number(fields: &[Field], column: usize) -> u128
-    ensures { result ≡ number_of (slice_get fields.now column) }
+    ensures { result ≡ field_number (slice_get fields.now column) }
 {
     match fields.get(column) {
         Some(Field::Number(n)) => n.cast_unsigned(),
@@ -128,7 +128,7 @@ pub(crate) fn numbers(
     payload: &Payload,
     up: bool,
 ) -> Result<Vec<u128>, OutOfMemory>
-    ensures { IfOk result (λ v. v.items ≡ map (λ column. shifted_by up (number_of (slice_get payload.now column))) columns.now) }
+    ensures { IfOk result (λ v. v.items ≡ map (λ column. shifted_by up (field_number (slice_get payload.now column))) columns.now) }
 {
     let fields = payload.fields();
     let mut all = Vec::new(alloc);

@@ -9,9 +9,9 @@ use Rattle.cedr_base.specs.declared.change.Change.{Change}
 use Rattle.cedr_base.specs.declared.change.Change.TheVariants.{Add, Cut}
 use Rattle.cedr_base.specs.Rows.{same_row, one_if_same, count_of, SameRows}
 use Rattle.cedr_base.specs.Changes.{puts, takes}
-use Rattle.cedr_stream.proofs.Moves.{remnant_some, remnant_none}
+use Rattle.change_laws.proofs.Moves.{remnant_some, remnant_none}
 use Rattle.cedr_base.proofs.Bags.{same_row_exact, same_row_itself, count_of-append, count_of-cons, one_if_same_exact}
-use Rattle.cedr_stream.proofs.BagSums.{sum_by-same}
+use Rattle.change_laws.proofs.BagSums.{sum_by-same}
 use Rattle.cedr_table.specs.Counted.{LacksRow, IsFirst, IsTakenOut, SameAmong, ends_after}
 use Rattle.cedr_table.proofs.FilterLemmas.{ends_first, among_along, among_fewer, among_filter, ends_earlier}
 use Rattle.op_join.specs.Filed.{FiledRows, under}

@@ -17,7 +17,7 @@ use Rattle.cedr_base.specs.declared.change.Change.TheVariants.{Add, Cut}
 use Rattle.cedr_base.specs.Rows.{count_of, SameRows}
 use Rattle.cedr_base.specs.Changes.{puts, takes, changed_row}
 use Rattle.cedr_base.proofs.Bags.{count_of-append, one_if_same_exact}
-use Rattle.cedr_stream.specs.Repairs.{IsMoved}
+use Rattle.change_laws.specs.Repairs.{IsMoved}
 use Rattle.op_join.specs.Filed.{FiledRows, under, all_under, Files}
 use Rattle.cedr_expr.proofs.TieLemmas.{from_is_eq}
 

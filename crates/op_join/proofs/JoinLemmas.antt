@@ -9,15 +9,15 @@ use Rattle.cedr_base.specs.declared.change.Change.{Change}
 use Rattle.cedr_base.specs.declared.change.Change.TheVariants.{Add, Cut}
 use Rattle.cedr_base.specs.Rows.{count_of, AreRows}
 use Rattle.cedr_base.specs.Changes.{sync_of, IsChange, puts, takes, all_puts, all_takes, changed_row}
-use Rattle.cedr_stream.specs.Repairs.{AllFrom}
-use Rattle.cedr_stream.proofs.RepairLemmas.{AllChanges, AllChanges-append, AllFrom-append, takes-flat_map, puts-flat_map, takes_adds, Turns}
+use Rattle.change_laws.specs.Repairs.{AllFrom}
+use Rattle.change_laws.proofs.RepairLemmas.{AllChanges, AllChanges-append, AllFrom-append, takes-flat_map, puts-flat_map, takes_adds, Turns}
 use Rattle.cedr_table.specs.Choices.{chosen}
 use Rattle.cedr_table.proofs.ChoiceLemmas.{sum_chosen, sum_chosen-cons, count_chosen}
 use Rattle.cedr_table.proofs.RowsLemmas.{first_is, others_are}
 use Rattle.std.proofs.Math.Nat.{max_comm, min_comm}
 use Rattle.cedr_expr.specs.declared.side.Side.{Side}
 use Rattle.cedr_expr.specs.declared.side.Side.TheVariants.{Left, Right}
-use Rattle.op_join.specs.Joins.{PairTest, meet, joined, joined_rows}
+use Rattle.op_join.specs.Joins.{PairTest, meet, rows_joined, joined_rows}
 use Rattle.op_join.specs.Pairs.{met, passes_on, both_on, pair_changes, all_changes}
 use Rattle.cedr_table.specs.Counted.{ends_after, SameAmong}
 use Rattle.op_join.proofs.SkipLemmas.{ended_alone}
@@ -114,7 +114,7 @@ last_choice : (w : List Row → ℕ) → sum_chosen w [] ≡ w []
 last_choice w = omega arith
 
 -- the pairs of two tables
-count_two : (p : PairTest) (r : Row) (xs ys : List Row) → count_of r (chosen (joined_rows p) (xs ∷ ys ∷ [])) ≡ sum_by (λ a. sum_by (λ b. count_of r (joined p a b)) ys) xs
+count_two : (p : PairTest) (r : Row) (xs ys : List Row) → count_of r (chosen (joined_rows p) (xs ∷ ys ∷ [])) ≡ sum_by (λ a. sum_by (λ b. count_of r (rows_joined p a b)) ys) xs
 count_two p r xs ys =
     count_chosen r (joined_rows p) (xs ∷ ys ∷ [])
     ∙ (sum_chosen-cons (λ rs. count_of r (joined_rows p rs)) xs (ys ∷ [])
@@ -122,9 +122,9 @@ count_two p r xs ys =
 
 -- the copies of a row in a join are those that all right rows make with the left ones
 pub count_left : (p : PairTest) (r : Row) (xs ys : List Row) → count_of r (chosen (joined_rows p) (xs ∷ ys ∷ [])) ≡ sum_by (λ o. sum_by (λ x. count_of r (met p Left x o)) xs) ys
-count_left p r xs ys = count_two p r xs ys ∙ sum_by-turned (λ a b. count_of r (joined p a b)) xs ys
+count_left p r xs ys = count_two p r xs ys ∙ sum_by-turned (λ a b. count_of r (rows_joined p a b)) xs ys
 
-met_turned : (p : PairTest) (a b : Row) → joined p a b ≡ met p Right b a
+met_turned : (p : PairTest) (a b : Row) → rows_joined p a b ≡ met p Right b a
 met_turned p a b = λ i. meet (p a.payload b.payload) (a.payload ++ b.payload) (max_comm a.begin b.begin i) (min_comm a.end b.end i)
 
 -- the copies of a row in a join are those that all left rows make with the right ones

@@ -11,9 +11,9 @@ use Rattle.cedr_base.specs.declared.change.Change.{Change}
 use Rattle.cedr_base.specs.declared.change.Change.TheVariants.{Add, Cut}
 use Rattle.cedr_base.specs.Rows.{count_of, SameRows}
 use Rattle.cedr_base.specs.Changes.{puts, takes, sync_of, MayFollow, changed_row}
-use Rattle.cedr_stream.specs.Repairs.{IsMoved}
-use Rattle.cedr_stream.proofs.BagSums.{same_itself}
-use Rattle.cedr_stream.proofs.Moves.{may_is, applied, applied_moves}
+use Rattle.change_laws.specs.Repairs.{IsMoved}
+use Rattle.change_laws.proofs.BagSums.{same_itself}
+use Rattle.change_laws.proofs.Moves.{may_is, applied, applied_moves}
 use Rattle.cedr_table.specs.Counted.{LacksRow, ends_after}
 use Rattle.cedr_table.proofs.FilterLemmas.{count-filter, among_moved, among_along, among_fewer, among_filter, ends_earlier}
 use Rattle.cedr_table.proofs.RowsLemmas.{moved_are, fewer_are}

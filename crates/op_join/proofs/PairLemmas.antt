@@ -9,10 +9,10 @@ use Rattle.cedr_base.specs.declared.change.Change.{Change}
 use Rattle.cedr_base.specs.declared.change.Change.TheVariants.{Add, Cut}
 use Rattle.cedr_base.specs.Rows.{IsRow, count_of, one_if_same, same_row}
 use Rattle.cedr_base.specs.Changes.{sync_of, IsChange, puts, takes, all_puts, all_takes, changed_row}
-use Rattle.cedr_stream.specs.Repairs.{AllFrom}
+use Rattle.change_laws.specs.Repairs.{AllFrom}
 use Rattle.cedr_base.proofs.Bags.{same_row_exact}
-use Rattle.cedr_stream.proofs.Moves.{count_one, sum_one}
-use Rattle.cedr_stream.proofs.RepairLemmas.{AllChanges, takes_adds, puts_adds}
+use Rattle.change_laws.proofs.Moves.{count_one, sum_one}
+use Rattle.change_laws.proofs.RepairLemmas.{AllChanges, takes_adds, puts_adds}
 use Rattle.cedr_expr.specs.declared.side.Side.{Side}
 use Rattle.op_join.specs.Joins.{PairTest}
 use Rattle.op_join.specs.Pairs.{passes_on, both_on, met, cut_to, pair_changes}

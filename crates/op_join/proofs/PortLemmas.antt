@@ -12,8 +12,8 @@ use Rattle.cedr_base.specs.declared.change.Change.TheVariants.{Add}
 use Rattle.cedr_base.specs.Rows.{count_of, AreRows, SameRows}
 use Rattle.cedr_base.specs.Changes.{puts, takes, sync_of, changed_row}
 use Rattle.cedr_base.proofs.Bags.{count_of-append}
-use Rattle.cedr_stream.specs.Repairs.{IsMoved}
-use Rattle.cedr_stream.proofs.Moves.{may_is}
+use Rattle.change_laws.specs.Repairs.{IsMoved}
+use Rattle.change_laws.proofs.Moves.{may_is}
 use Rattle.cedr_expr.specs.declared.test.Test.{Test}
 use Rattle.cedr_expr.specs.Tests.{passes}
 use Rattle.cedr_table.specs.Operators.{Tables, table_at, with_table, least_of, AllRise, CanTake, Gains, OnlyHolds}

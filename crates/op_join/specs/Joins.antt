@@ -9,7 +9,7 @@ use Rattle.cedr_base.specs.Rows.{AreRows}
 use Rattle.cedr_expr.specs.declared.test.Test.{Test}
 use Rattle.cedr_expr.specs.Tests.{passes}
 use Rattle.cedr_base.specs.declared.change.Change.{Change}
-use Rattle.cedr_stream.specs.Repairs.{IsMoved}
+use Rattle.change_laws.specs.Repairs.{IsMoved}
 use Rattle.cedr_table.specs.Operators.{Tables, Meaning, table_at, with_table, least_of, CanTake, Gains}
 use Rattle.cedr_table.specs.Choices.{chosen}
 use Rattle.cedr_table.specs.Counted.{ends_after, SameAmong}
@@ -27,12 +27,12 @@ abbrev pub meet : Bool → List Field → ℕ → ℕ → List Row
 meet pass payload begin end = if pass && nat_lt begin end then record { end = end; begin = begin; payload = payload } ∷ [] else []
 
 -- the row of a left row and a right one that pass: it is valid while both are, and has both payloads
-abbrev pub joined : PairTest → Row → Row → List Row
-joined pass a b = meet (pass a.payload b.payload) (a.payload ++ b.payload) (max a.begin b.begin) (min a.end b.end)
+abbrev pub rows_joined : PairTest → Row → Row → List Row
+rows_joined pass a b = meet (pass a.payload b.payload) (a.payload ++ b.payload) (max a.begin b.begin) (min a.end b.end)
 
 -- the row of a choice of one left row and one right one
 abbrev pub joined_rows : PairTest → List Row → List Row
-joined_rows pass (a ∷ b ∷ []) = joined pass a b
+joined_rows pass (a ∷ b ∷ []) = rows_joined pass a b
 joined_rows pass rows = []
 
 -- Two ports. There is one row for each pair that passes, and the bound is the least mark. A row may be held that ends

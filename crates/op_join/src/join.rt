@@ -24,13 +24,24 @@ use std::alloc::Global;
 ///
 /// It keeps a row until the least mark reaches its end, and with each row its end in a second order, so that the rows
 /// that ended are found without a look at the others.
-#[derive(Drop)]
 pub struct Join {
     alloc: Global,
     tests: Tests,
     width: usize,
     pub(crate) left: Filed,
     pub(crate) right: Filed,
+}
+
+impl Drop for Join {
+    fn drop(self) {
+        let Join {
+            alloc: _,
+            tests: _,
+            width: _,
+            left: _,
+            right: _,
+        } = self;
+    }
 }
 
 impl Join {

@@ -2,7 +2,7 @@
 use Rattle.std.specs.Prelude.{ℕ, ◌/◌, ◌*◌, List, Some, min, nat_lt, nat_eq, if◌then◌else◌}
 use Rattle.cedr_base.specs.declared.time.TheConstants.{FOREVER}
 use Rattle.cedr_base.specs.declared.row.Row.{Row}
-use Rattle.cedr_stream.specs.Times.{later}
+use Rattle.change_laws.specs.Times.{later}
 use Rattle.cedr_base.specs.declared.interval.Interval.{Interval}
 use Rattle.cedr_table.specs.RowWise.{made}
 

@@ -1,6 +1,6 @@
 -- How the states of these operators are read.
 use Rattle.std.specs.Prelude.{ℕ}
-use Rattle.cedr_stream.specs.Times.{IsWhile}
+use Rattle.change_laws.specs.Times.{IsWhile}
 use Rattle.cedr_table.specs.Readings.{Reading, row_wise_reading}
 use Rattle.op_life.specs.declared.window.Window.{Window}
 use Rattle.op_life.specs.declared.shift.Shift.{Shift}

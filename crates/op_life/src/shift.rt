@@ -1,6 +1,6 @@
 ghost use Rattle.std.specs.Prelude.{◌≡◌, ◌∷◌, [], Some};
 ghost use Rattle.cedr_table.specs.RowWise.{row_wise};
-ghost use Rattle.cedr_stream.specs.Times.{IsWhile};
+ghost use Rattle.change_laws.specs.Times.{IsWhile};
 ghost use Rattle.op_life.specs.Lifetimes.{shifted, shifted_mark, with_life};
 
 use cedr_base::{Interval, OutOfMemory, Payload, Time, later};

@@ -8,7 +8,7 @@ use Rattle.cedr_plan.specs.declared.plan.NodeKind.{NodeKind}
 use Rattle.cedr_plan.specs.declared.plan.NodeKind.TheVariants as kind
 use Rattle.cedr_plan.specs.declared.plan.PlanNode.{PlanNode}
 use Rattle.cedr_plan.specs.Drawn.{Node, node_of}
-use Rattle.cedr_stream.proofs.BagSums.{same_flat_map}
+use Rattle.change_laws.proofs.BagSums.{same_flat_map}
 use Rattle.cedr_table.specs.Operators.{table_at, mark_at, least_of}
 use Rattle.cedr_table.specs.PortLaws.{same_at, rise_at, time_at, least_rises, least_is_time}
 use Rattle.cedr_table.specs.RowWise.{row_wise}

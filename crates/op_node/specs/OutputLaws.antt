@@ -2,8 +2,8 @@
 use Rattle.std.proofs.Common.{◌≡◌, ℕ, List, [], ◌∷◌, length, refl, ap, subst, sym, ◌∙◌, arith}
 use Rattle.cedr_base.specs.declared.row.Row.{Row}
 use Rattle.cedr_base.specs.declared.change.Change.{Change}
-use Rattle.cedr_stream.specs.Repairs.{IsMoved, Repair}
-use Rattle.cedr_stream.proofs.RepairLemmas.{own_repair}
+use Rattle.change_laws.specs.Repairs.{IsMoved, Repair}
+use Rattle.change_laws.proofs.RepairLemmas.{own_repair}
 use Rattle.cedr_table.specs.Operators.{Tables, table_at, with_table, mark_at, CanTake}
 use Rattle.cedr_table.specs.OperatorLaws.{OperatorLaws}
 use Rattle.cedr_table.specs.PortLaws.{rise_length, rise_at, same_length, same_at, table_at-with, time_at}

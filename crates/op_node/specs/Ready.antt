@@ -2,7 +2,7 @@
 use Rattle.std.specs.Prelude.{ℕ, ◌≡◌, ◌≤◌, Bool, true, false}
 use Rattle.cedr_plan.specs.declared.plan.NodeKind.{NodeKind}
 use Rattle.cedr_plan.specs.declared.plan.NodeKind.TheVariants as kind
-use Rattle.cedr_stream.specs.Times.{IsWhile}
+use Rattle.change_laws.specs.Times.{IsWhile}
 
 -- the node is a source
 abbrev pub is_source : NodeKind → Bool

@@ -6,7 +6,7 @@ use crate::output::Output;
 use cedr_base::OutOfMemory;
 use cedr_plan::NodeKind;
 use cedr_table::Either::{First, Second};
-use cedr_table::{Either, Operator};
+use cedr_table::{Boxed, Either, Operator};
 use op_group::Group;
 use op_join::Join;
 use op_life::{Ends, Hop, Shift, Starts, Window};
@@ -15,8 +15,11 @@ use pat_seq::Sequence;
 use pat_unless::Unless;
 use std::alloc::Global;
 
-/// The operator of a plan's node: that of its kind, to which each call goes.
-pub type NodeOperator = Either<
+/// The operator of a plan's node: that of its kind, to which each call goes. It stands on the heap, since whoever holds
+/// it would else be proved with the fields of every operator.
+pub type NodeOperator = Boxed<KindOperator>;
+
+type KindOperator = Either<
     Either<
         Either<Select, Project>,
         Either<Either<Window, Shift>, Either<Hop, Either<Starts, Ends>>>,
@@ -34,6 +37,17 @@ pub fn node_operator(
     ensures meaning { IfOk result (λ op. ⟦<NodeOperator as Operator>⟧.meaning op ≡ node_meaning kind.now ports) }
     ensures ports { IfOk result (λ op. (⟦<NodeOperator as Operator>⟧.meaning op).ports ≡ ports) }
     ensures stands { IfOk result (λ op. ⟦<NodeOperator as Operator>⟧.stands op (replicate ports []) (replicate ports 0)) }
+{
+    let op = kind_operator(alloc, kind, ports)?;
+    Boxed::new(alloc, op)
+}
+
+/// The operator of a kind by itself.
+fn kind_operator(alloc: Global, kind: &NodeKind, ports: usize) -> Result<KindOperator, OutOfMemory>
+    requires { IsReady kind.now ports }
+    ensures meaning { IfOk result (λ op. ⟦<KindOperator as Operator>⟧.meaning op ≡ node_meaning kind.now ports) }
+    ensures ports { IfOk result (λ op. (⟦<KindOperator as Operator>⟧.meaning op).ports ≡ ports) }
+    ensures stands { IfOk result (λ op. ⟦<KindOperator as Operator>⟧.stands op (replicate ports []) (replicate ports 0)) }
 {
     match kind {
         NodeKind::Source { .. } => unreachable!(),

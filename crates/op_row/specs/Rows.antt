@@ -5,7 +5,7 @@ use Rattle.cedr_base.specs.declared.row.Row.{Row}
 use Rattle.cedr_base.specs.declared.interval.Interval.{Interval}
 use Rattle.cedr_expr.specs.declared.test.Test.{Test}
 use Rattle.cedr_expr.specs.Tests.{passes}
-use Rattle.cedr_expr.specs.Columns.{kept}
+use Rattle.cedr_expr.specs.Columns.{kept_columns}
 
 -- the row itself, where its payload passes
 abbrev pub selected : List Test → Row → List Row
@@ -13,7 +13,7 @@ selected tests r = if passes tests r.payload [] then r ∷ [] else []
 
 -- the row with the kept columns
 abbrev pub projected : List ℕ → Row → List Row
-projected columns r = record r { payload = kept columns r.payload } ∷ []
+projected columns r = record r { payload = kept_columns columns r.payload } ∷ []
 
 -- the interval stays as it is
 abbrev pub same_life : ℕ → ℕ → Interval

@@ -7,9 +7,9 @@ use Rattle.cedr_base.specs.declared.change.Change.TheVariants.{Add, Cut}
 use Rattle.cedr_base.specs.Rows.{count_of, SameRows}
 use Rattle.cedr_base.specs.Changes.{puts, takes, MayFollow}
 use Rattle.cedr_base.proofs.Bags.{count_of-append}
-use Rattle.cedr_stream.specs.Repairs.{IsMoved, Repair}
-use Rattle.cedr_stream.proofs.BagSums.{same_itself}
-use Rattle.cedr_stream.proofs.RepairLemmas.{own_repair}
+use Rattle.change_laws.specs.Repairs.{IsMoved, Repair}
+use Rattle.change_laws.proofs.BagSums.{same_itself}
+use Rattle.change_laws.proofs.RepairLemmas.{own_repair}
 use Rattle.cedr_table.specs.Operators.{Tables, table_at, with_table, least_of, SameTables, CanTake}
 use Rattle.cedr_table.specs.PortLaws.{least_below, rise_length, same_length, least_rises, least_is_time}
 use Rattle.cedr_table.specs.OperatorLaws.{OperatorLaws}

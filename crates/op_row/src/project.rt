@@ -1,5 +1,5 @@
 ghost use Rattle.std.specs.Prelude.{◌≡◌, ◌∷◌, [], Some};
-ghost use Rattle.cedr_expr.specs.Columns.{kept};
+ghost use Rattle.cedr_expr.specs.Columns.{kept_columns};
 ghost use Rattle.cedr_table.specs.RowWise.{row_wise};
 ghost use Rattle.op_row.specs.Rows.{projected, same_life};
 
@@ -9,9 +9,14 @@ use cedr_table::{Operator, RowWise};
 use std::alloc::Global;
 
 /// Each row with the kept columns. The bound is the mark.
-#[derive(Drop)]
 pub struct Project {
     keep: Keep,
+}
+
+impl Drop for Project {
+    fn drop(self) {
+        let Project { keep: _ } = self;
+    }
 }
 
 impl Project {
@@ -35,7 +40,7 @@ impl RowWise for Project {
 
     ghost life_of = { λ _. same_life };
 
-    ghost payload_of = { λ s payload. Some (kept s.keep payload) };
+    ghost payload_of = { λ s payload. Some (kept_columns s.keep payload) };
 
     fn life(&self, begin: Time, end: Time) -> Interval {
         Interval { begin, end }

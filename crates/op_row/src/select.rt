@@ -8,9 +8,14 @@ use cedr_table::{Operator, RowWise};
 use std::alloc::Global;
 
 /// The rows whose payload passes tests. The bound is the mark.
-#[derive(Drop)]
 pub struct Select {
     tests: Tests,
+}
+
+impl Drop for Select {
+    fn drop(self) {
+        let Select { tests: _ } = self;
+    }
 }
 
 impl Select {

@@ -6,7 +6,7 @@ use Rattle.std.proofs.lemmas.Bool.{ltb-true, ltb-false, leb-false, le-ltb, and_p
 use Rattle.std.proofs.lemmas.List.{append-nil}
 use Rattle.cedr_base.specs.declared.time.TheConstants.{FOREVER}
 use Rattle.cedr_base.specs.declared.row.Row.{Row}
-use Rattle.cedr_stream.specs.Times.{later}
+use Rattle.change_laws.specs.Times.{later}
 use Rattle.cedr_table.specs.Operators.{Tables, with_table}
 use Rattle.cedr_table.specs.Choices.{choices, chosen}
 use Rattle.cedr_expr.specs.declared.test.Test.{Test}
@@ -14,7 +14,7 @@ use Rattle.cedr_expr.specs.Tests.{passes}
 use Rattle.pat_state.specs.Starts.{begins_within}
 use Rattle.pat_state.proofs.FlatLemmas.{flat_map-like, flat_map-map, flat_map-twice, flat_map-none, flat_map-filter}
 use Rattle.pat_state.proofs.AnswerLemmas.{AllLate, ahead-append, ahead-flat_map}
-use Rattle.pat_seq.specs.Sequences.{ascends, last_begin, joined, sequence}
+use Rattle.pat_seq.specs.Sequences.{ascends, last_begin, payloads_joined, sequence}
 use Rattle.pat_seq.specs.Steps.{begun, next, grown, grown_all, is_match, near, matches}
 
 -- the choices by the first port's row
@@ -25,7 +25,7 @@ chosen-cons f t ts =
 
 -- the row of a choice of which the first rows are a row so far
 abbrev pub completed : List Test → Row → List Row → List Row
-completed tests p rs = cond (ascends p.begin p.end rs && passes tests (p.payload ++ joined rs) []) (record { end = p.end; begin = last_begin p.begin rs; payload = p.payload ++ joined rs } ∷ []) []
+completed tests p rs = cond (ascends p.begin p.end rs && passes tests (p.payload ++ payloads_joined rs) []) (record { end = p.end; begin = last_begin p.begin rs; payload = p.payload ++ payloads_joined rs } ∷ []) []
 
 abbrev completions : List Test → Tables → Row → List Row
 completions tests ts p = chosen (completed tests p) ts
@@ -50,11 +50,11 @@ longer p r = record { end = p.end; begin = r.begin; payload = p.payload ++ r.pay
 
 one_longer : (tests : List Test) (p r : Row) (rs : List Row) → nat_lt p.begin r.begin ≡ true → completed tests (longer p r) rs ≡ completed tests p (r ∷ rs)
 one_longer tests p r rs rises =
-    let both = append_assoc p.payload r.payload (joined rs) in
+    let both = append_assoc p.payload r.payload (payloads_joined rs) in
     λ i. cond ((sym rises i && ascends r.begin p.end rs) && passes tests (both i) []) (record { end = p.end; begin = last_begin r.begin rs; payload = both i } ∷ []) []
 
 completed_none : (tests : List Test) (p : Row) (rs : List Row) → ascends p.begin p.end rs ≡ false → completed tests p rs ≡ []
-completed_none tests p rs h = ap (λ b. cond b (record { end = p.end; begin = last_begin p.begin rs; payload = p.payload ++ joined rs } ∷ []) []) (and_left (ascends p.begin p.end rs) (passes tests (p.payload ++ joined rs) []) h)
+completed_none tests p rs h = ap (λ b. cond b (record { end = p.end; begin = last_begin p.begin rs; payload = p.payload ++ payloads_joined rs } ∷ []) []) (and_left (ascends p.begin p.end rs) (passes tests (p.payload ++ payloads_joined rs) []) h)
 
 next_completes_at : (tests : List Test) (p r : Row) (ts : Tables) (b : Bool) → (nat_lt p.begin r.begin && nat_lt r.begin p.end) ≡ b → flat_map (completions tests ts) (cond b (longer p r ∷ []) []) ≡ chosen (λ rs. completed tests p (r ∷ rs)) ts
 next_completes_at tests p r ts true h =
@@ -175,8 +175,8 @@ ahead_one p rs row false ends begins time is = tt
 
 -- the rows of choices that go on from a row so far don't begin before it
 ahead_completions : (tests : List Test) (p : Row) (ts : Tables) → p.end ≤ FOREVER → AllLate p.begin (completions tests ts p)
-ahead_completions tests p ts time = ahead-flat_map p.begin (completed tests p) (choices ts) (λ rs. ahead_one p rs _ (ascends p.begin p.end rs && passes tests (p.payload ++ joined rs) []) refl refl time
-    (λ both. ascends_to p.begin p.end rs (and_parts (ascends p.begin p.end rs) (passes tests (p.payload ++ joined rs) []) both).0))
+ahead_completions tests p ts time = ahead-flat_map p.begin (completed tests p) (choices ts) (λ rs. ahead_one p rs _ (ascends p.begin p.end rs && passes tests (p.payload ++ payloads_joined rs) []) refl refl time
+    (λ both. ascends_to p.begin p.end rs (and_parts (ascends p.begin p.end rs) (passes tests (p.payload ++ payloads_joined rs) []) both).0))
 
 ahead_next : (t : ℕ) (tests : List Test) (p r : Row) (us : Tables) (b : Bool) → AllLate t (completions tests us (longer p r)) → AllLate t (flat_map (completions tests us) (cond b (longer p r ∷ []) []))
 ahead_next t tests p r us true late = ahead-append t (completions tests us (longer p r)) [] late tt

@@ -6,7 +6,7 @@ use Rattle.std.proofs.lemmas.List.{append-nil}
 use Rattle.cedr_base.specs.declared.row.Row.{Row}
 use Rattle.cedr_base.specs.Rows.{count_of, one_if_same, SameRows}
 use Rattle.cedr_base.proofs.Bags.{count_of-append}
-use Rattle.cedr_stream.proofs.BagSums.{sum_by-flat_map}
+use Rattle.change_laws.proofs.BagSums.{sum_by-flat_map}
 use Rattle.cedr_table.specs.Counted.{spread}
 use Rattle.cedr_expr.specs.declared.test.Test.{Test}
 use Rattle.cedr_expr.specs.Tests.{passes}

@@ -6,18 +6,18 @@ use Rattle.std.proofs.lemmas.Bool.{ltb-true, lt-ltb, and_parts, and_right}
 use Rattle.std.proofs.lemmas.List.{append-nil}
 use Rattle.cedr_base.specs.declared.row.Row.{Row}
 use Rattle.cedr_base.specs.Rows.{SameRows}
-use Rattle.cedr_stream.specs.Times.{later}
-use Rattle.cedr_stream.proofs.BagSums.{same_itself}
+use Rattle.change_laws.specs.Times.{later}
+use Rattle.change_laws.proofs.BagSums.{same_itself}
 use Rattle.cedr_table.specs.Operators.{Tables, with_table}
 use Rattle.cedr_table.specs.Choices.{choices, chosen}
 use Rattle.cedr_table.proofs.ChoiceLemmas.{same_chosen}
 use Rattle.cedr_expr.specs.declared.test.Test.{Test}
 use Rattle.cedr_expr.specs.Tests.{passes}
-use Rattle.pat_state.specs.Starts.{reaches}
+use Rattle.pat_state.specs.Starts.{scope_reaches}
 use Rattle.pat_state.specs.Answers.{AllAmong}
 use Rattle.pat_state.proofs.FlatLemmas.{flat_map-none, flat_map-filter}
 use Rattle.pat_state.proofs.EndlessLemmas.{same_with, filtered_tables}
-use Rattle.pat_seq.specs.Sequences.{ascends, joined, whole, sequence}
+use Rattle.pat_seq.specs.Sequences.{ascends, payloads_joined, choice_row, sequence}
 use Rattle.pat_seq.proofs.MatchLemmas.{chosen-cons}
 
 abbrev all_pass : (Row → Bool) → List Row → Bool
@@ -73,27 +73,27 @@ row_below start limit [] after x is = bounded x.begin limit after (and_parts (na
 row_below start limit (b ∷ before) after x is = row_below b.begin limit before after x (and_parts (nat_lt start b.begin) (ascends b.begin limit (before ++ x ∷ after)) is).1
 
 -- the scope of a row that begins no earlier than another one's ends no earlier
-one_reaches : (scope time first : ℕ) (r : Row) → time < later first scope → first ≤ r.begin → reaches scope time r ≡ true
+one_reaches : (scope time first : ℕ) (r : Row) → time < later first scope → first ≤ r.begin → scope_reaches scope time r ≡ true
 one_reaches scope time first r less from = lt-ltb time (later r.begin scope) (omega arith)
 
-all_reach : (scope time first start limit : ℕ) (rs : List Row) → time < later first scope → first ≤ start → ascends start limit rs ≡ true → all_pass (reaches scope time) rs ≡ true
+all_reach : (scope time first start limit : ℕ) (rs : List Row) → time < later first scope → first ≤ start → ascends start limit rs ≡ true → all_pass (scope_reaches scope time) rs ≡ true
 all_reach scope time first start limit [] less from is = refl
 all_reach scope time first start limit (r ∷ rs) less from is =
     let both = and_parts (nat_lt start r.begin) (ascends r.begin limit rs) is in
     let begins = ltb-true start r.begin both.0 in
     let rest = all_reach scope time first r.begin limit rs less (omega arith) both.1 in
-    ap (λ b. b && all_pass (reaches scope time) rs) (one_reaches scope time first r less (omega arith)) ∙ rest
+    ap (λ b. b && all_pass (scope_reaches scope time) rs) (one_reaches scope time first r less (omega arith)) ∙ rest
 
-gives_none : (scope time : ℕ) (tests : List Test) (e : Row) (es : List Row) (b : Bool) → ascends e.begin (later e.begin scope) es ≡ b → (b ≡ true → time < later e.begin scope) → all_pass (reaches scope time) (e ∷ es) ≡ false
-    → cond (b && passes tests (joined (e ∷ es)) []) (whole scope e es ∷ []) [] ≡ []
+gives_none : (scope time : ℕ) (tests : List Test) (e : Row) (es : List Row) (b : Bool) → ascends e.begin (later e.begin scope) es ≡ b → (b ≡ true → time < later e.begin scope) → all_pass (scope_reaches scope time) (e ∷ es) ≡ false
+    → cond (b && passes tests (payloads_joined (e ∷ es)) []) (choice_row scope e es ∷ []) [] ≡ []
 gives_none scope time tests e es false is below fails = refl
 gives_none scope time tests e es true is below fails =
     let less = below refl in
-    let all = ap (λ b. b && all_pass (reaches scope time) es) (one_reaches scope time e.begin e less (omega arith)) ∙ all_reach scope time e.begin e.begin (later e.begin scope) es less (omega arith) is in
+    let all = ap (λ b. b && all_pass (scope_reaches scope time) es) (one_reaches scope time e.begin e less (omega arith)) ∙ all_reach scope time e.begin e.begin (later e.begin scope) es less (omega arith) is in
     absurd (let wrong = sym all ∙ fails in cc)
 
 -- a choice with a late row gives nothing unless the scope of each of its rows ends after it
-ahead_choice : (scope time : ℕ) (tests : List Test) (x : Row) (before after : List Row) → time ≤ x.begin → all_pass (reaches scope time) (before ++ x ∷ after) ≡ false → sequence scope tests (before ++ x ∷ after) ≡ []
+ahead_choice : (scope time : ℕ) (tests : List Test) (x : Row) (before after : List Row) → time ≤ x.begin → all_pass (scope_reaches scope time) (before ++ x ∷ after) ≡ false → sequence scope tests (before ++ x ∷ after) ≡ []
 ahead_choice scope time tests x [] after late fails =
     gives_none scope time tests x after (ascends x.begin (later x.begin scope) after) refl (λ is. let below = bounded x.begin (later x.begin scope) after is in omega arith) fails
 ahead_choice scope time tests x (b ∷ before) after late fails =
@@ -102,12 +102,12 @@ ahead_choice scope time tests x (b ∷ before) after late fails =
 
 -- tables that are the same among the rows whose scope ends after a time give the same choices with a row that
 -- begins then or later
-pub among_chosen : (scope time : ℕ) (tests : List Test) (left tables : Tables) (port : ℕ) (x : Row) → AllAmong (reaches scope time) left tables → port < length left → port < length tables → time ≤ x.begin
+pub among_chosen : (scope time : ℕ) (tests : List Test) (left tables : Tables) (port : ℕ) (x : Row) → AllAmong (scope_reaches scope time) left tables → port < length left → port < length tables → time ≤ x.begin
     → SameRows (chosen (sequence scope tests) (with_table left port (x ∷ []))) (chosen (sequence scope tests) (with_table tables port (x ∷ [])))
 among_chosen scope time tests left tables port x same within_left within late =
-    let one = passing_with (sequence scope tests) (reaches scope time) x port left within_left (λ before after at fails. ahead_choice scope time tests x before after late fails) in
-    let two = passing_with (sequence scope tests) (reaches scope time) x port tables within (λ before after at fails. ahead_choice scope time tests x before after late fails) in
+    let one = passing_with (sequence scope tests) (scope_reaches scope time) x port left within_left (λ before after at fails. ahead_choice scope time tests x before after late fails) in
+    let two = passing_with (sequence scope tests) (scope_reaches scope time) x port tables within (λ before after at fails. ahead_choice scope time tests x before after late fails) in
     subst (λ rows. SameRows rows (chosen (sequence scope tests) (with_table tables port (x ∷ [])))) one
-    (subst (SameRows (chosen (sequence scope tests) (with_table (map (filter (reaches scope time)) left) port (x ∷ [])))) two
-    (same_chosen (sequence scope tests) (with_table (map (filter (reaches scope time)) left) port (x ∷ [])) (with_table (map (filter (reaches scope time)) tables) port (x ∷ []))
-    (same_with (map (filter (reaches scope time)) left) (map (filter (reaches scope time)) tables) port (x ∷ []) (x ∷ []) (filtered_tables (reaches scope time) left tables same) (same_itself (x ∷ [])))))
+    (subst (SameRows (chosen (sequence scope tests) (with_table (map (filter (scope_reaches scope time)) left) port (x ∷ [])))) two
+    (same_chosen (sequence scope tests) (with_table (map (filter (scope_reaches scope time)) left) port (x ∷ [])) (with_table (map (filter (scope_reaches scope time)) tables) port (x ∷ []))
+    (same_with (map (filter (scope_reaches scope time)) left) (map (filter (scope_reaches scope time)) tables) port (x ∷ []) (x ∷ []) (filtered_tables (scope_reaches scope time) left tables same) (same_itself (x ∷ [])))))

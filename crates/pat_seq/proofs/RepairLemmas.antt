@@ -7,11 +7,11 @@ use Rattle.cedr_base.specs.declared.change.Change.{Change}
 use Rattle.cedr_base.specs.declared.change.Change.TheVariants.{Add, Cut}
 use Rattle.cedr_base.specs.Rows.{count_of, SameRows}
 use Rattle.cedr_base.specs.Changes.{sync_of, puts, takes, MayFollow}
-use Rattle.cedr_stream.specs.Repairs.{IsMoved}
-use Rattle.cedr_stream.specs.Times.{later}
-use Rattle.cedr_stream.proofs.BagSums.{same_itself, same_along}
-use Rattle.cedr_stream.proofs.Moves.{remnant_some, remnant_none}
-use Rattle.cedr_stream.proofs.RepairLemmas.{Turns}
+use Rattle.change_laws.specs.Repairs.{IsMoved}
+use Rattle.change_laws.specs.Times.{later}
+use Rattle.change_laws.proofs.BagSums.{same_itself, same_along}
+use Rattle.change_laws.proofs.Moves.{remnant_some, remnant_none}
+use Rattle.change_laws.proofs.RepairLemmas.{Turns}
 use Rattle.cedr_table.specs.Operators.{Tables, Gains, CanTake, SameTables, table_at, mark_at, with_table, least_of}
 use Rattle.cedr_table.specs.PortLaws.{least_below, same_length}
 use Rattle.cedr_table.specs.Choices.{choices, chosen}
@@ -21,12 +21,12 @@ use Rattle.cedr_expr.specs.Tests.{passes}
 use Rattle.pat_state.specs.declared.answer.Way.{Way}
 use Rattle.pat_state.specs.declared.answer.Way.TheVariants.{Comes, Goes}
 use Rattle.pat_state.specs.Starts.{endless, all_endless, endless_tables}
-use Rattle.cedr_stream.specs.Times.{IsWhile}
+use Rattle.change_laws.specs.Times.{IsWhile}
 use Rattle.pat_state.specs.Answers.{answered, StandsByBegin}
 use Rattle.pat_state.proofs.FlatLemmas.{flat_map-like, flat_map-map, flat_map-none}
 use Rattle.pat_state.proofs.AnswerLemmas.{AllLate, ahead_earlier, ahead_same, come_turns, go_turns, same_turns}
 use Rattle.pat_state.proofs.EndlessLemmas.{endless_with, same_with, stands_after, stands_new, length-with}
-use Rattle.pat_seq.specs.Sequences.{ascends, last_begin, joined, sequence, IsSequence}
+use Rattle.pat_seq.specs.Sequences.{ascends, last_begin, payloads_joined, sequence, IsSequence}
 use Rattle.pat_seq.specs.Steps.{matches, IsAnswered}
 use Rattle.pat_seq.proofs.ReachLemmas.{among_chosen}
 use Rattle.pat_seq.proofs.MatchLemmas.{chosen-cons, matches_are, ahead_matches}
@@ -48,7 +48,7 @@ last_endless : (after : ℕ) (rs : List Row) → last_begin after (all_endless r
 last_endless after [] = refl
 last_endless after (r ∷ rs) = last_endless r.begin rs
 
-joined_endless : (rs : List Row) → joined (all_endless rs) ≡ joined rs
+joined_endless : (rs : List Row) → payloads_joined (all_endless rs) ≡ payloads_joined rs
 joined_endless [] = refl
 joined_endless (r ∷ rs) = ap (λ fields. r.payload ++ fields) (joined_endless rs)
 

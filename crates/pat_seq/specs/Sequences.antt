@@ -3,13 +3,13 @@ use Rattle.std.specs.Prelude.{ℕ, ◌≤◌, List, [], ◌∷◌, Bool, false, 
 use Rattle.std.specs.List.{flat_map}
 use Rattle.cedr_base.specs.declared.field.Field.{Field}
 use Rattle.cedr_base.specs.declared.row.Row.{Row}
-use Rattle.cedr_stream.specs.Times.{later}
+use Rattle.change_laws.specs.Times.{later}
 use Rattle.cedr_table.specs.Operators.{Meaning, least_of}
 use Rattle.cedr_table.specs.Choices.{chosen}
-use Rattle.pat_state.specs.Starts.{reaches}
+use Rattle.pat_state.specs.Starts.{scope_reaches}
 use Rattle.cedr_expr.specs.declared.test.Test.{Test}
 use Rattle.cedr_expr.specs.Tests.{passes}
-use Rattle.cedr_stream.specs.Times.{IsWhile}
+use Rattle.change_laws.specs.Times.{IsWhile}
 
 -- after < e1.begin < e2.begin < .. < ek.begin < limit
 abbrev pub ascends : ℕ → ℕ → List Row → Bool
@@ -22,18 +22,18 @@ last_begin after [] = after
 last_begin after (e ∷ es) = last_begin e.begin es
 
 -- the payloads of the rows, one after the other
-abbrev pub joined : List Row → List Field
-joined rows = flat_map (λ r. r.payload) rows
+abbrev pub payloads_joined : List Row → List Field
+payloads_joined rows = flat_map (λ r. r.payload) rows
 
 -- the row of a choice: it begins with the last row, and ends when the scope of the first one does
-abbrev pub whole : ℕ → Row → List Row → Row
-whole scope e es = record { end = later e.begin scope; begin = last_begin e.begin es; payload = joined (e ∷ es) }
+abbrev pub choice_row : ℕ → Row → List Row → Row
+choice_row scope e es = record { end = later e.begin scope; begin = last_begin e.begin es; payload = payloads_joined (e ∷ es) }
 
 -- the choice's row, where its rows begin one after the other within the scope of the first one and their payloads
 -- pass the tests
 abbrev pub sequence : ℕ → List Test → List Row → List Row
 sequence scope tests [] = []
-sequence scope tests (e ∷ es) = if ascends e.begin (later e.begin scope) es && passes tests (joined (e ∷ es)) [] then whole scope e es ∷ [] else []
+sequence scope tests (e ∷ es) = if ascends e.begin (later e.begin scope) es && passes tests (payloads_joined (e ∷ es)) [] then choice_row scope e es ∷ [] else []
 
 -- One row for each such choice of one row of each port. A row may be held whose scope ends after the least mark.
 abbrev pub sequence_of : ℕ → ℕ → List Test → Meaning
@@ -41,7 +41,7 @@ sequence_of ports scope tests = record {
   ports = ports;
   result = chosen (sequence scope tests);
   bound = λ _ marks. least_of marks;
-  may_hold = λ _ marks _ r. reaches scope (least_of marks) r;
+  may_hold = λ _ marks _ r. scope_reaches scope (least_of marks) r;
   echoes = false;
   stateless = false;
 }

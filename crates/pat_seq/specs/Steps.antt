@@ -4,7 +4,7 @@ use Rattle.std.specs.Option.{option_copied}
 use Rattle.std.proofs.Common.{Bor}
 use Rattle.std.specs.List.{flat_map, filter}
 use Rattle.cedr_base.specs.declared.row.Row.{Row}
-use Rattle.cedr_stream.specs.Times.{later}
+use Rattle.change_laws.specs.Times.{later}
 use Rattle.cedr_table.specs.Operators.{Tables, table_at, with_table}
 use Rattle.cedr_expr.specs.declared.test.Test.{Test}
 use Rattle.cedr_expr.specs.Tests.{passes}

@@ -3,7 +3,7 @@ ghost use Rattle.std.specs.List.{flat_map};
 ghost use Rattle.cedr_base.specs.declared.time.TheConstants.{FOREVER};
 ghost use Rattle.cedr_base.specs.Rows.{SameRows};
 ghost use Rattle.cedr_table.specs.Counted.{spread};
-ghost use Rattle.pat_state.specs.Starts.{AreWithin};
+ghost use Rattle.pat_state.specs.Starts.{AreInScope};
 ghost use Rattle.pat_state.specs.Tied.{AreTied};
 ghost use Rattle.pat_seq.specs.Steps.{begun, next_passing, matches};
 
@@ -61,7 +61,7 @@ fn push_firsts(
     rows: &mut Vec<Row>,
 ) -> Result<(), OutOfMemory>
     requires scope { scope ≤ 2 ^ 40 }
-    requires within { (from before : ℕ) × (before ≤ FOREVER) × AreWithin from before some }
+    requires within { (from before : ℕ) × (before ≤ FOREVER) × AreInScope from before some }
     ensures { OnOk result (rows.new.items ≡ rows.old.items ++ flat_map (λ r. next_passing tests.now (begun scope r) second.now) (spread some.entry)) }
 {
     for (first, count) in some {

@@ -4,7 +4,7 @@ ghost use Rattle.cedr_base.specs.Rows.{SameRows};
 ghost use Rattle.cedr_base.specs.Changes.{puts, takes};
 ghost use Rattle.cedr_table.specs.Operators.{table_at, with_table};
 ghost use Rattle.pat_state.specs.Starts.{all_endless, HasRow};
-ghost use Rattle.cedr_stream.specs.Times.{IsWhile};
+ghost use Rattle.change_laws.specs.Times.{IsWhile};
 ghost use Rattle.pat_seq.specs.Keeping.{rows_in, AreKept};
 ghost use Rattle.pat_seq.specs.Sequences.{sequence_of};
 ghost use Rattle.pat_seq.specs.Steps.{IsAnswered};
@@ -28,11 +28,20 @@ use std::alloc::Global;
 /// of the ports but the last in which it may stand, and each row more of such a choice costs a new payload. On the last
 /// port the tests come first, once for all copies of a row, and a payload is joined only for what passes them. A
 /// retraction that leaves something of its row takes O(1).
-#[derive(Drop)]
 pub struct Sequence {
     scope: u64,
     tests: Tests,
     pub(crate) kept: Kept,
+}
+
+impl Drop for Sequence {
+    fn drop(self) {
+        let Sequence {
+            scope: _,
+            tests: _,
+            kept: _,
+        } = self;
+    }
 }
 
 impl Sequence {

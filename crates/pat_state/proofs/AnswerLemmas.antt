@@ -6,9 +6,9 @@ use Rattle.cedr_base.specs.declared.row.Row.{Row}
 use Rattle.cedr_base.specs.Rows.{IsRow, count_of, same_row, SameRows}
 use Rattle.cedr_base.proofs.Bags.{count_of-cons, one_of_itself, same_row_exact}
 use Rattle.cedr_base.specs.Changes.{all_puts, all_takes}
-use Rattle.cedr_stream.specs.Repairs.{AllFrom}
-use Rattle.cedr_stream.proofs.Moves.{remnant_none}
-use Rattle.cedr_stream.proofs.RepairLemmas.{AllChanges, Turns, takes_adds, puts_adds}
+use Rattle.change_laws.specs.Repairs.{AllFrom}
+use Rattle.change_laws.proofs.Moves.{remnant_none}
+use Rattle.change_laws.proofs.RepairLemmas.{AllChanges, Turns, takes_adds, puts_adds}
 use Rattle.pat_state.specs.declared.answer.Way.{Way}
 use Rattle.pat_state.specs.declared.answer.Way.TheVariants.{Comes, Goes}
 use Rattle.pat_state.specs.Answers.{answered}

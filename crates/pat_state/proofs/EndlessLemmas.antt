@@ -11,15 +11,15 @@ use Rattle.cedr_base.specs.declared.change.Change.TheVariants.{Add, Cut}
 use Rattle.cedr_base.specs.Rows.{same_row, count_of, one_if_same, SameRows}
 use Rattle.cedr_base.specs.Changes.{sync_of, puts, takes, MayFollow}
 use Rattle.cedr_base.proofs.Bags.{same_row_exact, count_of-append, count_of-cons, one_of_itself}
-use Rattle.cedr_stream.specs.Repairs.{IsMoved}
-use Rattle.cedr_stream.specs.Times.{later}
-use Rattle.cedr_stream.proofs.BagSums.{sum_by-same, same_along, same_itself}
-use Rattle.cedr_stream.proofs.Moves.{sum_by-moved, sum_by-there, remnant_some, applied, applied_moves}
+use Rattle.change_laws.specs.Repairs.{IsMoved}
+use Rattle.change_laws.specs.Times.{later}
+use Rattle.change_laws.proofs.BagSums.{sum_by-same, same_along, same_itself}
+use Rattle.change_laws.proofs.Moves.{sum_by-moved, sum_by-there, remnant_some, applied, applied_moves}
 use Rattle.cedr_table.specs.Counted.{SameAmong}
 use Rattle.cedr_table.specs.Operators.{Tables, table_at, with_table, least_of, AllRise, CanTake, SameTables}
 use Rattle.cedr_table.specs.PortLaws.{same_at, same_length, rise_length, least_below, least_rises}
 use Rattle.cedr_table.proofs.FilterLemmas.{among_itself, among_along, among_same, among_fewer, among_moved, filtered_same}
-use Rattle.pat_state.specs.Starts.{endless, all_endless, endless_tables, reaches, HasRow}
+use Rattle.pat_state.specs.Starts.{endless, all_endless, endless_tables, scope_reaches, HasRow}
 use Rattle.pat_state.specs.Answers.{AllAmong, StandsByBegin}
 use Rattle.pat_state.proofs.StepLemmas.{kept_rows}
 
@@ -142,11 +142,11 @@ filtered_tables p (t ∷ ts) [] are = absurd are
 filtered_tables p (t ∷ ts) (u ∷ us) are = (filtered_same p t u are.0, filtered_tables p ts us are.1)
 
 -- what reaches beyond a later time reaches beyond an earlier one
-reaches_earlier : (scope time until : ℕ) (r : Row) → time ≤ until → reaches scope until r ≡ true → reaches scope time r ≡ true
+reaches_earlier : (scope time until : ℕ) (r : Row) → time ≤ until → scope_reaches scope until r ≡ true → scope_reaches scope time r ≡ true
 reaches_earlier scope time until r rise h = let ends = ltb-true until (later r.begin scope) h in lt-ltb time (later r.begin scope) (omega arith)
 
 -- a row that begins at a time or later reaches beyond it
-pub reaches_itself : (scope time : ℕ) (r : Row) → 1 ≤ scope → r.begin < FOREVER → time ≤ r.begin → reaches scope time r ≡ true
+pub reaches_itself : (scope time : ℕ) (r : Row) → 1 ≤ scope → r.begin < FOREVER → time ≤ r.begin → scope_reaches scope time r ≡ true
 reaches_itself scope time r long finite from = lt-ltb time (later r.begin scope) (omega arith)
 
 -- the kept rows stand for the same bags
@@ -156,7 +156,7 @@ stands_alike scope kept tables others marks same h = record {
   table = same_length tables others same ∙ h.table;
   mark = h.mark;
   left = h.left;
-  same = among_alike (reaches scope (least_of marks)) h.left tables others same h.same;
+  same = among_alike (scope_reaches scope (least_of marks)) h.left tables others same h.same;
   rows = h.rows;
 }
 
@@ -167,7 +167,7 @@ stands_later scope kept tables marks later h rise = record {
   table = h.table;
   mark = rise_length marks later rise ∙ h.mark;
   left = h.left;
-  same = among_later (reaches scope (least_of marks)) (reaches scope (least_of later)) h.left tables (λ r reach. reaches_earlier scope (least_of marks) (least_of later) r (least_rises marks later rise) reach) h.same;
+  same = among_later (scope_reaches scope (least_of marks)) (scope_reaches scope (least_of later)) h.left tables (λ r reach. reaches_earlier scope (least_of marks) (least_of later) r (least_rises marks later rise) reach) h.same;
   rows = h.rows;
 }
 
@@ -177,21 +177,21 @@ module _ {range : Type 0} (scope : ℕ) (kept tables : Tables) (marks : List ℕ
   kept_at = subst (SameRows (table_at kept port)) (endless_at h.left port) (same_at port kept (endless_tables h.left) h.rows)
 
   -- these are the table's among the rows whose scope ends after the least mark
-  pub left_at : SameAmong (reaches scope (least_of marks)) (table_at h.left port) (table_at tables port)
-  left_at = among_at (reaches scope (least_of marks)) h.left tables port h.same
+  pub left_at : SameAmong (scope_reaches scope (least_of marks)) (table_at h.left port) (table_at tables port)
+  left_at = among_at (scope_reaches scope (least_of marks)) h.left tables port h.same
 
   -- the row that a change cuts is kept where it is left
   pub stands_has : (c : Change) → MayFollow (table_at h.left port) [] c → HasRow (table_at kept port) c
   stands_has c may = has_row c (table_at kept port) (table_at h.left port) kept_at may
 
   -- rows of the port stand for another table, with what is left of that
-  stands_with : (rows left after : List Row) → SameAmong (reaches scope (least_of marks)) left after → SameRows rows (all_endless left) → StandsByBegin range scope (with_table kept port rows) (with_table tables port after) marks
+  stands_with : (rows left after : List Row) → SameAmong (scope_reaches scope (least_of marks)) left after → SameRows rows (all_endless left) → StandsByBegin range scope (with_table kept port rows) (with_table tables port after) marks
   stands_with rows left after among same = record {
     range = h.range;
     table = length-with tables port after ∙ (h.table ∙ sym (length-with kept port rows));
     mark = h.mark ∙ sym (length-with kept port rows);
     left = with_table h.left port left;
-    same = among_with (reaches scope (least_of marks)) h.left tables port left after h.same among;
+    same = among_with (scope_reaches scope (least_of marks)) h.left tables port left after h.same among;
     rows = subst (SameTables (with_table kept port rows)) (sym (endless_with h.left port left)) (same_with kept (endless_tables h.left) port rows (all_endless left) h.rows same);
   }
 
@@ -199,7 +199,7 @@ module _ {range : Type 0} (scope : ℕ) (kept tables : Tables) (marks : List ℕ
   pub stands_after : (c : Change) (rows after : List Row) → MayFollow (table_at h.left port) [] c → SameRows (rows ++ all_endless (takes c)) (table_at kept port ++ all_endless (puts c)) → IsMoved c (table_at tables port) after
       → StandsByBegin range scope (with_table kept port rows) (with_table tables port after) marks
   stands_after c rows after may step moved = stands_with rows (applied c (table_at h.left port)) after
-      (among_moved (reaches scope (least_of marks)) c (table_at h.left port) (table_at tables port) after left_at may moved)
+      (among_moved (scope_reaches scope (least_of marks)) c (table_at h.left port) (table_at tables port) after left_at may moved)
       (kept_moved c (table_at kept port) rows (table_at h.left port) (applied c (table_at h.left port)) kept_at step (applied_moves c (table_at h.left port) may))
 
 with_itself : (tables : Tables) (port : ℕ) → with_table tables port (table_at tables port) ≡ tables
@@ -232,11 +232,11 @@ module _ {range : Type 0} (scope : ℕ) (kept tables : Tables) (marks : List ℕ
       let all = (left_at scope kept tables marks port h).each x (reaches_itself scope (least_of marks) x long finite (omega arith)) in
       subst (MayFollow (table_at h.left port) []) (sym is) (may.0, omega (arith, all, there))
 
-  apart_at : (x : Row) (r : Row) (b : Bool) → same_row r x ≡ b → reaches scope (least_of marks) x ≡ false → reaches scope (least_of marks) r ≡ true → cond {A = ℕ} b 1 0 ≡ 0
-  apart_at x r true same none reach = let e = ap (reaches scope (least_of marks)) (same_row_exact r x same) in cc
+  apart_at : (x : Row) (r : Row) (b : Bool) → same_row r x ≡ b → scope_reaches scope (least_of marks) x ≡ false → scope_reaches scope (least_of marks) r ≡ true → cond {A = ℕ} b 1 0 ≡ 0
+  apart_at x r true same none reach = let e = ap (scope_reaches scope (least_of marks)) (same_row_exact r x same) in cc
   apart_at x r false same none reach = refl
 
-  still_at : (x : Row) (end : ℕ) (after : List Row) (b : Bool) → reaches scope (least_of marks) x ≡ b → c ≡ Cut x end → x.begin < end → IsMoved c (table_at tables port) after
+  still_at : (x : Row) (end : ℕ) (after : List Row) (b : Bool) → scope_reaches scope (least_of marks) x ≡ b → c ≡ Cut x end → x.begin < end → IsMoved c (table_at tables port) after
       → StandsByBegin range scope (with_table kept port (table_at kept port)) (with_table tables port after) marks
   still_at x end after true reach is lives moved =
       let may = subst (MayFollow (table_at tables port) []) is can.legal in
@@ -267,7 +267,7 @@ module _ {range : Type 0} (scope : ℕ) (kept tables : Tables) (marks : List ℕ
   pub stands_still : (x : Row) (end : ℕ) (after : List Row) → c ≡ Cut x end → x.begin < end → IsMoved c (table_at tables port) after → StandsByBegin range scope kept (with_table tables port after) marks
   stands_still x end after is lives moved =
       subst (λ (us : Tables). StandsByBegin range scope us (with_table tables port after) marks) (with_itself kept port)
-      (still_at x end after (reaches scope (least_of marks) x) refl is lives moved)
+      (still_at x end after (scope_reaches scope (least_of marks) x) refl is lives moved)
 
 empty_tables : (ports : ℕ) → SameTables (replicate ports []) (endless_tables (replicate ports []))
 empty_tables zero = tt
@@ -280,7 +280,7 @@ stands_new scope ports in_range = record {
   table = refl;
   mark = length-replicate ports 0 ∙ sym (length-replicate ports []);
   left = replicate ports [];
-  same = all_among (reaches scope (least_of (replicate ports 0))) (replicate ports []);
+  same = all_among (scope_reaches scope (least_of (replicate ports 0))) (replicate ports []);
   rows = empty_tables ports;
 }
 

@@ -8,12 +8,12 @@ use Rattle.std.proofs.lemmas.Bool.{cases_lt, lt-ltb, ltb-true, not-false}
 use Rattle.cedr_base.specs.declared.row.Row.{Row}
 use Rattle.cedr_base.specs.Order.{payload_cmp}
 use Rattle.cedr_base.specs.Rows.{row_cmp, count_of, SameRows}
-use Rattle.cedr_stream.specs.Times.{later}
-use Rattle.cedr_stream.proofs.BagSums.{same_itself}
+use Rattle.change_laws.specs.Times.{later}
+use Rattle.change_laws.proofs.BagSums.{same_itself}
 use Rattle.cedr_table.specs.Counted.{IsFirst}
 use Rattle.cedr_table.specs.Operators.{Tables, table_at, least_of, AllRise, SameTables}
 use Rattle.cedr_table.proofs.FilterLemmas.{count-filter, among_along, among_filter}
-use Rattle.pat_state.specs.Starts.{endless, all_endless, endless_tables, reaches, AreEndless}
+use Rattle.pat_state.specs.Starts.{endless, all_endless, endless_tables, scope_reaches, AreEndless}
 use Rattle.pat_state.specs.Answers.{AllAmong, AreForgotten, StandsByBegin}
 use Rattle.pat_state.proofs.EndlessLemmas.{stands_later}
 
@@ -32,34 +32,34 @@ begins_first : (a b : Row) (rows : List Row) → AreEndless rows → IsFirst a r
 begins_first a b rows endless_rows first there = begins_first_at a b (endless_rows a first.there ∙ sym (endless_rows b there)) (first.least b there)
 
 -- where the first one's scope ends after a time, that of each does
-pub all_reach : (scope time : ℕ) (a : Row) (rows : List Row) → AreEndless rows → IsFirst a rows → reaches scope time a ≡ true → (r : Row) → 0 < count_of r rows → not (reaches scope time r) ≡ false
+pub all_reach : (scope time : ℕ) (a : Row) (rows : List Row) → AreEndless rows → IsFirst a rows → scope_reaches scope time a ≡ true → (r : Row) → 0 < count_of r rows → not (scope_reaches scope time r) ≡ false
 all_reach scope time a rows endless_rows first reach r there =
     let low = begins_first a r rows endless_rows first there in
     let ends = ltb-true time (later a.begin scope) reach in
     ap not (lt-ltb time (later r.begin scope) (omega arith))
 
 -- where one's scope ends by a time, the first one's does
-pub first_passed : (scope time : ℕ) (a b : Row) (rows : List Row) → AreEndless rows → IsFirst a rows → 0 < count_of b rows → reaches scope time b ≡ false → not (reaches scope time a) ≡ true
-first_passed scope time a b rows endless_rows first there passed = passed_at (reaches scope time a) refl where
-  passed_at : (d : Bool) → reaches scope time a ≡ d → not (reaches scope time a) ≡ true
-  passed_at true is = absurd (let e = not-false (reaches scope time b) (all_reach scope time a rows endless_rows first is b there) in cc)
+pub first_passed : (scope time : ℕ) (a b : Row) (rows : List Row) → AreEndless rows → IsFirst a rows → 0 < count_of b rows → scope_reaches scope time b ≡ false → not (scope_reaches scope time a) ≡ true
+first_passed scope time a b rows endless_rows first there passed = passed_at (scope_reaches scope time a) refl where
+  passed_at : (d : Bool) → scope_reaches scope time a ≡ d → not (scope_reaches scope time a) ≡ true
+  passed_at true is = absurd (let e = not-false (scope_reaches scope time b) (all_reach scope time a rows endless_rows first is b there) in cc)
   passed_at false is = ap not is
 
 -- what never ends does so where fewer rows are left
 pub endless_left : (rows left : List Row) → ((r : Row) → count_of r left ≤ count_of r rows) → AreEndless rows → AreEndless left
 endless_left rows left fewer endless_rows = λ r there. endless_rows r (let few = fewer r in omega arith)
 
-filter_endless_at : (scope time : ℕ) (x : Row) (xs : List Row) (b : Bool) → all_endless (filter (reaches scope time) xs) ≡ filter (reaches scope time) (all_endless xs)
-    → all_endless (cond b (x ∷ filter (reaches scope time) xs) (filter (reaches scope time) xs)) ≡ cond b (endless x ∷ filter (reaches scope time) (all_endless xs)) (filter (reaches scope time) (all_endless xs))
+filter_endless_at : (scope time : ℕ) (x : Row) (xs : List Row) (b : Bool) → all_endless (filter (scope_reaches scope time) xs) ≡ filter (scope_reaches scope time) (all_endless xs)
+    → all_endless (cond b (x ∷ filter (scope_reaches scope time) xs) (filter (scope_reaches scope time) xs)) ≡ cond b (endless x ∷ filter (scope_reaches scope time) (all_endless xs)) (filter (scope_reaches scope time) (all_endless xs))
 filter_endless_at scope time x xs true rest = ap (λ rows. endless x ∷ rows) rest
 filter_endless_at scope time x xs false rest = rest
 
 -- whether a row reaches beyond a time doesn't depend on its end
-filter_endless : (scope time : ℕ) (xs : List Row) → all_endless (filter (reaches scope time) xs) ≡ filter (reaches scope time) (all_endless xs)
+filter_endless : (scope time : ℕ) (xs : List Row) → all_endless (filter (scope_reaches scope time) xs) ≡ filter (scope_reaches scope time) (all_endless xs)
 filter_endless scope time [] = refl
-filter_endless scope time (x ∷ xs) = filter_endless_at scope time x xs (reaches scope time x) (filter_endless scope time xs)
+filter_endless scope time (x ∷ xs) = filter_endless_at scope time x xs (scope_reaches scope time x) (filter_endless scope time xs)
 
-forgotten_rows : (scope time : ℕ) (kept kept' left : Tables) → AreForgotten scope time kept kept' → SameTables kept (endless_tables left) → SameTables kept' (endless_tables (map (filter (reaches scope time)) left))
+forgotten_rows : (scope time : ℕ) (kept kept' left : Tables) → AreForgotten scope time kept kept' → SameTables kept (endless_tables left) → SameTables kept' (endless_tables (map (filter (scope_reaches scope time)) left))
 forgotten_rows scope time [] [] [] forgotten same = tt
 forgotten_rows scope time [] [] (l ∷ ls) forgotten same = absurd same
 forgotten_rows scope time [] (u ∷ us) left forgotten same = absurd forgotten
@@ -69,9 +69,9 @@ forgotten_rows scope time (t ∷ ts) (u ∷ us) (l ∷ ls) forgotten same = (
   record {
     each = λ r.
         forgotten.0.each r
-        ∙ (count-filter r (reaches scope time) t
-        ∙ (ap (λ n. cond (reaches scope time r) n 0) (same.0.each r)
-        ∙ (sym (count-filter r (reaches scope time) (all_endless l)) ∙ ap (count_of r) (sym (filter_endless scope time l)))));
+        ∙ (count-filter r (scope_reaches scope time) t
+        ∙ (ap (λ n. cond (scope_reaches scope time r) n 0) (same.0.each r)
+        ∙ (sym (count-filter r (scope_reaches scope time) (all_endless l)) ∙ ap (count_of r) (sym (filter_endless scope time l)))));
   },
   forgotten_rows scope time ts us ls forgotten.1 same.1,
 )
@@ -97,13 +97,13 @@ stands_forgotten scope kept kept' tables earlier marks h rise forgotten =
       range = later.range;
       table = later.table ∙ sym (forgotten_length scope (least_of marks) kept kept' forgotten);
       mark = later.mark ∙ sym (forgotten_length scope (least_of marks) kept kept' forgotten);
-      left = map (filter (reaches scope (least_of marks))) later.left;
-      same = forgotten_among (reaches scope (least_of marks)) later.left tables later.same;
+      left = map (filter (scope_reaches scope (least_of marks))) later.left;
+      same = forgotten_among (scope_reaches scope (least_of marks)) later.left tables later.same;
       rows = forgotten_rows scope (least_of marks) kept kept' later.left forgotten later.rows;
     }
 
 -- what was forgotten port by port was on all ports
-pub all_forgotten : (scope time : ℕ) (old new : Tables) → length new ≡ length old → ((port : ℕ) → port < length old → SameRows (table_at new port) (filter (reaches scope time) (table_at old port))) → AreForgotten scope time old new
+pub all_forgotten : (scope time : ℕ) (old new : Tables) → length new ≡ length old → ((port : ℕ) → port < length old → SameRows (table_at new port) (filter (scope_reaches scope time) (table_at old port))) → AreForgotten scope time old new
 all_forgotten scope time [] [] same each = tt
 all_forgotten scope time [] (u ∷ us) same each = absurd (omega arith)
 all_forgotten scope time (t ∷ ts) [] same each = absurd (omega arith)
@@ -114,9 +114,9 @@ some_reach true n there = refl
 some_reach false n there = absurd (omega arith)
 
 -- and the scope of each of them ends after it
-pub forgotten_reach : (scope time : ℕ) (kept kept' : Tables) → AreForgotten scope time kept kept' → (port : ℕ) (r : Row) → 0 < count_of r (table_at kept' port) → reaches scope time r ≡ true
+pub forgotten_reach : (scope time : ℕ) (kept kept' : Tables) → AreForgotten scope time kept kept' → (port : ℕ) (r : Row) → 0 < count_of r (table_at kept' port) → scope_reaches scope time r ≡ true
 forgotten_reach scope time [] [] h port r there = absurd (omega arith)
 forgotten_reach scope time [] (u ∷ us) h port r there = absurd h
 forgotten_reach scope time (t ∷ ts) [] h port r there = absurd h
-forgotten_reach scope time (t ∷ ts) (u ∷ us) h zero r there = some_reach (reaches scope time r) (count_of r t) (omega (arith, h.0.each r, count-filter r (reaches scope time) t))
+forgotten_reach scope time (t ∷ ts) (u ∷ us) h zero r there = some_reach (scope_reaches scope time r) (count_of r t) (omega (arith, h.0.each r, count-filter r (scope_reaches scope time) t))
 forgotten_reach scope time (t ∷ ts) (u ∷ us) h (suc port) r there = forgotten_reach scope time ts us h.1 port r there

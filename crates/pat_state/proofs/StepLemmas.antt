@@ -7,7 +7,7 @@ use Rattle.cedr_base.specs.declared.change.Change.TheVariants.{Add, Cut}
 use Rattle.cedr_base.specs.Rows.{one_if_same, count_of, SameRows}
 use Rattle.cedr_base.specs.Changes.{puts, takes}
 use Rattle.cedr_base.proofs.Bags.{count_of-append, count_of-cons, one_if_same_exact}
-use Rattle.cedr_stream.proofs.Moves.{remnant_none, remnant_some}
+use Rattle.change_laws.proofs.Moves.{remnant_none, remnant_some}
 use Rattle.pat_state.specs.Starts.{endless, all_endless, AreEndless, HasRow}
 
 -- one row more

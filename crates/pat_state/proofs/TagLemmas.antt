@@ -11,8 +11,8 @@ use Rattle.cedr_base.specs.declared.change.Change.TheVariants.{Add, Cut}
 use Rattle.cedr_base.specs.Rows.{count_of, one_if_same, same_row, SameRows}
 use Rattle.cedr_base.specs.Changes.{puts, takes, remnant, changed_row}
 use Rattle.cedr_base.proofs.Bags.{count_of-append, count_of-cons, one_of_itself, same_row_exact}
-use Rattle.cedr_stream.proofs.BagSums.{sum_by-same}
-use Rattle.cedr_stream.proofs.Moves.{remnant_some, remnant_none}
+use Rattle.change_laws.proofs.BagSums.{sum_by-same}
+use Rattle.change_laws.proofs.Moves.{remnant_some, remnant_none}
 use Rattle.cedr_expr.specs.declared.side.Side.TheVariants.{Left, Right}
 use Rattle.cedr_expr.specs.declared.test.Test.{Test}
 use Rattle.cedr_expr.specs.Tags.{tag_of, left_tag, right_tag}

@@ -17,7 +17,7 @@ use Rattle.cedr_base.specs.Order.{payload_cmp}
 use Rattle.cedr_base.specs.Rows.{row_cmp, count_of}
 use Rattle.cedr_base.proofs.Bags.{count_of-cons, one_of_itself}
 use Rattle.cedr_table.specs.Counted.{spread, AreThere}
-use Rattle.pat_state.specs.Starts.{begins_within, AreEndless, AreWithin}
+use Rattle.pat_state.specs.Starts.{begins_within, AreEndless, AreInScope}
 use Rattle.pat_state.specs.Tags.{has_tag_within}
 
 -- the first of the rows that begin at a time and never end
@@ -90,13 +90,13 @@ passes_first p (x, zero) rows some h = absurd (omega arith)
 passes_first p (x, suc n) rows some h = All-head (λ r. p r ≡ true) x (replicate n x ++ rows) h
 
 -- where all rows of a part begin within the times, each entry's row does
-pub part_within : (from before : ℕ) (es : List (Row × ℕ)) → AreThere es → All (λ r. begins_within from before r ≡ true) (spread es) → AreWithin from before es
+pub part_within : (from before : ℕ) (es : List (Row × ℕ)) → AreThere es → All (λ r. begins_within from before r ≡ true) (spread es) → AreInScope from before es
 part_within from before [] there pass = tt
 part_within from before (e ∷ es) there pass =
     let both = and_parts (nat_le from e.0.begin) (nat_lt e.0.begin before) (passes_first (begins_within from before) e (spread es) there.0 pass) in
     ((there.0, leb-true from e.0.begin both.0, ltb-true e.0.begin before both.1), part_within from before es there.1 (passes_behind (begins_within from before) e.1 e.0 (spread es) pass))
 
 -- where all rows of a part have a tag and begin within the times, each entry's row begins within them
-pub tagged_within : (tag from before : ℕ) (es : List (Row × ℕ)) → AreThere es → All (λ r. has_tag_within tag from before r ≡ true) (spread es) → AreWithin from before es
+pub tagged_within : (tag from before : ℕ) (es : List (Row × ℕ)) → AreThere es → All (λ r. has_tag_within tag from before r ≡ true) (spread es) → AreInScope from before es
 tagged_within tag from before es there pass =
     part_within from before es there (All-weaker (λ r. has_tag_within tag from before r ≡ true) (λ r. begins_within from before r ≡ true) (λ r h. (and_parts (nat_eq r.end tag) (begins_within from before r) h).1) (spread es) pass)

@@ -9,7 +9,7 @@ use Rattle.cedr_table.specs.Counted.{SameAmong}
 use Rattle.cedr_table.specs.Operators.{Tables, SameTables, least_of}
 use Rattle.pat_state.specs.declared.answer.Way.{Way}
 use Rattle.pat_state.specs.declared.answer.Way.TheVariants.{Comes, Goes}
-use Rattle.pat_state.specs.Starts.{endless_tables, reaches}
+use Rattle.pat_state.specs.Starts.{endless_tables, scope_reaches}
 
 -- a row that comes is added, and one that goes is cut to its begin
 abbrev pub answered : Way → Row → Change
@@ -30,7 +30,7 @@ pub record StandsByBegin (in_range : Type 0) (scope : ℕ) (kept : Tables) (tabl
   pub table : length tables ≡ length kept
   pub mark : length marks ≡ length kept
   pub left : Tables
-  pub same : AllAmong (reaches scope (least_of marks)) left tables
+  pub same : AllAmong (scope_reaches scope (least_of marks)) left tables
   pub rows : SameTables kept (endless_tables left)
 
 -- on each port the rows whose scope ends by a time were forgotten
@@ -38,4 +38,4 @@ abbrev pub AreForgotten : ℕ → ℕ → Tables → Tables → Type 0
 AreForgotten scope time [] [] = Unit {0}
 AreForgotten scope time [] (u ∷ us) = ⊥
 AreForgotten scope time (t ∷ ts) [] = ⊥
-AreForgotten scope time (t ∷ ts) (u ∷ us) = SameRows u (filter (reaches scope time) t) × AreForgotten scope time ts us
+AreForgotten scope time (t ∷ ts) (u ∷ us) = SameRows u (filter (scope_reaches scope time) t) × AreForgotten scope time ts us

@@ -5,7 +5,7 @@ use Rattle.cedr_base.specs.declared.row.Row.{Row}
 use Rattle.cedr_base.specs.declared.change.Change.{Change}
 use Rattle.cedr_base.specs.declared.change.Change.TheVariants.{Add, Cut}
 use Rattle.cedr_base.specs.Rows.{count_of}
-use Rattle.cedr_stream.specs.Times.{later}
+use Rattle.change_laws.specs.Times.{later}
 use Rattle.cedr_table.specs.Operators.{Tables}
 
 -- the row as if it never ended
@@ -25,8 +25,8 @@ abbrev pub begins_within : ℕ → ℕ → Row → Bool
 begins_within from before r = nat_le from r.begin && nat_lt r.begin before
 
 -- the scope of a row, which begins with it, ends after a time
-abbrev pub reaches : ℕ → ℕ → Row → Bool
-reaches scope time r = nat_lt time (later r.begin scope)
+abbrev pub scope_reaches : ℕ → ℕ → Row → Bool
+scope_reaches scope time r = nat_lt time (later r.begin scope)
 
 -- each row never ends
 abbrev pub AreEndless : List Row → Type 0
@@ -38,6 +38,6 @@ HasRow rows (Add r) = Unit {0}
 HasRow rows (Cut r e) = 0 < count_of (endless r) rows
 
 -- of each row there is a copy, and each begins within the times
-abbrev pub AreWithin : ℕ → ℕ → List (Row × ℕ) → Type 0
-AreWithin from before [] = Unit {0}
-AreWithin from before (e ∷ es) = ((0 < e.1) × (from ≤ e.0.begin) × (e.0.begin < before)) × AreWithin from before es
+abbrev pub AreInScope : ℕ → ℕ → List (Row × ℕ) → Type 0
+AreInScope from before [] = Unit {0}
+AreInScope from before (e ∷ es) = ((0 < e.1) × (from ≤ e.0.begin) × (e.0.begin < before)) × AreInScope from before es

@@ -4,7 +4,7 @@ ghost use Rattle.pat_state.specs.Answers.{answered};
 use cedr_base::{Change, OutOfMemory, Row};
 
 /// What becomes of whole rows of a result.
-#[derive(Clone, Copy, Debug, PartialEq, Eq)]
+#[derive(Clone, Copy, PartialEq, Eq)]
 pub enum Way {
     /// They join it.
     Comes,

@@ -4,7 +4,7 @@ ghost use Rattle.cedr_base.specs.declared.time.TheConstants.{FOREVER};
 ghost use Rattle.cedr_base.specs.Rows.{in_order, SameRows};
 ghost use Rattle.cedr_base.specs.Changes.{puts, takes};
 ghost use Rattle.cedr_table.specs.Counted.{spread, IsTakenOut};
-ghost use Rattle.pat_state.specs.Starts.{endless, all_endless, begins_within, reaches, AreEndless, AreWithin, HasRow};
+ghost use Rattle.pat_state.specs.Starts.{endless, all_endless, begins_within, scope_reaches, AreEndless, AreInScope, HasRow};
 
 use cedr_base::{Change, FOREVER, OutOfMemory, Payload, Row, Time};
 use cedr_table::Table;
@@ -16,9 +16,14 @@ use std::marker::Model;
 /// it never ended, and only their counts matter.
 ///
 /// It is a table of these rows, whose canonical order is that of the begins since all of them have one end.
-#[derive(Drop)]
 pub struct ByBegin {
     rows: Table,
+}
+
+impl Drop for ByBegin {
+    fn drop(self) {
+        let ByBegin { rows: _ } = self;
+    }
 }
 
 impl Model for ByBegin {
@@ -58,7 +63,7 @@ fn first_at(alloc: Global, begin: Time) -> Row
 
 /// Whether the scope of a row, which begins with it, ends after a time.
 fn reaches(scope: u64, time: Time, row: &Row) -> bool
-    ensures { result ≡ reaches scope time row.now }
+    ensures { result ≡ scope_reaches scope time row.now }
 {
     time < FOREVER && time < row.begin.saturating_add(scope)
 }
@@ -66,7 +71,7 @@ fn reaches(scope: u64, time: Time, row: &Row) -> bool
 /// Takes the first row away where its scope ends by a time.
 fn pop_passed(rows: &mut Table, scope: u64, time: Time) -> Option<(Row, usize)>
     requires { AreEndless rows.old }
-    ensures { IsTakenOut (λ r. not (reaches scope time r)) rows.old rows.new result }
+    ensures { IsTakenOut (λ r. not (scope_reaches scope time r)) rows.old rows.new result }
 {
     match rows.first() {
         Some(row) if !reaches(scope, time, row) => rows.pop_first(),
@@ -77,7 +82,7 @@ fn pop_passed(rows: &mut Table, scope: u64, time: Time) -> Option<(Row, usize)>
 /// Takes the rows away whose scope ends by a time.
 fn drop_passed(rows: &mut Table, scope: u64, time: Time)
     requires { AreEndless rows.old }
-    ensures left { SameRows rows.new (filter (reaches scope time) rows.old) }
+    ensures left { SameRows rows.new (filter (scope_reaches scope time) rows.old) }
     ensures endless { AreEndless rows.new }
 {
     while let Some(_gone) = pop_passed(rows, scope, time) {}
@@ -132,7 +137,7 @@ impl ByBegin {
     /// Takes the first row away, all copies of it, where its scope, which begins with it, ends by a time, and gives it with
     /// their number. It takes no memory. O(log n).
     pub(crate) fn pop_passed(&mut self, scope: u64, time: Time) -> Option<(Row, usize)>
-        ensures { IsTakenOut (λ r. not (reaches scope time r)) self.old self.new result }
+        ensures { IsTakenOut (λ r. not (scope_reaches scope time r)) self.old self.new result }
     {
         pop_passed(&mut self.rows, scope, time)
     }
@@ -140,7 +145,7 @@ impl ByBegin {
     /// Forgets the rows whose scope, which begins with them, ends by a time. It takes no memory. O(log n) for each
     /// different one of them, and for one that stays.
     pub fn forget(&mut self, scope: u64, time: Time)
-        ensures { SameRows self.new (filter (reaches scope time) self.old) }
+        ensures { SameRows self.new (filter (scope_reaches scope time) self.old) }
     {
         drop_passed(&mut self.rows, scope, time);
     }
@@ -150,7 +155,7 @@ impl ByBegin {
     /// for each row that is taken from it.
     pub fn within(&self, alloc: Global, from: Time, before: Time) -> Range<'_, Row, usize>
         ensures rows { spread result ≡ filter (begins_within from before) self.now }
-        ensures within { AreWithin from before result }
+        ensures within { AreInScope from before result }
     {
         let low = first_at(alloc, from);
         let high = first_at(alloc, from.max(before));

@@ -3,7 +3,7 @@ ghost use Rattle.std.specs.List.{filter};
 ghost use Rattle.cedr_base.specs.declared.row.Row.{Row as RowValue};
 ghost use Rattle.cedr_base.specs.Rows.{count_of, SameRows};
 ghost use Rattle.cedr_table.specs.Counted.{spread};
-ghost use Rattle.pat_state.specs.Starts.{AreWithin};
+ghost use Rattle.pat_state.specs.Starts.{AreInScope};
 ghost use Rattle.pat_state.specs.Tags.{marked, has_tag_within};
 
 use cedr_base::{OutOfMemory, Payload, Row, Time};
@@ -87,11 +87,8 @@ impl ByTag {
     pub(crate) fn take_copies(&mut self, tag: u64, row: Row, count: usize)
         ensures { (rest : List RowValue) → SameRows self.old (replicate count (marked tag row) ++ rest) → SameRows self.new rest }
     {
-        let marked = Row {
-            end: tag,
-            begin: row.begin,
-            payload: row.payload,
-        };
+        let mut marked = row;
+        marked.end = tag;
         for _ in 0..count {
             self.rows.take(&marked);
         }
@@ -107,7 +104,7 @@ impl ByTag {
         before: Time,
     ) -> Range<'_, Row, usize>
         ensures rows { spread result ≡ filter (has_tag_within tag from before) self.now }
-        ensures within { AreWithin from before result }
+        ensures within { AreInScope from before result }
     {
         let low = first_of(alloc, tag, from);
         let high = first_of(alloc, tag, from.max(before));

@@ -7,7 +7,7 @@ ghost use Rattle.cedr_base.specs.Changes.{puts, takes, changed_row};
 ghost use Rattle.cedr_expr.specs.declared.test.Test.{Test};
 ghost use Rattle.cedr_expr.specs.Tests.{passes};
 ghost use Rattle.cedr_table.specs.Counted.{spread};
-ghost use Rattle.pat_state.specs.Starts.{all_endless, begins_within, reaches, AreWithin, HasRow};
+ghost use Rattle.pat_state.specs.Starts.{all_endless, begins_within, scope_reaches, AreInScope, HasRow};
 ghost use Rattle.cedr_expr.specs.Tags.{right_tag, side_tag};
 ghost use Rattle.pat_state.specs.Tags.{HasMarked, IsRetagged, IsTagged, IsSought};
 ghost use Rattle.pat_state.specs.Tied.{AreTied};
@@ -25,13 +25,24 @@ use std::collections::btree_map::Range;
 ///
 /// The tags are those beside left payloads of one width. Left rows of another width are allowed: they have the tag 0, and
 /// meet all rows.
-#[derive(Drop)]
 pub struct Tied {
     pub(crate) width: usize,
     pub(crate) left: ByBegin,
     pub(crate) right: ByBegin,
     pub(crate) left_tags: ByTag,
     pub(crate) right_tags: ByTag,
+}
+
+impl Drop for Tied {
+    fn drop(self) {
+        let Tied {
+            width: _,
+            left: _,
+            right: _,
+            left_tags: _,
+            right_tags: _,
+        } = self;
+    }
 }
 
 /// Applies a change to the rows with tags, of which the row's begin and its payload count.
@@ -86,7 +97,7 @@ fn forget_side(
 )
     requires { IsTagged (side_tag side width tests.now) rows.old tags.old }
     ensures tagged { IsTagged (side_tag side width tests.now) rows.new tags.new }
-    ensures left { SameRows rows.new (filter (reaches scope time) rows.old) }
+    ensures left { SameRows rows.new (filter (scope_reaches scope time) rows.old) }
 {
     while let Some((row, count)) = rows.pop_passed(scope, time) {
         let tag = tests.side_tag(side, width, &row.payload);
@@ -184,8 +195,8 @@ impl Tied {
     pub fn forget(&mut self, tests: &Tests, scope: u64, time: Time)
         requires { AreTied tests.now self.old }
         ensures tied { AreTied tests.now self.new }
-        ensures left { SameRows self.new.left (filter (reaches scope time) self.old.left) }
-        ensures right { SameRows self.new.right (filter (reaches scope time) self.old.right) }
+        ensures left { SameRows self.new.left (filter (scope_reaches scope time) self.old.left) }
+        ensures right { SameRows self.new.right (filter (scope_reaches scope time) self.old.right) }
     {
         forget_side(
             &mut self.left,
@@ -219,7 +230,7 @@ impl Tied {
         before: Time,
     ) -> Range<'_, Row, usize>
         requires { AreTied tests.now self.now }
-        ensures within { AreWithin from before result }
+        ensures within { AreInScope from before result }
         ensures rows { (weight : RowValue → ℕ) → IsSought (λ (fields : List Field). passes tests.now payload.now fields) weight → sum_by weight (spread result) ≡ sum_by weight (filter (begins_within from before) self.now.right) }
     {
         if payload.fields().len() == self.width {
@@ -240,7 +251,7 @@ impl Tied {
         before: Time,
     ) -> (Range<'_, Row, usize>, Range<'_, Row, usize>)
         requires { AreTied tests.now self.now }
-        ensures within { AreWithin from before result.0 × AreWithin from before result.1 }
+        ensures within { AreInScope from before result.0 × AreInScope from before result.1 }
         ensures rows { (weight : RowValue → ℕ) → IsSought (λ (fields : List Field). passes tests.now fields payload.now) weight → sum_by weight (spread result.0) + sum_by weight (spread result.1) ≡ sum_by weight (filter (begins_within from before) self.now.left) }
     {
         let tag = tests.tag(Side::Right, self.width, payload);

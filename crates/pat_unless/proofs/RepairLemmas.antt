@@ -12,38 +12,38 @@ use Rattle.cedr_base.specs.declared.change.Change.TheVariants.{Add, Cut}
 use Rattle.cedr_base.specs.Rows.{IsRow, count_of, one_if_same, SameRows}
 use Rattle.cedr_base.specs.Changes.{IsChange, sync_of, puts, takes, MayFollow}
 use Rattle.cedr_base.proofs.Bags.{count_of-append, count_of-cons}
-use Rattle.cedr_stream.specs.Repairs.{IsMoved, Repair}
-use Rattle.cedr_stream.specs.Times.{later}
-use Rattle.cedr_stream.proofs.BagSums.{sum_by-flat_map, same_flat_map, same_itself, same_along}
-use Rattle.cedr_stream.proofs.Moves.{sum_by-moved, sum_by-there, remnant_none, may_is, applied, applied_moves}
+use Rattle.change_laws.specs.Repairs.{IsMoved, Repair}
+use Rattle.change_laws.specs.Times.{later}
+use Rattle.change_laws.proofs.BagSums.{sum_by-flat_map, same_flat_map, same_itself, same_along}
+use Rattle.change_laws.proofs.Moves.{sum_by-moved, sum_by-there, remnant_none, may_is, applied, applied_moves}
 use Rattle.cedr_table.specs.Counted.{SameAmong}
 use Rattle.cedr_table.proofs.FilterLemmas.{sum_by-among, among_moved}
-use Rattle.cedr_stream.proofs.RepairLemmas.{Turns, repair_by_turns}
+use Rattle.change_laws.proofs.RepairLemmas.{Turns, repair_by_turns}
 use Rattle.cedr_table.specs.Operators.{Tables, Gains, CanTake, table_at, mark_at, with_table, least_of}
 use Rattle.cedr_table.specs.PortLaws.{least_below, table_at-with, table_at-with_other}
 use Rattle.cedr_expr.specs.declared.test.Test.{Test}
 use Rattle.cedr_expr.specs.Tests.{passes}
 use Rattle.pat_state.specs.declared.answer.Way.{Way}
 use Rattle.pat_state.specs.declared.answer.Way.TheVariants.{Comes, Goes}
-use Rattle.pat_state.specs.Starts.{endless, all_endless, endless_tables, reaches, HasRow}
+use Rattle.pat_state.specs.Starts.{endless, all_endless, endless_tables, scope_reaches, HasRow}
 use Rattle.pat_state.specs.Answers.{answered, StandsByBegin}
 use Rattle.pat_state.proofs.FlatLemmas.{flat_map-like, flat_map-map}
 use Rattle.pat_state.proofs.AnswerLemmas.{AllLate, ahead-flat_map, ahead_same, come_turns, go_turns, same_turns}
 use Rattle.pat_state.proofs.EndlessLemmas.{kept_at, left_at, kept_moved, stands_after, stands_has, left_withdraws, reaches_itself, tables_ends, endless_at}
 use Rattle.pat_unless.specs.declared.terms.Terms.{Terms}
-use Rattle.pat_unless.specs.Blocking.{blocks, is_blocked, waited, unblocked, all_unblocked, AreWhiles}
+use Rattle.pat_unless.specs.Blocking.{blocks, is_blocked_by, waited, unblocked, all_unblocked, AreWhiles}
 use Rattle.pat_unless.specs.BlockingLaws.{any_is, any_same, unblocked_same, same_unblocked}
 use Rattle.pat_unless.specs.Steps.{only_blocked, decided, IsStep, Appends}
 
 -- whether a row is blocked doesn't depend on ends
-blocked_endless : (scope : ℕ) (tests : List Test) (blockers : List Row) (a : Row) → is_blocked scope tests (all_endless blockers) a ≡ is_blocked scope tests blockers a
+blocked_endless : (scope : ℕ) (tests : List Test) (blockers : List Row) (a : Row) → is_blocked_by scope tests (all_endless blockers) a ≡ is_blocked_by scope tests blockers a
 blocked_endless scope tests [] a = refl
 blocked_endless scope tests (b ∷ blockers) a = ap (λ c. blocks scope tests a b || c) (blocked_endless scope tests blockers a)
 
 -- what is kept of a table, without ends: the same rows among those whose scope ends after a time
 record Leaves (scope time : ℕ) (kept table : List Row) : Type 0 where
   left : List Row
-  same : SameAmong (reaches scope time) left table
+  same : SameAmong (scope_reaches scope time) left table
   rows : SameRows kept (all_endless left)
 
 -- of each port such rows are kept
@@ -51,24 +51,24 @@ abbrev leaves_at : {range : Type 0} (scope : ℕ) (kept tables : Tables) (marks 
 leaves_at scope kept tables marks port h = record { left = table_at h.left port; same = left_at scope kept tables marks port h; rows = kept_at scope kept tables marks port h }
 
 -- the scope of what begins in the scope of a row ends no earlier
-no_block_at : (scope time : ℕ) (tests : List Test) (a b : Row) (blocking : Bool) → blocks scope tests a b ≡ blocking → reaches scope time a ≡ true → reaches scope time b ≡ false → cond {A = ℕ} blocking 1 0 ≡ 0
+no_block_at : (scope time : ℕ) (tests : List Test) (a b : Row) (blocking : Bool) → blocks scope tests a b ≡ blocking → scope_reaches scope time a ≡ true → scope_reaches scope time b ≡ false → cond {A = ℕ} blocking 1 0 ≡ 0
 no_block_at scope time tests a b true h reach none =
     let begins = ltb-true a.begin b.begin (and_parts (nat_lt a.begin b.begin) (nat_lt b.begin (later a.begin scope) && passes tests a.payload b.payload) h).0 in
     let ends = ltb-true time (later a.begin scope) reach in
-    let other : reaches scope time b ≡ true = lt-ltb time (later b.begin scope) (omega arith) in
+    let other : scope_reaches scope time b ≡ true = lt-ltb time (later b.begin scope) (omega arith) in
     absurd (let wrong = sym other ∙ none in cc)
 no_block_at scope time tests a b false h reach none = refl
 
 -- of a row whose scope ends after a time, what is kept says whether it is blocked
-kept_blocked : (scope time : ℕ) (tests : List Test) (kept blockers : List Row) (a : Row) → Leaves scope time kept blockers → reaches scope time a ≡ true → is_blocked scope tests kept a ≡ is_blocked scope tests blockers a
+kept_blocked : (scope time : ℕ) (tests : List Test) (kept blockers : List Row) (a : Row) → Leaves scope time kept blockers → scope_reaches scope time a ≡ true → is_blocked_by scope tests kept a ≡ is_blocked_by scope tests blockers a
 kept_blocked scope time tests kept blockers a leaves reach =
     any_same (blocks scope tests a) kept (all_endless leaves.left) leaves.rows
     ∙ (blocked_endless scope tests leaves.left a
     ∙ (any_is (blocks scope tests a) leaves.left
-    ∙ (ap (λ n. nat_lt 0 n) (sum_by-among (reaches scope time) (λ b. cond (blocks scope tests a b) 1 0) leaves.left blockers leaves.same (λ b none. no_block_at scope time tests a b (blocks scope tests a b) refl reach none))
+    ∙ (ap (λ n. nat_lt 0 n) (sum_by-among (scope_reaches scope time) (λ b. cond (blocks scope tests a b) 1 0) leaves.left blockers leaves.same (λ b none. no_block_at scope time tests a b (blocks scope tests a b) refl reach none))
     ∙ sym (any_is (blocks scope tests a) blockers))))
 
-kept_unblocked : (scope hold time : ℕ) (tests : List Test) (kept blockers : List Row) (a : Row) → Leaves scope time kept blockers → reaches scope time a ≡ true → unblocked scope hold tests kept a ≡ unblocked scope hold tests blockers a
+kept_unblocked : (scope hold time : ℕ) (tests : List Test) (kept blockers : List Row) (a : Row) → Leaves scope time kept blockers → scope_reaches scope time a ≡ true → unblocked scope hold tests kept a ≡ unblocked scope hold tests blockers a
 kept_unblocked scope hold time tests kept blockers a leaves reach = ap (λ b. cond b [] (waited scope hold a)) (kept_blocked scope time tests kept blockers a leaves reach)
 
 -- the result at tables with another one on a port
@@ -90,7 +90,7 @@ ahead_at t true rows late = tt
 ahead_at t false rows late = late
 
 ahead_unblocked : (t scope hold : ℕ) (tests : List Test) (blockers : List Row) (a : Row) → t ≤ later a.begin scope → AllLate t (unblocked scope hold tests blockers a)
-ahead_unblocked t scope hold tests blockers a from = ahead_at t (is_blocked scope tests blockers a) (waited scope hold a) (ahead_waited t scope hold a from)
+ahead_unblocked t scope hold tests blockers a from = ahead_at t (is_blocked_by scope tests blockers a) (waited scope hold a) (ahead_waited t scope hold a from)
 
 ahead_only : (t scope hold : ℕ) (tests : List Test) (others : List Row) (b a : Row) (blocking : Bool) → blocks scope tests a b ≡ blocking → t ≤ b.begin → AllLate t (cond blocking (unblocked scope hold tests others a) [])
 ahead_only t scope hold tests others b a true h from =
@@ -104,7 +104,7 @@ ahead_decided : (t scope hold : ℕ) (tests : List Test) (others : List Row) (b 
 ahead_decided t scope hold tests others b rows from = ahead-flat_map t (only_blocked scope hold tests others b) rows (λ a. ahead_only t scope hold tests others b a (blocks scope tests a b) refl from)
 
 -- a row that is blocked by a late one has a scope that ends after it
-blocked_reaches : (scope time : ℕ) (tests : List Test) (a b : Row) → time ≤ b.begin → blocks scope tests a b ≡ true → reaches scope time a ≡ true
+blocked_reaches : (scope time : ℕ) (tests : List Test) (a b : Row) → time ≤ b.begin → blocks scope tests a b ≡ true → scope_reaches scope time a ≡ true
 blocked_reaches scope time tests a b late h =
     let both = and_parts (nat_lt a.begin b.begin) (nat_lt b.begin (later a.begin scope) && passes tests a.payload b.payload) h in
     let within = ltb-true b.begin (later a.begin scope) (and_parts (nat_lt b.begin (later a.begin scope)) (passes tests a.payload b.payload) both.1).0 in
@@ -115,7 +115,7 @@ one_decided : (scope hold time : ℕ) (tests : List Test) (kept_others others : 
 one_decided scope hold time tests kept_others others b a true h leaves late = kept_unblocked scope hold time tests kept_others others a leaves (blocked_reaches scope time tests a b late h)
 one_decided scope hold time tests kept_others others b a false h leaves late = refl
 
-none_decided : (scope hold time : ℕ) (tests : List Test) (others : List Row) (b a r : Row) (blocking : Bool) → blocks scope tests a b ≡ blocking → time ≤ b.begin → reaches scope time a ≡ false → count_of r (cond blocking (unblocked scope hold tests others a) []) ≡ 0
+none_decided : (scope hold time : ℕ) (tests : List Test) (others : List Row) (b a r : Row) (blocking : Bool) → blocks scope tests a b ≡ blocking → time ≤ b.begin → scope_reaches scope time a ≡ false → count_of r (cond blocking (unblocked scope hold tests others a) []) ≡ 0
 none_decided scope hold time tests others b a r true h late none = absurd (let reach = blocked_reaches scope time tests a b late h in let wrong = sym reach ∙ none in cc)
 none_decided scope hold time tests others b a r false h late none = refl
 
@@ -128,7 +128,7 @@ kept_decided scope hold time tests kept_others others b kept rows same_others sa
       ∙ ((same_flat_map (only_blocked scope hold tests others b) kept (all_endless same_rows.left) same_rows.rows).each r
       ∙ (ap (count_of r) (flat_map-map (only_blocked scope hold tests others b) endless same_rows.left)
       ∙ (sum_by-flat_map (one_if_same r) (only_blocked scope hold tests others b) same_rows.left
-      ∙ (sum_by-among (reaches scope time) (λ a. count_of r (only_blocked scope hold tests others b a)) same_rows.left rows same_rows.same (λ a none. none_decided scope hold time tests others b a r (blocks scope tests a b) refl late none)
+      ∙ (sum_by-among (scope_reaches scope time) (λ a. count_of r (only_blocked scope hold tests others b a)) same_rows.left rows same_rows.same (λ a none. none_decided scope hold time tests others b a r (blocks scope tests a b) refl late none)
       ∙ sym (sum_by-flat_map (one_if_same r) (only_blocked scope hold tests others b) rows)))));
 }
 
@@ -142,7 +142,7 @@ one_more r false false rows = omega arith
 blocker_counts : (scope hold : ℕ) (tests : List Test) (all others : List Row) (b a r : Row) → SameRows all (b ∷ others) → count_of r (unblocked scope hold tests all a) + count_of r (only_blocked scope hold tests others b a) ≡ count_of r (unblocked scope hold tests others a)
 blocker_counts scope hold tests all others b a r same =
     ap (λ found. count_of r found + count_of r (only_blocked scope hold tests others b a)) (unblocked_same scope hold tests all (b ∷ others) a same)
-    ∙ one_more r (blocks scope tests a b) (is_blocked scope tests others a) (waited scope hold a)
+    ∙ one_more r (blocks scope tests a b) (is_blocked_by scope tests others a) (waited scope hold a)
 
 sum_by-both : (f g h : Row → ℕ) (xs : List Row) → ((x : Row) → f x + g x ≡ h x) → sum_by f xs + sum_by g xs ≡ sum_by h xs
 sum_by-both f g h [] same = refl
@@ -259,7 +259,7 @@ row_blocks scope hold tests kept_rows kept_blockers tables marks port c b after 
 leaves_moved : (scope time : ℕ) (c : Change) (kept kept' table after : List Row) (leaves : Leaves scope time kept table) → MayFollow leaves.left [] c → IsStep c kept kept' → IsMoved c table after → Leaves scope time kept' after
 leaves_moved scope time c kept kept' table after leaves may step moved = record {
   left = applied c leaves.left;
-  same = among_moved (reaches scope time) c leaves.left table after leaves.same may moved;
+  same = among_moved (scope_reaches scope time) c leaves.left table after leaves.same may moved;
   rows = kept_moved c kept kept' leaves.left (applied c leaves.left) leaves.rows step.sums (applied_moves c leaves.left may);
 }
 

@@ -8,15 +8,15 @@ use Rattle.cedr_base.specs.declared.time.TheConstants.{FOREVER}
 use Rattle.cedr_base.specs.declared.row.Row.{Row}
 use Rattle.cedr_base.specs.Rows.{count_of, one_if_same, SameRows}
 use Rattle.cedr_base.proofs.Bags.{count_of-append}
-use Rattle.cedr_stream.proofs.BagSums.{sum_by-flat_map}
-use Rattle.cedr_stream.specs.Times.{later}
+use Rattle.change_laws.proofs.BagSums.{sum_by-flat_map}
+use Rattle.change_laws.specs.Times.{later}
 use Rattle.cedr_table.specs.Counted.{spread}
 use Rattle.cedr_expr.specs.declared.test.Test.{Test}
 use Rattle.cedr_expr.specs.Tests.{passes}
-use Rattle.pat_state.specs.Starts.{begins_within, AreWithin}
+use Rattle.pat_state.specs.Starts.{begins_within, AreInScope}
 use Rattle.pat_state.specs.Tags.{IsSought}
 use Rattle.pat_state.proofs.FlatLemmas.{flat_map-filter, same_copies, no_copies}
-use Rattle.pat_unless.specs.Blocking.{blocks, is_blocked, waited, unblocked}
+use Rattle.pat_unless.specs.Blocking.{blocks, is_blocked_by, waited, unblocked}
 use Rattle.pat_unless.specs.BlockingLaws.{any_is}
 use Rattle.pat_unless.specs.Steps.{only_blocked, freed, decided}
 
@@ -43,7 +43,7 @@ block_sought tests a = record { endless = λ r end. refl; none = λ r h. ap (λ 
 -- the rows that may block one begin within its scope and are beside it
 pub blocked_beside : (scope : ℕ) (tests : List Test) (blockers : List Row) (a : Row) (from until : ℕ) (entries : List (Row × ℕ)) → from ≡ a.begin + 1 → until ≡ later a.begin scope
     → ((weight : Row → ℕ) → IsSought (λ fields. passes tests a.payload fields) weight → sum_by weight (spread entries) ≡ sum_by weight (filter (begins_within from until) blockers))
-    → is_blocked scope tests blockers a ≡ list_any (λ b. passes tests a.payload b.payload) (spread entries)
+    → is_blocked_by scope tests blockers a ≡ list_any (λ b. passes tests a.payload b.payload) (spread entries)
 blocked_beside scope tests blockers a from until entries starts is found =
     any_filter (blocks scope tests a) (λ b. passes tests a.payload b.payload) (begins_within from until) blockers
     (λ b. and_together (nat_lt a.begin b.begin) (nat_lt b.begin (later a.begin scope)) (passes tests a.payload b.payload)
@@ -65,9 +65,9 @@ pub scan_goes_on : (q : Row → Bool) (entries entries' : List (Row × ℕ)) (x 
 scan_goes_on q entries entries' x count blocked is h was = was ∙ (ap (λ es. list_any q (spread es)) is ∙ any_behind q count x (spread entries') h)
 
 -- one that does
-pub scan_ends : (q : Row → Bool) (entries entries' : List (Row × ℕ)) (x : Row) (count from before : ℕ) (blocked : Bool) → entries ≡ (x, count) ∷ entries' → AreWithin from before entries → q x ≡ true → blocked ≡ list_any q (spread entries) → blocked ≡ true
+pub scan_ends : (q : Row → Bool) (entries entries' : List (Row × ℕ)) (x : Row) (count from before : ℕ) (blocked : Bool) → entries ≡ (x, count) ∷ entries' → AreInScope from before entries → q x ≡ true → blocked ≡ list_any q (spread entries) → blocked ≡ true
 scan_ends q entries entries' x count from before blocked is within h was =
-    was ∙ (ap (λ es. list_any q (spread es)) is ∙ any_first q count x (spread entries') (subst (AreWithin from before) is within).0.0 h)
+    was ∙ (ap (λ es. list_any q (spread es)) is ∙ any_first q count x (spread entries') (subst (AreInScope from before) is within).0.0 h)
 
 -- the row that a row gives
 pub waited_copies : (scope hold : ℕ) (a : Row) (count begin end : ℕ) → begin ≡ later a.begin scope → end ≡ later begin hold → begin < end → replicate count (record { end = end; begin = begin; payload = a.payload }) ≡ flat_map (waited scope hold) (replicate count a)
@@ -84,12 +84,12 @@ waited_none scope hold a count begin end begins ends empty =
     (ap {B = List Row} (λ b. cond b (record { end = later (later a.begin scope) hold; begin = later a.begin scope; payload = a.payload } ∷ []) []) (le-ltb (later a.begin scope) (later (later a.begin scope) hold) (omega arith)))
 
 -- copies of a row that passes the tests with a blocker, and that no other row blocks, are freed
-pub freed_copies : (scope hold : ℕ) (tests : List Test) (others : List Row) (b a : Row) (count : ℕ) → passes tests a.payload b.payload ≡ true → is_blocked scope tests others a ≡ false → flat_map (freed scope hold tests others b) (replicate count a) ≡ flat_map (waited scope hold) (replicate count a)
+pub freed_copies : (scope hold : ℕ) (tests : List Test) (others : List Row) (b a : Row) (count : ℕ) → passes tests a.payload b.payload ≡ true → is_blocked_by scope tests others a ≡ false → flat_map (freed scope hold tests others b) (replicate count a) ≡ flat_map (waited scope hold) (replicate count a)
 freed_copies scope hold tests others b a count pass free =
     same_copies (freed scope hold tests others b) (waited scope hold) count a (λ i. cond (pass i && not (free i)) (waited scope hold a) [])
 
 -- copies of a row that fails these tests, or that another row blocks, aren't freed
-pub unfreed_copies : (scope hold : ℕ) (tests : List Test) (others : List Row) (b a : Row) (count : ℕ) → (passes tests a.payload b.payload && not (is_blocked scope tests others a)) ≡ false → flat_map (freed scope hold tests others b) (replicate count a) ≡ []
+pub unfreed_copies : (scope hold : ℕ) (tests : List Test) (others : List Row) (b a : Row) (count : ℕ) → (passes tests a.payload b.payload && not (is_blocked_by scope tests others a)) ≡ false → flat_map (freed scope hold tests others b) (replicate count a) ≡ []
 unfreed_copies scope hold tests others b a count h = no_copies (freed scope hold tests others b) count a (ap (λ c. cond c (waited scope hold a) []) h)
 
 freed_cases : (pass blocked : Bool) (rows : List Row) → cond (pass && not blocked) rows [] ≡ cond pass (cond blocked [] rows) []
@@ -119,7 +119,7 @@ blocks_outside scope tests a b h = elim (and_cases (nat_le (b.begin + 1 - scope)
 freed_sought : (scope hold : ℕ) (tests : List Test) (others : List Row) (b r : Row) → IsSought (λ fields. passes tests fields b.payload) (λ a. count_of r (freed scope hold tests others b a))
 freed_sought scope hold tests others b r = record {
   endless = λ a end. refl;
-  none = λ a h. ap (λ c. count_of r (cond (c && not (is_blocked scope tests others a)) (waited scope hold a) [])) h;
+  none = λ a h. ap (λ c. count_of r (cond (c && not (is_blocked_by scope tests others a)) (waited scope hold a) [])) h;
 }
 
 -- the rows of which a blocker decides have it in their scope and are beside it
@@ -130,7 +130,7 @@ decided_beside scope hold tests others b kept from tagged odd finite is found = 
   each = λ r.
       let whole =
       flat_map-filter (freed scope hold tests others b) (only_blocked scope hold tests others b) (begins_within (b.begin + 1 - scope) b.begin) kept
-      (λ a inside. freed_cases (passes tests a.payload b.payload) (is_blocked scope tests others a) (waited scope hold a) ∙ ap (λ c. cond c (unblocked scope hold tests others a) []) (sym (blocks_inside scope tests a b finite inside)))
+      (λ a inside. freed_cases (passes tests a.payload b.payload) (is_blocked_by scope tests others a) (waited scope hold a) ∙ ap (λ c. cond c (unblocked scope hold tests others a) []) (sym (blocks_inside scope tests a b finite inside)))
       (λ a outside. sym (ap (λ c. cond c (unblocked scope hold tests others a) []) (blocks_outside scope tests a b outside))) in
       let same : count_of r (flat_map (freed scope hold tests others b) (filter (begins_within from b.begin) kept)) ≡ count_of r (decided scope hold tests others b kept) =
       ap (λ (time : ℕ). count_of r (flat_map (freed scope hold tests others b) (filter (begins_within time b.begin) kept))) is ∙ ap (count_of r) whole in

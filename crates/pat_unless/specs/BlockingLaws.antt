@@ -6,7 +6,7 @@ use Rattle.std.proofs.lemmas.Bool.{lt-ltb}
 use Rattle.std.proofs.lemmas.List.Sums.{sum_by-cons}
 use Rattle.cedr_base.specs.declared.row.Row.{Row}
 use Rattle.cedr_base.specs.Rows.{count_of, SameRows}
-use Rattle.cedr_stream.proofs.BagSums.{sum_by-same, same_flat_map}
+use Rattle.change_laws.proofs.BagSums.{sum_by-same, same_flat_map}
 use Rattle.cedr_table.specs.Operators.{Tables, table_at, SameTables}
 use Rattle.cedr_table.specs.PortLaws.{same_at, least_rises, least_is_time}
 use Rattle.cedr_table.specs.OperatorLaws.{OperatorLaws}

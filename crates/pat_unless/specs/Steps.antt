@@ -10,7 +10,7 @@ use Rattle.cedr_expr.specs.Tests.{passes}
 use Rattle.pat_state.specs.declared.answer.Way.{Way}
 use Rattle.pat_state.specs.Answers.{answered}
 use Rattle.pat_state.specs.Starts.{all_endless}
-use Rattle.pat_unless.specs.Blocking.{blocks, is_blocked, waited, unblocked}
+use Rattle.pat_unless.specs.Blocking.{blocks, is_blocked_by, waited, unblocked}
 
 -- the row that a gives where b blocks it and no other row does
 abbrev pub only_blocked : ℕ → ℕ → List Test → List Row → Row → Row → List Row
@@ -18,7 +18,7 @@ only_blocked scope hold tests others b a = if blocks scope tests a b then unbloc
 
 -- the same for a row with b in its scope
 abbrev pub freed : ℕ → ℕ → List Test → List Row → Row → Row → List Row
-freed scope hold tests others b a = if passes tests a.payload b.payload && not (is_blocked scope tests others a) then waited scope hold a else []
+freed scope hold tests others b a = if passes tests a.payload b.payload && not (is_blocked_by scope tests others a) then waited scope hold a else []
 
 -- the rows of the result of which b decides
 abbrev pub decided : ℕ → ℕ → List Test → List Row → Row → List Row → List Row

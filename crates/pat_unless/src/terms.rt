@@ -4,8 +4,8 @@ ghost use Rattle.cedr_base.specs.declared.time.TheConstants.{FOREVER};
 ghost use Rattle.cedr_base.specs.Rows.{SameRows};
 ghost use Rattle.cedr_table.specs.Counted.{spread};
 ghost use Rattle.pat_state.specs.Tied.{AreTied};
-ghost use Rattle.pat_state.specs.Starts.{AreWithin};
-ghost use Rattle.pat_unless.specs.Blocking.{is_blocked, waited, unblocked, AreWhiles};
+ghost use Rattle.pat_state.specs.Starts.{AreInScope};
+ghost use Rattle.pat_unless.specs.Blocking.{is_blocked_by, waited, unblocked, AreWhiles};
 ghost use Rattle.pat_unless.specs.Steps.{freed, decided};
 
 use cedr_base::{OutOfMemory, Payload, Row, Time, later};
@@ -51,7 +51,7 @@ impl Terms {
         requires whiles { AreWhiles self.now.scope self.now.hold }
         requires begin { row.now.begin < FOREVER }
         requires tags { AreTied self.now.tests tied.now }
-        ensures { result ≡ is_blocked self.now.scope self.now.tests tied.now.right row.now }
+        ensures { result ≡ is_blocked_by self.now.scope self.now.tests tied.now.right row.now }
     {
         let until = later(row.begin, self.scope);
         let from = row.begin + 1;
@@ -136,7 +136,7 @@ impl Terms {
         rows: &mut Vec<Row>,
     ) -> Result<(), OutOfMemory>
         requires whiles { AreWhiles self.now.scope self.now.hold }
-        requires within { (from before : ℕ) × (before ≤ FOREVER) × AreWithin from before some }
+        requires within { (from before : ℕ) × (before ≤ FOREVER) × AreInScope from before some }
         requires tags { AreTied self.now.tests tied.now }
         ensures { OnOk result (rows.new.items ≡ rows.old.items ++ flat_map (freed self.now.scope self.now.hold self.now.tests tied.now.right blocker.now) (spread some.entry)) }
     {

@@ -2,7 +2,7 @@ ghost use Rattle.std.specs.Prelude.{◌≡◌, ◌<◌, ◌∷◌, [], OnOk, OnE
 ghost use Rattle.cedr_base.specs.declared.time.TheConstants.{FOREVER};
 ghost use Rattle.pat_state.specs.Starts.{HasRow};
 ghost use Rattle.pat_state.specs.Tied.{AreTied};
-ghost use Rattle.cedr_stream.specs.Times.{IsWhile};
+ghost use Rattle.change_laws.specs.Times.{IsWhile};
 ghost use Rattle.pat_state.specs.declared.answer.Way.TheVariants.{Comes, Goes};
 ghost use Rattle.pat_unless.specs.Blocking.{unless_of, unblocked, AreWhiles};
 ghost use Rattle.pat_unless.specs.Steps.{decided, IsStep, Appends};
@@ -24,10 +24,15 @@ use std::alloc::Global;
 /// of them within the scope of its row, up to the first one that blocks. One on port 1 takes O(log n) and those of them
 /// with its row in their scope, and for each that passes the tests with it, the search for another blocker. A retraction
 /// that leaves something of its row takes O(1).
-#[derive(Drop)]
 pub struct Unless {
     terms: Terms,
     pub(crate) tied: Tied,
+}
+
+impl Drop for Unless {
+    fn drop(self) {
+        let Unless { terms: _, tied: _ } = self;
+    }
 }
 
 impl Unless {

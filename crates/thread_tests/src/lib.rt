@@ -1,12 +1,33 @@
-//! Tests of plans whose workers run on threads of their own: what a run comes to however its threads run, that workers run
-//! beside each other, and that a result is read and written before its source ended. There is nothing here but tests.
+//! Tests of what needs threads, a clock, or a gate that holds turns: edges and the result's history, over real threads and
+//! where what a call answers depends on what the other end did before; workers, turn by turn and beside each other; and
+//! plans whose workers run on threads of their own. There is nothing here but tests.
 #![tactic(auto)]
 
 #[cfg(test)]
+mod edges;
+#[cfg(test)]
+mod feeding;
+#[cfg(test)]
+mod files;
+#[cfg(test)]
 mod gate;
 #[cfg(test)]
+mod histories;
+#[cfg(test)]
+mod history_threads;
+#[cfg(test)]
+mod operators;
+#[cfg(test)]
+mod out_edges;
+#[cfg(test)]
+mod outputs;
+#[cfg(test)]
 mod runs;
+#[cfg(test)]
+mod sources;
 #[cfg(test)]
 mod stream;
 #[cfg(test)]
 mod wires;
+#[cfg(test)]
+mod worker_threads;

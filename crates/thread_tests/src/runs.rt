@@ -1,14 +1,14 @@
 //! Runs of plans over files in memory.
-ghost use Rattle.std.specs.Prelude.{◌≡◌, IfOk};
-
+use crate::files::{NO_READ, files_of};
 use crate::gate::Holding;
-use cedr_answer::find_sources;
 use cedr_base::{Change, OutOfMemory};
+use cedr_guard::Refusal;
 use cedr_history::Reader;
-use cedr_io::{Files, ListSource, MemFiles};
+use cedr_io::ListSource;
 use cedr_plan::read_plan;
 use cedr_text::{LineFault, write_change};
-use cedr_threads::{Outcome, Report, SourceFault, Watcher, run_threads};
+use plan_answer::{FaultySource, find_sources};
+use plan_threads::{Outcome, Report, Watcher, run_threads};
 use std::alloc::Global;
 use std::sync::atomic::{AtomicU64, Ordering};
 use std::sync::{Arc, Wait};
@@ -68,7 +68,7 @@ enum End {
     /// These are the lines of its result.
     Done(&'static str),
     Read,
-    Events(&'static [SourceFault]),
+    Events(&'static [FaultySource]),
 }
 
 /// A run over files in memory.
@@ -83,18 +83,20 @@ struct Case {
     end: End,
 }
 
-const NO_READ: (&str, u64) = ("s.csv", 1000);
-
-const FAULTS: [SourceFault; 2] = [
-    SourceFault {
-        source: 0,
-        line: 1,
-        fault: LineFault::EmptyLife,
+const FAULTS: [FaultySource; 2] = [
+    FaultySource {
+        place: 0,
+        refusal: Refusal {
+            line: 1,
+            fault: LineFault::EmptyLife,
+        },
     },
-    SourceFault {
-        source: 1,
-        line: 1,
-        fault: LineFault::UnknownId,
+    FaultySource {
+        place: 1,
+        refusal: Refusal {
+            line: 1,
+            fault: LineFault::UnknownId,
+        },
     },
 ];
 
@@ -230,20 +232,6 @@ impl Watcher for Counts {
     }
 }
 
-/// The files of a case.
-fn files_of(alloc: Global, case: &Case) -> Result<MemFiles, OutOfMemory>
-    ensures { IfOk result (λ files. ⟦<MemFiles as Files>⟧.faults files ≡ 0) }
-{
-    let mut files = MemFiles::new(alloc);
-    files.set_piece(case.piece.max(1));
-    for (name, text) in case.files {
-        files.add(name, text.as_bytes())?;
-    }
-    let (name, call) = case.refused;
-    files.fail_read(name, call)?;
-    Ok(files)
-}
-
 /// The gate of a case, whose watcher sets this flag.
 fn gate_of(
     alloc: Global,
@@ -267,7 +255,7 @@ fn reported<R: Threads + Wait + Clock + Copy + Drop + Send + 'static>(
     gate: &Arc<Holding, Global>,
 ) -> Result<Report<ListSource>, Fail> {
     let plan = read_plan(alloc, plan.as_bytes())?;
-    let mut files = files_of(alloc, case)?;
+    let mut files = files_of(alloc, case.files, case.piece, case.refused)?;
     let sources = find_sources(alloc, plan.nodes.as_slice(), &mut files)?;
     let mut watcher = Counts {
         alloc,

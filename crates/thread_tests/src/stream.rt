@@ -1,10 +1,8 @@
 //! The command `stream`, whose workers pass a gate.
-ghost use Rattle.std.specs.Prelude.{◌≡◌, IfOk};
-
+use crate::files::{NO_READ, files_of};
 use crate::gate::Holding;
 use crate::runs::{MIDDLE, SIX};
-use cedr_base::OutOfMemory;
-use cedr_io::{Files, MemFiles, MemSink, OutsideFault, Sink};
+use cedr_io::{MemSink, OutsideFault, Sink};
 use cedr_run::{Status, run};
 use std::alloc::Global;
 use std::sync::Arc;
@@ -30,21 +28,10 @@ impl Sink for Telling {
     }
 }
 
-/// A plan and its events.
-fn files(alloc: Global) -> Result<MemFiles, OutOfMemory>
-    ensures { IfOk result (λ files. ⟦<MemFiles as Files>⟧.faults files ≡ 0) }
-{
-    let mut files = MemFiles::new(alloc);
-    files.set_piece(8);
-    files.add("p.json", MIDDLE.as_bytes())?;
-    files.add("s.csv", SIX.as_bytes())?;
-    Ok(files)
-}
-
 #[test]
 fn a_stream_writes_before_its_source_ended(rt: HostRuntime) -> Result<(), Fail> {
     let alloc = rt.alloc();
-    let mut files = files(alloc)?;
+    let mut files = files_of(alloc, &[("p.json", MIDDLE), ("s.csv", SIX)], 8, NO_READ)?;
     let some = Arc::new(alloc, AtomicU64::new(0))?;
     let gate = Holding::until(alloc, 9, &some)?;
     let mut out = Telling { some };

@@ -2,7 +2,7 @@
 use cedr_base::Message;
 use cedr_edge::{EdgeIn, EdgeOut};
 use cedr_plan::read_plan;
-use cedr_wires::{Wires, new_wires};
+use plan_edges::{Wires, new_wires};
 use std::sync::Wait;
 use std::test::Fail;
 

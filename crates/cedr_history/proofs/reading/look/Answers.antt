@@ -1,6 +1,6 @@
 use Rattle.std.proofs.Common.{rules, ◌≡◌, ◌++◌, length, map, sym, ap, ◌∙◌, subst}
 use Rattle.cedr_history.specs.declared.listed.Listed.{Listed}
-use Rattle.cedr_history.specs.Sights.{Begins}
+use Rattle.cedr_history.specs.Sights.{SightBegins}
 use Rattle.cedr_history.specs.Versions.{listing}
 use Rattle.cedr_history.specs.Ends.{list_of, part}
 use Rattle.std.proofs.lemmas.List.{length-map}
@@ -12,7 +12,7 @@ use Rattle.cedr_history.proofs.reading.look.Goals as goal
 pub returns-clause-some : goal.returns-clause-some
 returns-clause-some c =
     let front = c.again-front.result in
-    let begins : Begins c.args.floor.now front = search rules in
+    let begins : SightBegins c.args.floor.now front = search rules in
     let tied : listing c.args.version.now ≡ list_of front = c.requires.tied ∙ ap list_of (sym c.again-front.ensures) in
     let all = map arc_value c.args.version.now.changes.items in
     let pushed : c.push_part.new.out.items ≡ c.args.out.now.items ++ part c.args.from c.args.max all = search (rules, map_part) in

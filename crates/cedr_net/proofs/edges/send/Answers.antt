@@ -1,5 +1,5 @@
 use Rattle.std.proofs.Common.{List, ap, sym, subst, ◌∙◌}
-use Rattle.cedr_laws.specs.Lists.{Lists}
+use Rattle.node_laws.specs.Lists.{Lists}
 use Rattle.cedr_net.specs.Edges.{waits_on_all, ArePorts}
 use Rattle.cedr_net.proofs.EdgeLemmas.{all_stay, all_wait_one}
 use Rattle.cedr_net.proofs.edges.send.Goals as goal

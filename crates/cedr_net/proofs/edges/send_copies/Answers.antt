@@ -1,6 +1,6 @@
 use Rattle.std.proofs.Common.{◌≡◌, ◌<◌, List, length, get_or, ap, sym, subst, ◌∙◌, rules}
 use Rattle.cedr_base.specs.declared.change.Message.{Message}
-use Rattle.cedr_laws.specs.Lists.{Lists}
+use Rattle.node_laws.specs.Lists.{Lists}
 use Rattle.cedr_net.specs.Edges.{waits_on, ArePorts}
 use Rattle.cedr_net.proofs.EdgeLemmas.{port_at, ports_stay, waits_one}
 use Rattle.cedr_net.proofs.edges.send_copies.Goals as goal

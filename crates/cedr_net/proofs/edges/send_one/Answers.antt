@@ -1,5 +1,5 @@
 use Rattle.std.proofs.Common.{◌∷◌, [], List, ap, sym, subst, ◌∙◌, ℕ}
-use Rattle.cedr_laws.specs.Lists.{Lists}
+use Rattle.node_laws.specs.Lists.{Lists}
 use Rattle.cedr_net.specs.Edges.{waits_on, waits_on_all, ArePorts, IsPort}
 use Rattle.cedr_net.proofs.EdgeLemmas.{ports_split, all_stay, waits_append}
 use Rattle.cedr_net.proofs.edges.send_one.Goals as goal

@@ -1,6 +1,6 @@
 use Rattle.std.proofs.Common.{◌∙◌, ap, sym, refl, subst, List}
 use Rattle.cedr_base.specs.declared.change.Message.{Message}
-use Rattle.cedr_laws.specs.Lists.{list_at}
+use Rattle.node_laws.specs.Lists.{list_at}
 use Rattle.cedr_node.specs.declared.port.Port.{Port}
 use Rattle.cedr_node.specs.Standing.{PortStands, IsPortTaken}
 use Rattle.cedr_node.proofs.PortLists.{all_at, levels_set}

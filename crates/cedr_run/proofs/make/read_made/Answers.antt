@@ -1,7 +1,7 @@
 use Rattle.std.proofs.Common.{List, [], map, ap, ◌∙◌, subst}
 use Rattle.cedr_plan.specs.Drawn.{Drawn, node_of}
 use Rattle.cedr_plan.specs.declared.plan.PlanNode.{PlanNode}
-use Rattle.cedr_serial.specs.Sources.{AreRead}
+use Rattle.plan_answer.specs.Sources.{AreRead}
 use Rattle.cedr_run.specs.Answers.{made_file}
 use Rattle.cedr_run.proofs.MakeLemmas.{told_made, made_faultless}
 use Rattle.cedr_run.proofs.make.read_made.Goals as goal

@@ -1,7 +1,7 @@
 use Rattle.std.proofs.Common.{ℕ, List, ◌++◌, ap, ◌∙◌}
 use Rattle.cedr_make.specs.Summary.{summary_text}
 use Rattle.cedr_plan.specs.Drawn.{Drawn}
-use Rattle.cedr_runs.specs.Runs.{sources_in}
+use Rattle.plan_runs.specs.Runs.{sources_in}
 use Rattle.cedr_run.specs.Answers.{made_file}
 use Rattle.cedr_run.proofs.MakeLemmas.{made_remembers}
 use Rattle.cedr_run.proofs.make.summary.Goals as goal

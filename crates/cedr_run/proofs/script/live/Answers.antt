@@ -1,7 +1,7 @@
 use Rattle.std.proofs.Common.{Ok, Err, Option, Some, None, ◌∷◌, [], ◌∙◌, subst}
 use Rattle.cedr_guard.specs.declared.refusal.Refusal.{Refusal}
 use Rattle.cedr_io.specs.Counts.{Counts}
-use Rattle.cedr_live.specs.Plays.{Plays}
+use Rattle.plan_live.specs.Plays.{Plays}
 use Rattle.cedr_run.specs.Seen.{seen_files, seen_sink}
 use Rattle.cedr_run.proofs.EndingLemmas.{asks_one, asks_more, rose_above}
 use Rattle.cedr_run.proofs.ScriptLemmas.{plays_whole, plays_so_far, live_done, live_said, live_write, live_lack}

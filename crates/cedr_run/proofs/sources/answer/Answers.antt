@@ -1,6 +1,6 @@
 use Rattle.std.proofs.Common.{ℕ, List, sym, subst}
-use Rattle.cedr_runs.specs.Runs.{sources_in}
-use Rattle.cedr_serial.specs.Queries.{IsAnswerText}
+use Rattle.plan_runs.specs.Runs.{sources_in}
+use Rattle.plan_answer.specs.Queries.{IsAnswerText}
 use Rattle.cedr_run.specs.Answers.{AnswersQuery}
 use Rattle.cedr_run.specs.Seen.{seen_sink}
 use Rattle.cedr_run.proofs.EndingLemmas.{ends_text, answers_query}

@@ -1,7 +1,8 @@
 use Rattle.std.proofs.Common.{◌<◌, List, length, Err, sym, subst}
-use Rattle.cedr_laws.specs.Lists.{Lists}
+use Rattle.node_laws.specs.Lists.{Lists}
 use Rattle.cedr_plan.specs.declared.plan.PlanNode.{PlanNode}
-use Rattle.cedr_serial.specs.Sources.{AreTold, AreRead, AnswersSources, source_files}
+use Rattle.plan_serial.specs.Sources.{AnswersSources}
+use Rattle.plan_answer.specs.Sources.{AreTold, AreRead, source_files}
 use Rattle.cedr_run.proofs.SayingLemmas.{opened_refused}
 use Rattle.cedr_run.proofs.sources.open_sources.Goals as goal
 

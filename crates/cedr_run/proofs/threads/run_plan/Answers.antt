@@ -1,17 +1,17 @@
 use Rattle.std.proofs.Common.{subst, sym}
 use Rattle.cedr_run.specs.Seen.{seen_files, seen_sink}
 use Rattle.cedr_run.specs.Threads.{RunEnds}
-use Rattle.cedr_run.proofs.PlanLemmas.{ends_later}
+use Rattle.cedr_run.proofs.PlanLemmas.{by_run, ends_later}
 use Rattle.cedr_run.proofs.threads.run_plan.Goals as goal
 
-pub returns-then-streams-clause-ends : goal.returns-then-streams-clause-ends
-returns-then-streams-clause-ends g c =
-    ends_later c.args.streams (seen_files g.F.Files.content g.F.Files.faults g.F.Files.asked c.args.files.now) (seen_files g.F.Files.content g.F.Files.faults g.F.Files.asked c.find_sources.new.files) (seen_files g.F.Files.content g.F.Files.faults g.F.Files.asked c.stream_sources.new.files) c.args.plan.now.nodes.items
+pub returns-in-Stream-clause-ends : goal.returns-in-Stream-clause-ends
+returns-in-Stream-clause-ends g c =
+    ends_later c.args.job (seen_files g.F.Files.content g.F.Files.faults g.F.Files.asked c.args.files.now) (seen_files g.F.Files.content g.F.Files.faults g.F.Files.asked c.find_sources.new.files) (seen_files g.F.Files.content g.F.Files.faults g.F.Files.asked c.stream_sources.new.files) c.args.plan.now.nodes.items
     c.in-Ok.ensures.counted c.in-Ok.ensures.contents (seen_sink g.K.Sink.written g.K.Sink.faults c.args.out.now) (seen_sink g.K.Sink.written g.K.Sink.faults c.stream_sources.new.out) c.stream_sources.result.edges.items c.stream_sources.result.ran.items c.stream_sources.result.outcome
-    (subst (λ b. RunEnds b c.args.plan.now.nodes.items (seen_files g.F.Files.content g.F.Files.faults g.F.Files.asked c.find_sources.new.files) (seen_files g.F.Files.content g.F.Files.faults g.F.Files.asked c.stream_sources.new.files) (seen_sink g.K.Sink.written g.K.Sink.faults c.args.out.now) (seen_sink g.K.Sink.written g.K.Sink.faults c.stream_sources.new.out) c.stream_sources.result.edges.items c.stream_sources.result.ran.items c.stream_sources.result.outcome) (sym c.if-streams.true) c.stream_sources.ensures.ends)
+    (subst (λ j. RunEnds j c.args.plan.now.nodes.items (seen_files g.F.Files.content g.F.Files.faults g.F.Files.asked c.find_sources.new.files) (seen_files g.F.Files.content g.F.Files.faults g.F.Files.asked c.stream_sources.new.files) (seen_sink g.K.Sink.written g.K.Sink.faults c.args.out.now) (seen_sink g.K.Sink.written g.K.Sink.faults c.stream_sources.new.out) c.stream_sources.result.edges.items c.stream_sources.result.ran.items c.stream_sources.result.outcome) (sym c.in-Stream.is) c.stream_sources.ensures.ends)
 
-pub returns-else-streams-clause-ends : goal.returns-else-streams-clause-ends
-returns-else-streams-clause-ends g c =
-    ends_later c.args.streams (seen_files g.F.Files.content g.F.Files.faults g.F.Files.asked c.args.files.now) (seen_files g.F.Files.content g.F.Files.faults g.F.Files.asked c.find_sources.new.files) (seen_files g.F.Files.content g.F.Files.faults g.F.Files.asked c.run_sources.new.files) c.args.plan.now.nodes.items
+pub returns-in_default-clause-ends : goal.returns-in_default-clause-ends
+returns-in_default-clause-ends g c =
+    ends_later c.args.job (seen_files g.F.Files.content g.F.Files.faults g.F.Files.asked c.args.files.now) (seen_files g.F.Files.content g.F.Files.faults g.F.Files.asked c.find_sources.new.files) (seen_files g.F.Files.content g.F.Files.faults g.F.Files.asked c.run_sources.new.files) c.args.plan.now.nodes.items
     c.in-Ok.ensures.counted c.in-Ok.ensures.contents (seen_sink g.K.Sink.written g.K.Sink.faults c.args.out.now) (seen_sink g.K.Sink.written g.K.Sink.faults c.run_sources.new.out) c.run_sources.result.edges.items c.run_sources.result.ran.items c.run_sources.result.outcome
-    (subst (λ b. RunEnds b c.args.plan.now.nodes.items (seen_files g.F.Files.content g.F.Files.faults g.F.Files.asked c.find_sources.new.files) (seen_files g.F.Files.content g.F.Files.faults g.F.Files.asked c.run_sources.new.files) (seen_sink g.K.Sink.written g.K.Sink.faults c.args.out.now) (seen_sink g.K.Sink.written g.K.Sink.faults c.run_sources.new.out) c.run_sources.result.edges.items c.run_sources.result.ran.items c.run_sources.result.outcome) (sym c.if-streams.false) c.run_sources.ensures.ends)
+    (by_run (λ j. RunEnds j c.args.plan.now.nodes.items (seen_files g.F.Files.content g.F.Files.faults g.F.Files.asked c.find_sources.new.files) (seen_files g.F.Files.content g.F.Files.faults g.F.Files.asked c.run_sources.new.files) (seen_sink g.K.Sink.written g.K.Sink.faults c.args.out.now) (seen_sink g.K.Sink.written g.K.Sink.faults c.run_sources.new.out) c.run_sources.result.edges.items c.run_sources.result.ran.items c.run_sources.result.outcome) c.args.job c.requires.job c.in_default.not-Stream c.run_sources.ensures.ends)

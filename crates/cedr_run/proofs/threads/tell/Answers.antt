@@ -1,13 +1,13 @@
-use Rattle.cedr_laws.specs.Lists.{list_at}
+use Rattle.node_laws.specs.Lists.{list_at}
 use Rattle.cedr_query.specs.Queries.{output_place}
-use Rattle.cedr_runs.specs.Without.{forgot_in}
-use Rattle.cedr_wires.specs.Wires.{carried, ports_of}
+use Rattle.plan_runs.specs.Without.{forgot_in}
+use Rattle.plan_edges.specs.Wires.{carried, ports_of}
 use Rattle.cedr_run.specs.Seen.{seen_files, seen_sink}
 use Rattle.cedr_run.proofs.RunLemmas.{can_tell, can_tell_as, run_ends, tells_as}
 use Rattle.cedr_run.proofs.threads.tell.Goals as goal
 
-pub end_of-outcome-requires-clause-told : goal.end_of-outcome-requires-clause-told
-end_of-outcome-requires-clause-told g c = λ done.
+pub end_of-outcome-requires-clause-can_tell : goal.end_of-outcome-requires-clause-can_tell
+end_of-outcome-requires-clause-can_tell g c = λ done.
     let nodes = c.args.plan.now.nodes.items in
     let given = list_at c.requires.report.reported.given (output_place nodes) in
     let listed = forgot_in nodes (ports_of nodes (carried c.args.report.edges.items)) in (

@@ -1,5 +1,5 @@
-use Rattle.cedr_runs.specs.Without.{forgot_in}
-use Rattle.cedr_wires.specs.Wires.{carried, ports_of}
+use Rattle.plan_runs.specs.Without.{forgot_in}
+use Rattle.plan_edges.specs.Wires.{carried, ports_of}
 use Rattle.cedr_run.specs.Seen.{seen_files, seen_sink}
 use Rattle.cedr_run.proofs.RunLemmas.{can_tell_tail}
 use Rattle.cedr_run.proofs.StreamEndLemmas.{can_tell_tail_as, stream_ends, tells_stream_as, whole_counts}
@@ -10,8 +10,8 @@ end_of_stream-outcome-requires-clause-counts g c = λ whole.
     let s = c.requires.streamed in
     whole_counts g.F.Source.Source.rest g.F.Source.Source.faults (g.F.Files.content c.args.files.now) c.args.plan.now.nodes.items c.args.report c.args.progress s.0 (seen_sink g.K.Sink.written g.K.Sink.faults c.args.out.now) s.1 whole
 
-pub end_of_stream-outcome-requires-clause-told : goal.end_of_stream-outcome-requires-clause-told
-end_of_stream-outcome-requires-clause-told g c = λ done.
+pub end_of_stream-outcome-requires-clause-can_tell : goal.end_of_stream-outcome-requires-clause-can_tell
+end_of_stream-outcome-requires-clause-can_tell g c = λ done.
     let nodes = c.args.plan.now.nodes.items in
     let listed = forgot_in nodes (ports_of nodes (carried c.args.report.edges.items)) in (
       listed,

@@ -5,7 +5,7 @@ use Rattle.cedr_run.proofs.EndingLemmas.{ends_command, ends_no_command}
 use Rattle.cedr_run.proofs.top.call.Goals as goal
 
 pub returns-in-None : goal.returns-in-None
-returns-in-None g c = rw c.in-None.is (ends_no_command None (seen_files g.F.Files.content g.F.Files.faults g.F.Files.asked c.args.files.now) (seen_sink g.K.Sink.written g.K.Sink.faults c.args.out.now) (seen_sink g.E.Sink.written g.E.Sink.faults c.args.err.now) (seen_sink g.E.Sink.written g.E.Sink.faults c.report.new.err) c.report.result refl c.report.ensures.status c.report.ensures.told c.report.ensures.lacking)
+returns-in-None g c = rw c.in-None.is (ends_no_command None (seen_files g.F.Files.content g.F.Files.faults g.F.Files.asked c.args.files.now) (seen_sink g.K.Sink.written g.K.Sink.faults c.args.out.now) (seen_sink g.E.Sink.written g.E.Sink.faults c.args.err.now) (seen_sink g.E.Sink.written g.E.Sink.faults c.report.new.err) c.report.result refl c.report.ensures.status c.report.ensures.reported c.report.ensures.lacking)
 
 pub returns-in-Some : goal.returns-in-Some
 returns-in-Some g c =
@@ -13,4 +13,4 @@ returns-in-Some g c =
     let same = ap {B = Option Command} (λ file. Some (record { job = c.in-Some.job; file = file; script = c.as_bytes-in-Some.result.now })) c.as_bytes.ensures.value
     ∙ ap {B = Option Command} (λ script. Some (record { job = c.in-Some.job; file = c.in-Some.file.now; script = script })) c.as_bytes-in-Some.ensures.value in
     rw c.in-Some.is (ends_command (Some (record { job = c.in-Some.job; file = c.in-Some.file.now; script = c.in-Some.script.now })) named (seen_files g.F.Files.content g.F.Files.faults g.F.Files.asked c.args.files.now) (seen_files g.F.Files.content g.F.Files.faults g.F.Files.asked c.carry_out-outcome.new.files) (seen_sink g.K.Sink.written g.K.Sink.faults c.args.out.now) (seen_sink g.K.Sink.written g.K.Sink.faults c.carry_out-outcome.new.out) (seen_sink g.E.Sink.written g.E.Sink.faults c.args.err.now) (seen_sink g.E.Sink.written g.E.Sink.faults c.report-in-Some.new.err) c.carry_out-outcome.result c.report-in-Some.result same
-    c.carry_out-outcome.ensures.ends c.carry_out-outcome.ensures.asked c.carry_out-outcome.ensures.contents c.report-in-Some.ensures.status c.report-in-Some.ensures.told c.report-in-Some.ensures.lacking)
+    c.carry_out-outcome.ensures.ends c.carry_out-outcome.ensures.asked c.carry_out-outcome.ensures.contents c.report-in-Some.ensures.status c.report-in-Some.ensures.reported c.report-in-Some.ensures.lacking)

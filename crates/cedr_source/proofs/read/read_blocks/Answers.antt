@@ -2,7 +2,7 @@ use Rattle.std.proofs.Common.{◌<◌, ◌++◌, Result, Err, length, take, sym,
 use Rattle.std.proofs.KnownBytes.{Consumes-trans}
 use Rattle.std.proofs.lemmas.List.{length-append, length-take}
 use Rattle.std.proofs.lemmas.Result.{err_from_is_err_and}
-use Rattle.cedr_source.specs.declared.fault.SourceFault.{SourceFault}
+use Rattle.cedr_source.specs.declared.fault.Unread.{Unread}
 use Rattle.cedr_source.specs.declared.read.Reading.{Reading}
 use Rattle.cedr_source.specs.Whole.{ReadBlocks, CountsSource}
 use Rattle.cedr_source.proofs.WholeLemmas.{less_room, not_closed, refused_block, none_failed}
@@ -39,7 +39,7 @@ returns-in_err-take_block-clause-read g c =
     let fault = c.in_err-take_block.field-0.0 in
     let took = c.in_err-take_block.ensures.took c.args.shape inv.bytes inv.reads in
     let p = err_from_is_err_and c.from_residual-in_err-take_block.result c.from_residual-in_err-take_block.ensures.1 in
-    subst (λ (answer : Result Reading SourceFault). ReadBlocks answer c.args.shape (g.S.Source.rest c.args.source.now) (g.S.Source.rest c.read.new.self)) (sym (p.1 ∙ ap (λ f. Err f) p.2))
+    subst (λ (answer : Result Reading Unread). ReadBlocks answer c.args.shape (g.S.Source.rest c.args.source.now) (g.S.Source.rest c.read.new.self)) (sym (p.1 ∙ ap (λ f. Err f) p.2))
     (record {
       bytes = inv.bytes ++ part;
       took = Consumes-trans _ _ _ inv.bytes part inv.took c.in_ok-count.ensures.bytes.0;
@@ -55,5 +55,5 @@ returns-in_err-take_block-clause-counted g c =
     let fault = c.in_err-take_block.field-0.0 in
     let took = c.in_err-take_block.ensures.took c.args.shape inv.bytes inv.reads in
     let p = err_from_is_err_and c.from_residual-in_err-take_block.result c.from_residual-in_err-take_block.ensures.1 in
-    subst (λ (answer : Result Reading SourceFault). CountsSource answer (g.S.Source.faults c.args.source.now) (g.S.Source.faults c.read.new.self)) (sym (p.1 ∙ ap (λ f. Err f) p.2))
+    subst (λ (answer : Result Reading Unread). CountsSource answer (g.S.Source.faults c.args.source.now) (g.S.Source.faults c.read.new.self)) (sym (p.1 ∙ ap (λ f. Err f) p.2))
     (none_failed Reading fault c.take_block.new.self c.args.shape (inv.bytes ++ part) _ _ took (c.in_ok-count.ensures.counted ∙ inv.counted))

@@ -1,5 +1,5 @@
 use Rattle.std.proofs.Common.{[], ◌∷◌, inl, inr, refl}
-use Rattle.cedr_outlet.proofs.FanLemmas.{totals_stay}
+use Rattle.worker_outlets.proofs.FanLemmas.{totals_stay}
 use Rattle.cedr_worker.proofs.giving.give_message.Goals as goal
 
 pub commit-requires : goal.commit-requires

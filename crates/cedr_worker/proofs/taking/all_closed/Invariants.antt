@@ -1,6 +1,6 @@
 use Rattle.std.proofs.Common.{◌≡◌, ◌<◌, true, ℕ, length, slice_index_or}
 use Rattle.cedr_edge.specs.Ends.{InEnd}
-use Rattle.cedr_laws.specs.Lawful.{is_over}
+use Rattle.node_laws.specs.Lawful.{is_over}
 use Rattle.cedr_worker.proofs.taking.all_closed.Given as goal
 
 abbrev pub invariant-loop-i : goal.invariant-loop-i

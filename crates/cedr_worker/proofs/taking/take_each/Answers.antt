@@ -1,7 +1,7 @@
 use Rattle.std.proofs.Common.{◌||◌, ◌+◌, List, sym, ◌∙◌, subst, rules}
 use Rattle.std.proofs.lemmas.Bool.{or_parts}
 use Rattle.cedr_edge.specs.Ends.{InEnd}
-use Rattle.cedr_outlet.proofs.RoundLemmas.{round_step}
+use Rattle.worker_outlets.proofs.RoundLemmas.{round_step}
 use Rattle.cedr_worker.specs.Inputs.{TakenSoFar, KeptIn, Asked, Took}
 use Rattle.cedr_worker.proofs.taking.take_each.Goals as goal
 

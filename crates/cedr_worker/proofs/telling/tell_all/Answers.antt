@@ -5,7 +5,7 @@ use mathlib.Core.List.{IsPrefix}
 use Rattle.cedr_base.specs.declared.change.Message.{Message}
 use Rattle.cedr_history.specs.Ends.{Writing}
 use Rattle.cedr_history.proofs.Fronts.{prefix_trans}
-use Rattle.cedr_outlet.proofs.FanLemmas.{map_itself}
+use Rattle.worker_outlets.proofs.FanLemmas.{map_itself}
 use Rattle.cedr_worker.specs.Outputs.{list_from}
 use Rattle.cedr_worker.proofs.OutputLists.{next_first, next_comes, pushed_some}
 use Rattle.cedr_worker.proofs.telling.tell_all.Goals as goal

@@ -1,5 +1,5 @@
 use Rattle.std.proofs.Common.{◌<◌, length, sym, ◌∙◌, arith}
-use Rattle.cedr_laws.specs.Lists.{list_at}
+use Rattle.node_laws.specs.Lists.{list_at}
 use Rattle.cedr_net.proofs.PlaceLemmas.{source_here}
 use Rattle.message_cases.proofs.NetLemmas.{stood, fed_more}
 use Rattle.message_cases.proofs.network.feed.Goals as goal

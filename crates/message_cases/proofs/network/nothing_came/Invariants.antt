@@ -1,7 +1,7 @@
 use Rattle.std.proofs.Common.{◌≡◌, ◌<◌, ℕ, [], length, get_or}
-use Rattle.cedr_testing.specs.Came.{StandsFor}
-use Rattle.cedr_testing.specs.declared.came.Came.{Came}
+use Rattle.test_feeding.specs.Came.{CameFor}
+use Rattle.test_feeding.specs.declared.came.Came.{Came}
 use Rattle.message_cases.proofs.network.nothing_came.Given as goal
 
 abbrev pub invariant-loop : goal.invariant-loop
-invariant-loop l = (length l.came.items ≡ l.counter) × ((k : ℕ) (d : Came) → k < length l.came.items → StandsFor (get_or l.came.items k d) [])
+invariant-loop l = (length l.came.items ≡ l.counter) × ((k : ℕ) (d : Came) → k < length l.came.items → CameFor (get_or l.came.items k d) [])

@@ -1,7 +1,7 @@
 use Rattle.std.proofs.Common.{◌++◌, ◌∷◌, [], sym, subst, List, replicate}
 use Rattle.cedr_base.specs.declared.change.Message.{Message}
-use Rattle.cedr_laws.specs.Lists.{Lists}
-use Rattle.cedr_testing.specs.declared.came.Came.{Came}
+use Rattle.node_laws.specs.Lists.{Lists}
+use Rattle.test_feeding.specs.declared.came.Came.{Came}
 use Rattle.message_cases.specs.FedNodes.{AllCame}
 use Rattle.cedr_node.proofs.First.{replicate-push}
 use Rattle.message_cases.proofs.NodeLemmas.{came_push}

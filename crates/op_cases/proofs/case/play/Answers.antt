@@ -1,6 +1,6 @@
 use Rattle.std.proofs.Common.{List, ℕ, [], replicate, sym, subst}
 use Rattle.cedr_table.specs.Operators.{Tables, AreTimes}
-use Rattle.cedr_testing.proofs.MarkLemmas.{zeros_are_times}
+use Rattle.test_feeding.proofs.MarkLemmas.{zeros_are_times}
 use Rattle.op_cases.proofs.case.play.Goals as goal
 
 pub loop-line-init : goal.loop-line-init

@@ -3,7 +3,7 @@ use Rattle.std.proofs.lemmas.Result.{on_ok_weaker}
 use Rattle.cedr_base.specs.declared.change.Change.{Change}
 use Rattle.cedr_base.specs.Changes.{MayFollow, sync_of}
 use Rattle.cedr_base.specs.Rows.{count_of}
-use Rattle.cedr_stream.specs.Repairs.{IsMoved}
+use Rattle.change_laws.specs.Repairs.{IsMoved}
 use Rattle.op_group.specs.Measures.{edges_of, living_of, sums_of}
 use Rattle.op_group.specs.SegmentLaws.{begin_there, edge_there}
 use Rattle.op_group.specs.State.{since}

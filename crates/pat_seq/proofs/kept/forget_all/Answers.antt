@@ -7,7 +7,7 @@ use Rattle.cedr_base.specs.declared.row.Row.{Row}
 use Rattle.cedr_base.specs.Rows.{SameRows}
 use Rattle.cedr_table.specs.Operators.{table_at}
 use Rattle.cedr_table.specs.PortLaws.{table_at-with, table_at-with_other}
-use Rattle.pat_state.specs.Starts.{reaches}
+use Rattle.pat_state.specs.Starts.{scope_reaches}
 use Rattle.pat_state.proofs.ForgetLemmas.{all_forgotten}
 use Rattle.pat_seq.proofs.kept.forget_all.Goals as goal
 
@@ -20,16 +20,16 @@ loop-port-preserved c =
     let within : c.loop-port.port < length c.loop-port.kept.items = let same = was.same_length in omega arith in
     let read = get_or_read items port c.index_mut.result.now within c.index_mut.ensures.value [] in
     let first = read ∙ was.rest port (omega arith) in
-    let now = subst (λ (xs : List Row). SameRows c.forget.new.self (filter (reaches c.args.scope c.args.time) xs)) first c.forget.ensures in
+    let now = subst (λ (xs : List Row). SameRows c.forget.new.self (filter (scope_reaches c.args.scope c.args.time) xs)) first c.forget.ensures in
     record {
       same_length = length-set items port rows ∙ was.same_length;
       done = λ k below. elim (cases_lt k port) [
         | inl before ↦
-            subst (λ (xs : List Row). SameRows xs (filter (reaches c.args.scope c.args.time) (table_at c.args.kept.now.items k))) (sym (table_at-with_other items port k rows (λ e. omega arith))) (was.done k before)
+            subst (λ (xs : List Row). SameRows xs (filter (scope_reaches c.args.scope c.args.time) (table_at c.args.kept.now.items k))) (sym (table_at-with_other items port k rows (λ e. omega arith))) (was.done k before)
         | inr not_before ↦
             (let same : k ≡ c.loop-port.port = omega arith in
-            let here = subst (λ (xs : List Row). SameRows xs (filter (reaches c.args.scope c.args.time) (table_at c.args.kept.now.items c.loop-port.port))) (sym (table_at-with items port rows within)) now in
-            subst (λ (n : ℕ). SameRows (table_at (slice_set c.loop-port.kept.items c.loop-port.port c.forget.new.self) n) (filter (reaches c.args.scope c.args.time) (table_at c.args.kept.now.items n))) (sym same) here)
+            let here = subst (λ (xs : List Row). SameRows xs (filter (scope_reaches c.args.scope c.args.time) (table_at c.args.kept.now.items c.loop-port.port))) (sym (table_at-with items port rows within)) now in
+            subst (λ (n : ℕ). SameRows (table_at (slice_set c.loop-port.kept.items c.loop-port.port c.forget.new.self) n) (filter (scope_reaches c.args.scope c.args.time) (table_at c.args.kept.now.items n))) (sym same) here)
       ];
       rest = λ k above. table_at-with_other items port k rows (λ e. omega arith) ∙ was.rest k (omega arith);
     }

@@ -1,12 +1,12 @@
 use Rattle.std.proofs.Common.{◌≡◌, ◌++◌, map}
 use Rattle.std.specs.List.{filter}
 use Rattle.cedr_table.specs.Counted.{spread}
-use Rattle.pat_state.specs.Starts.{begins_within, AreWithin}
+use Rattle.pat_state.specs.Starts.{begins_within, AreInScope}
 use Rattle.pat_seq.specs.Steps.{begun}
 use Rattle.pat_seq.proofs.matches.begun_within.Given as goal
 
 abbrev pub invariant-loop-row : goal.invariant-loop-row
 invariant-loop-row l = record {
   so_far : l.rows.items ++ map (begun l.scope) (spread l.row-iterator) ≡ map (begun l.scope) (filter (begins_within l.from l.before) l.kept);
-  within : AreWithin l.from l.before l.row-iterator;
+  within : AreInScope l.from l.before l.row-iterator;
 }

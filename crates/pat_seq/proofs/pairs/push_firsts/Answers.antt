@@ -4,7 +4,7 @@ use Rattle.std.specs.Map.Iter.{deref_pair}
 use Rattle.std.proofs.lemmas.Map.Iter.{rest_more}
 use Rattle.cedr_base.specs.declared.row.Row.{Row}
 use Rattle.cedr_table.specs.Counted.{spread}
-use Rattle.pat_state.specs.Starts.{AreWithin}
+use Rattle.pat_state.specs.Starts.{AreInScope}
 use Rattle.pat_state.proofs.FlatLemmas.{spread_more}
 use Rattle.pat_seq.specs.Steps.{begun, next_passing}
 use Rattle.pat_seq.proofs.PairLemmas.{first_copies}
@@ -19,5 +19,5 @@ loop-first-preserved c =
       so_far =
           ap (λ rows. rows ++ flat_map f (spread c.next.new.self)) (c.in_ok-push_first.ensures ∙ ap (λ rows. c.loop-first.rows.items ++ rows) (sym (first_copies c.args.scope c.args.tests.now c.in-Some.first.now c.args.second.now c.in-Some.count.now)))
           ∙ spread_more f c.in-Some.first.now c.in-Some.count.now c.loop-first.rows.items c.loop-first.first-iterator c.next.new.self _ is c.loop-first.invariant.so_far;
-      within = (w.0, w.1, w.2, (subst (AreWithin w.0 w.1) is w.3).1);
+      within = (w.0, w.1, w.2, (subst (AreInScope w.0 w.1) is w.3).1);
     }

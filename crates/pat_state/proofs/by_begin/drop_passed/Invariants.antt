@@ -1,11 +1,11 @@
 use Rattle.std.proofs.Common.{length}
 use Rattle.cedr_table.specs.Counted.{SameAmong}
-use Rattle.pat_state.specs.Starts.{reaches, AreEndless}
+use Rattle.pat_state.specs.Starts.{scope_reaches, AreEndless}
 use Rattle.pat_state.proofs.by_begin.drop_passed.Given as goal
 
 abbrev pub invariant-loop-gone : goal.invariant-loop-gone
 invariant-loop-gone l = record {
-  same : SameAmong (reaches l.scope l.time) l.rows l.initial.rows;
+  same : SameAmong (scope_reaches l.scope l.time) l.rows l.initial.rows;
   endless : AreEndless l.rows;
 }
 

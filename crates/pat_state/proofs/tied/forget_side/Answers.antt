@@ -4,7 +4,7 @@ use Rattle.std.specs.List.{filter}
 use Rattle.cedr_base.specs.declared.row.Row.{Row}
 use Rattle.cedr_base.specs.Rows.{SameRows}
 use Rattle.cedr_table.proofs.FilterLemmas.{one_goes, none_goes, fewer_left}
-use Rattle.pat_state.specs.Starts.{reaches}
+use Rattle.pat_state.specs.Starts.{scope_reaches}
 use Rattle.cedr_expr.specs.Tags.{side_tag}
 use Rattle.pat_state.proofs.TagLemmas.{with_tag, tagged_copies}
 use Rattle.pat_state.proofs.tied.forget_side.Goals as goal
@@ -18,7 +18,7 @@ loop-row-preserved c =
     let was = c.loop-row.invariant in
     let tag = side_tag c.args.side c.args.width c.args.tests.now in
     record {
-      same = one_goes (reaches c.args.scope c.args.time) c.args.rows.now c.loop-row.rows c.pop_passed.new.self (c.in-Some.row, c.in-Some.count) out was.same;
+      same = one_goes (scope_reaches c.args.scope c.args.time) c.args.rows.now c.loop-row.rows c.pop_passed.new.self (c.in-Some.row, c.in-Some.count) out was.same;
       tagged = record {
         same = c.take_copies.ensures (map (with_tag tag) c.pop_passed.new.self)
             (tagged_copies tag c.side_tag-tag.result c.in-Some.count c.in-Some.row c.loop-row.rows c.pop_passed.new.self c.loop-row.tags (sym c.side_tag-tag.ensures) was.tagged out.3);
@@ -28,4 +28,4 @@ loop-row-preserved c =
 pub returns-clause-left : goal.returns-clause-left
 returns-clause-left c =
     let out = c.in_default.ensures in
-    subst (λ (rows : List Row). SameRows rows (filter (reaches c.args.scope c.args.time) c.args.rows.now)) (sym out.0) (none_goes (reaches c.args.scope c.args.time) c.args.rows.now c.loop-row.rows out.1 c.loop-row.invariant.same)
+    subst (λ (rows : List Row). SameRows rows (filter (scope_reaches c.args.scope c.args.time) c.args.rows.now)) (sym out.0) (none_goes (scope_reaches c.args.scope c.args.time) c.args.rows.now c.loop-row.rows out.1 c.loop-row.invariant.same)

@@ -1,6 +1,6 @@
 use Rattle.std.proofs.Common.{◌≡◌, ◌++◌, filter, take, length}
 use Rattle.cedr_base.specs.Rows.{SameRows}
-use Rattle.cedr_laws.specs.Pass.{additions}
+use Rattle.node_laws.specs.Pass.{additions}
 use Rattle.cedr_align.specs.Aligner.{HasSameTimes, must_remember}
 use Rattle.cedr_align.proofs.aligner.Aligner.pass_rows.Given as goal
 

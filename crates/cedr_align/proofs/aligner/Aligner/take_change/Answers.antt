@@ -1,7 +1,7 @@
 use Rattle.std.proofs.Common.{◌∙◌, sym, ap, refl, max, ℕ}
 use Rattle.std.specs.Prelude.{Some, None}
 use Rattle.std.proofs.lemmas.List.{append-nil}
-use Rattle.cedr_stream.proofs.BagSums.{same_itself}
+use Rattle.change_laws.proofs.BagSums.{same_itself}
 use Rattle.cedr_align.proofs.RememberedLemmas.{none_applied}
 use Rattle.cedr_align.proofs.Aligned.{changed}
 use Rattle.cedr_align.proofs.aligner.Aligner.take_change.Goals as goal

@@ -1,6 +1,6 @@
 use Rattle.std.proofs.Common.{◌∙◌, ap, sym, List}
 use Rattle.cedr_base.specs.declared.row.Row.{Row}
-use Rattle.cedr_laws.specs.Pass.{least_begin}
+use Rattle.node_laws.specs.Pass.{least_begin}
 use Rattle.std.proofs.Common.{None}
 use Rattle.cedr_align.proofs.TurnLemmas.{least_first, least_none}
 use Rattle.cedr_align.proofs.held.Held.least_begin.Goals as goal

@@ -1,5 +1,5 @@
 use Rattle.std.proofs.Common.{not}
-use Rattle.cedr_laws.specs.Pass.{is_blocked}
+use Rattle.node_laws.specs.Pass.{is_blocked}
 use Rattle.cedr_base.specs.declared.row.Row.{Row}
 use Rattle.cedr_align.proofs.MoveLemmas.{moved_some, moved_fewer, moved_none}
 use Rattle.cedr_align.proofs.held.Held.release_unblocked.Goals as goal

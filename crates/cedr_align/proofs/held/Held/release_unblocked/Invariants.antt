@@ -1,6 +1,6 @@
 use Rattle.std.proofs.Common.{length}
 use Rattle.std.proofs.Common.{not}
-use Rattle.cedr_laws.specs.Pass.{is_blocked}
+use Rattle.node_laws.specs.Pass.{is_blocked}
 use Rattle.cedr_align.proofs.MoveLemmas.{IsMoving}
 use Rattle.cedr_align.proofs.held.Held.release_unblocked.Given as goal
 

@@ -1,7 +1,7 @@
 use Rattle.std.proofs.Common.{◌≡◌, ◌<◌, ◌∙◌, sym, subst, refl, List, not, true, false}
 use Rattle.cedr_base.specs.declared.row.Row.{Row}
 use Rattle.cedr_base.specs.Rows.{SameRows, count_of}
-use Rattle.cedr_laws.specs.Pass.{is_blocked}
+use Rattle.node_laws.specs.Pass.{is_blocked}
 use Rattle.cedr_align.specs.Moving.{turned, all_turned}
 use Rattle.cedr_align.proofs.TurnLemmas.{none_waits, first_waits, unblocked_taken}
 use Rattle.cedr_align.proofs.held.Held.take_unblocked.Goals as goal

@@ -1,6 +1,6 @@
 use Rattle.std.proofs.Common.{sym, ap, ◌∙◌, length, rules}
-use Rattle.cedr_laws.specs.Lawful.{is_over}
-use Rattle.cedr_edge.specs.Ends.{told}
+use Rattle.node_laws.specs.Lawful.{is_over}
+use Rattle.cedr_edge.specs.Ends.{as_u64}
 use Rattle.cedr_edge.specs.declared.line.Hand.{Hand}
 use Rattle.cedr_edge.proofs.Lists.{over_last, told_more}
 use Rattle.cedr_edge.proofs.Moves.{takes, learns_empty}
@@ -12,4 +12,4 @@ pop_as-requires-clause-rule g c = (takes _ _ c.self.invariant.1, learns_empty _ 
 pub invariant_of-self : goal.invariant_of-self
 invariant_of-self g c =
     let rule = c.in-Some.ensures.rule in
-    (search rules, search rules, c.saturating_add-self-inside.ensures ∙ (told_more _ c.in-Some.message _ c.self.invariant.2 ∙ ap (λ (h : Hand). told (length h.taken)) (sym rule.0)), search rules, c.is_last-self-inside.ensures ∙ (sym (over_last _ c.in-Some.message rule.1) ∙ ap (λ (h : Hand). is_over h.taken) (sym rule.0)))
+    (search rules, search rules, c.saturating_add-self-inside.ensures ∙ (told_more _ c.in-Some.message _ c.self.invariant.2 ∙ ap (λ (h : Hand). as_u64 (length h.taken)) (sym rule.0)), search rules, c.is_last-self-inside.ensures ∙ (sym (over_last _ c.in-Some.message rule.1) ∙ ap (λ (h : Hand). is_over h.taken) (sym rule.0)))

@@ -7,7 +7,7 @@ use Rattle.cedr_base.specs.declared.row.Row.{Row}
 use Rattle.cedr_text.specs.declared.event_line.EventLine.{EventLine}
 use Rattle.cedr_base.specs.declared.interval.Interval.{Interval}
 use Rattle.cedr_guard.specs.declared.judge.Judge.{Judge}
-use Rattle.cedr_guard.specs.Judging.{guarantee_of, event_of, retraction_fault}
+use Rattle.cedr_guard.specs.Judging.{guarantee_of, event_with, retraction_fault}
 use Rattle.cedr_guard.specs.History.{rows_among}
 use Rattle.cedr_guard.specs.Standing.{StandsFor, place_in, interval_of}
 use Rattle.cedr_guard.proofs.StandingLemmas.{event_here, row_here, interval_here}
@@ -54,7 +54,7 @@ returns-in_default-copied-clause-judged c = λ before stands.
 
 -- the fault that was looked for is the line's
 fault_here : (judge : Judge) (before : List EventLine) (id end p : ℕ) → StandsFor judge before → place_in judge.ids id ≡ Some p
-    → retraction_fault (event_of id before) end (guarantee_of before) ≡ retraction_fault (Some (row_at before p)) end judge.mark
+    → retraction_fault (event_with id before) end (guarantee_of before) ≡ retraction_fault (Some (row_at before p)) end judge.mark
 fault_here judge before id end p stands there =
     ap (λ event. retraction_fault event end (guarantee_of before)) (event_here judge before id p no_row stands there)
     ∙ ap (retraction_fault (Some (row_at before p)) end) (sym stands.mark)

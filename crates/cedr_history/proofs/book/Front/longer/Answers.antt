@@ -1,7 +1,7 @@
 use Rattle.std.proofs.Common.{◌≤◌, ap, subst, arith, length, List, sym}
 use mathlib.Core.List.{IsPrefix}
 use Rattle.cedr_history.specs.declared.step.Step.{Step}
-use Rattle.cedr_history.specs.Sights.{Sight, Begins}
+use Rattle.cedr_history.specs.Sights.{Sight, SightBegins}
 use Rattle.cedr_history.proofs.Fronts.{prefix_shorter}
 use Rattle.cedr_history.proofs.book.Front.longer.Goals as goal
 
@@ -13,7 +13,7 @@ returns-then-self-other-clause-this c =
     let inside = prefix_shorter c.self.inside.seen.log c.other.inside.seen.log both this c.learn.ensures.3 less in
     let one = subst (λ (s : Sight). IsPrefix s.steps c.other.inside.seen.log) c.self.view_is inside in
     let two = subst (λ (s : Sight). IsPrefix c.args.self.now.steps s.steps) c.other.view_is one in
-    subst (λ (s : Sight). Begins c.args.self.now s) (sym c.again.ensures) (sym c.requires, two)
+    subst (λ (s : Sight). SightBegins c.args.self.now s) (sym c.again.ensures) (sym c.requires, two)
 
 pub returns-clause-that : goal.returns-clause-that
 returns-clause-that c =
@@ -23,4 +23,4 @@ returns-clause-that c =
     let inside = prefix_shorter c.other.inside.seen.log c.self.inside.seen.log both c.learn.ensures.3 this less in
     let one = subst (λ (s : Sight). IsPrefix s.steps c.self.inside.seen.log) c.other.view_is inside in
     let two = subst (λ (s : Sight). IsPrefix c.args.other.now.steps s.steps) c.self.view_is one in
-    subst (λ (s : Sight). Begins c.args.other.now s) (sym c.again-else-self-other.ensures) (c.requires, two)
+    subst (λ (s : Sight). SightBegins c.args.other.now s) (sym c.again-else-self-other.ensures) (c.requires, two)

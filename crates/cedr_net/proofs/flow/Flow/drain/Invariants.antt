@@ -1,7 +1,7 @@
 use Rattle.std.proofs.Common.{◌≡◌, ◌<◌, List, length}
-use Rattle.cedr_laws.specs.Lists.{Lists}
+use Rattle.node_laws.specs.Lists.{Lists}
 use Rattle.cedr_plan.specs.declared.plan.PlanNode.{PlanNode}
-use Rattle.cedr_runs.specs.Runs.{lists_at}
+use Rattle.plan_runs.specs.Runs.{lists_at}
 use Rattle.cedr_net.specs.Flows.{waiting_count}
 use Rattle.cedr_net.specs.Networks.{FlowStands, IsOnTheWay}
 use Rattle.cedr_net.proofs.flow.Flow.drain.Given as goal

@@ -1,6 +1,6 @@
 use Rattle.std.proofs.Common.{List, ℕ, get_or, sym, subst}
-use Rattle.cedr_laws.specs.Lists.{list_at}
-use Rattle.cedr_runs.specs.Runs.{lists_at}
+use Rattle.node_laws.specs.Lists.{list_at}
+use Rattle.plan_runs.specs.Runs.{lists_at}
 use Rattle.cedr_net.specs.declared.work.Work.{Work}
 use Rattle.cedr_net.specs.Flows.{WorksAt, PortAt}
 use Rattle.cedr_net.proofs.PortLemmas.{made_here}

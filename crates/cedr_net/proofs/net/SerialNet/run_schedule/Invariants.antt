@@ -1,6 +1,6 @@
 use Rattle.std.proofs.Common.{◌≡◌, ◌<◌, List, ℕ, length, take}
 use Rattle.std.specs.Prelude.{All}
-use Rattle.cedr_laws.specs.Lists.{Lists}
+use Rattle.node_laws.specs.Lists.{Lists}
 use Rattle.cedr_plan.specs.declared.plan.PlanNode.{PlanNode}
 use Rattle.cedr_net.specs.Networks.{keeps_changes, NetStands, IsScheduled}
 use Rattle.cedr_net.proofs.net.SerialNet.run_schedule.Given as goal

@@ -2,10 +2,10 @@ use Rattle.std.proofs.Common.{◌++◌, ◌∷◌, ◌∙◌, ◌||◌, refl, []
 use Rattle.std.proofs.lemmas.Result.{on_ok_weaker}
 use Rattle.cedr_base.specs.declared.change.Message.{Message}
 use Rattle.cedr_table.specs.Operators.{Meaning}
-use Rattle.cedr_laws.specs.Lists.{with_more}
-use Rattle.cedr_laws.specs.Lawful.{passes_of}
-use Rattle.cedr_drive.specs.Driving.{Answers}
-use Rattle.cedr_node.specs.Standing.{levels_of, ending, breaking, StandsBetween, HoldsAtFronts}
+use Rattle.node_laws.specs.Lists.{with_more}
+use Rattle.node_laws.specs.Lawful.{passes_of}
+use Rattle.op_driver.specs.Driving.{Answers}
+use Rattle.cedr_node.specs.Standing.{levels_of, end_of_ports, breaking, StandsBetween, HoldsAtFronts}
 use Rattle.cedr_node.proofs.PortLists.{all_length}
 use Rattle.cedr_node.proofs.Takes.{count_fits, broken_now, takes_broken, passes_on, takes_whole, takes_holds}
 use Rattle.cedr_node.proofs.aligned.Aligned.answer.Goals as goal
@@ -51,9 +51,9 @@ returns-clause-taken g c = on_ok_weaker c.push_end.result (λ pushed lists given
     c.args.port c.args.message c.in_ok-passed.passed.items h may t c.closes-closed.ensures c.breaks-broke.ensures c.count_down-self.ensures refl c.if-self.false in
     let e = c.in_ok-take.ensures in
     let a : Answers (op.meaning me.driver.op) (op.stands new.op) (op.held new.op) new.marks.items me.driver.sent new.sent (passes_of (levels_of me.ports.items) lists) c.args.port c.in_ok-passed.passed.items given c.args.out.now.items c.take.new.out.items = e.answers passes given on.0 on.1 on.2 in (
-      a.gained ++ ending c.count_down-self.result,
-      pushed ∙ (ap (λ (ms : List Message). ms ++ ending c.count_down-self.result) a.appended ∙ append_assoc c.args.out.now.items a.gained (ending c.count_down-self.result)),
-      subst (λ (k : Meaning). StandsBetween k (op.stands new.op) c.take_on.new.ports.items new.marks.items new.sent c.count_down-self.result (me.broken || c.breaks-broke.result) (with_more lists c.args.port (c.args.message ∷ [])) (given ++ (a.gained ++ ending c.count_down-self.result))) (sym c.take.ensures.meaning)
+      a.gained ++ end_of_ports c.count_down-self.result,
+      pushed ∙ (ap (λ (ms : List Message). ms ++ end_of_ports c.count_down-self.result) a.appended ∙ append_assoc c.args.out.now.items a.gained (end_of_ports c.count_down-self.result)),
+      subst (λ (k : Meaning). StandsBetween k (op.stands new.op) c.take_on.new.ports.items new.marks.items new.sent c.count_down-self.result (me.broken || c.breaks-broke.result) (with_more lists c.args.port (c.args.message ∷ [])) (given ++ (a.gained ++ end_of_ports c.count_down-self.result))) (sym c.take.ensures.meaning)
           (takes_whole (op.meaning me.driver.op) (op.stands me.driver.op) me.ports.items c.take_on.new.ports.items me.driver.marks.items me.driver.sent me.waiting c.count_down-self.result me.broken (me.broken || c.breaks-broke.result) c.closes-closed.result c.breaks-broke.result lists given
           c.args.port c.args.message c.in_ok-passed.passed.items h may t c.closes-closed.ensures c.breaks-broke.ensures c.count_down-self.ensures refl c.if-self.false
           (op.stands new.op) (op.held new.op) new.marks.items new.sent c.args.out.now.items c.take.new.out.items a),

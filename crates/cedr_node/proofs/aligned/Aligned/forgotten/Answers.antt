@@ -1,5 +1,5 @@
 use Rattle.std.proofs.Common.{◌∙◌, sym, arith, subst}
-use Rattle.cedr_laws.specs.Lists.{list_at}
+use Rattle.node_laws.specs.Lists.{list_at}
 use Rattle.cedr_node.specs.declared.port.Port.{Port}
 use Rattle.cedr_node.specs.Standing.{PortStands}
 use Rattle.cedr_node.proofs.PortLists.{all_at, all_length}

@@ -1,6 +1,6 @@
 use Rattle.std.proofs.Common.{◌∙◌, [], sym, ap, subst, replicate}
 use Rattle.cedr_table.specs.Operators.{Meaning}
-use Rattle.cedr_drive.specs.Driving.{Drives}
+use Rattle.op_driver.specs.Driving.{Drives}
 use Rattle.cedr_node.proofs.First.{first_stands}
 use Rattle.cedr_node.proofs.aligned.Aligned.new.Goals as goal
 

@@ -1,5 +1,5 @@
 use Rattle.std.proofs.Common.{sym, subst}
-use Rattle.cedr_laws.specs.Lists.{list_at}
+use Rattle.node_laws.specs.Lists.{list_at}
 use Rattle.op_node.specs.Readings.{NodeOperator}
 use Rattle.cedr_node.specs.declared.aligned.Aligned.{Aligned}
 use Rattle.cedr_node.specs.Standing.{AllStand, IsForgottenAt}

@@ -6,8 +6,8 @@ use Rattle.cedr_source.specs.Steps.{JudgesLine}
 use Rattle.cedr_source.proofs.ReadsLemmas.{line_told, line_falls, one_less, long_told, large_told, waiting_told, closed_told}
 use Rattle.cedr_source.proofs.lines.SourceLines.take_line.Goals as goal
 
-pub returns-in-Line-clause-told : goal.returns-in-Line-clause-told
-returns-in-Line-clause-told c =
+pub returns-in-Line-clause-said : goal.returns-in-Line-clause-said
+returns-in-Line-clause-said c =
     line_told c.args.self.now _ c.next_line.new.line.items c.judge_line-judged.result c.step_of.result
     (record {
       gives = subst (λ step. Steps step c.args.self.now.lines c.next_line.new.self c.args.self.now.line.items c.next_line.new.line.items) c.in-Line.is c.in_ok-next_line.ensures.ok;
@@ -28,22 +28,22 @@ returns-in-Line-clause-falls c =
     (line_falls c.args.self.now.lines c.next_line.new.self c.next_line.new.line.items
     (subst (λ step. Steps step c.args.self.now.lines c.next_line.new.self c.args.self.now.line.items c.next_line.new.line.items) c.in-Line.is c.in_ok-next_line.ensures.ok))
 
-pub returns-in-TooLong-clause-told : goal.returns-in-TooLong-clause-told
-returns-in-TooLong-clause-told c =
+pub returns-in-TooLong-clause-said : goal.returns-in-TooLong-clause-said
+returns-in-TooLong-clause-said c =
     let steps = subst (λ step. Steps step c.args.self.now.lines c.next_line.new.self c.args.self.now.line.items c.next_line.new.line.items) c.in-TooLong.is c.in_ok-next_line.ensures.ok in
     long_told c.args.self.now _ c.refused.result c.refused.ensures (record { lines = steps.1; guard = refl; shape = refl; number = refl; room = refl; over = refl }) steps.0
 
-pub returns-in-NotYet-clause-told : goal.returns-in-NotYet-clause-told
-returns-in-NotYet-clause-told c =
+pub returns-in-NotYet-clause-said : goal.returns-in-NotYet-clause-said
+returns-in-NotYet-clause-said c =
     let steps = subst (λ step. Steps step c.args.self.now.lines c.next_line.new.self c.args.self.now.line.items c.next_line.new.line.items) c.in-NotYet.is c.in_ok-next_line.ensures.ok in
     large_told c.args.self.now _ c.refused-in-NotYet.result c.refused-in-NotYet.ensures (record { lines = steps.1; guard = refl; shape = refl; number = refl; room = refl; over = refl }) steps.0 c.if-self.true
 
-pub returns-in-NotYet-2-clause-told : goal.returns-in-NotYet-2-clause-told
-returns-in-NotYet-2-clause-told c =
+pub returns-in-NotYet-2-clause-said : goal.returns-in-NotYet-2-clause-said
+returns-in-NotYet-2-clause-said c =
     let steps = subst (λ step. Steps step c.args.self.now.lines c.next_line.new.self c.args.self.now.line.items c.next_line.new.line.items) c.in-NotYet-2.is c.in_ok-next_line.ensures.ok in
     waiting_told c.args.self.now _ (record { lines = steps.1; guard = refl; shape = refl; number = refl; room = refl; over = refl }) steps.0 c.if-self.false
 
-pub returns-in-Finished-clause-told : goal.returns-in-Finished-clause-told
-returns-in-Finished-clause-told c =
+pub returns-in-Finished-clause-said : goal.returns-in-Finished-clause-said
+returns-in-Finished-clause-said c =
     let steps = subst (λ step. Steps step c.args.self.now.lines c.next_line.new.self c.args.self.now.line.items c.next_line.new.line.items) c.in-Finished.is c.in_ok-next_line.ensures.ok in
     closed_told c.args.self.now _ (record { lines = steps.1; guard = refl; shape = refl; number = refl; room = refl; over = refl }) steps.0

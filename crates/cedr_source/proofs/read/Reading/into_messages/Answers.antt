@@ -2,7 +2,7 @@ use Rattle.std.proofs.Common.{Result, Err, Vec, sym, ap, ◌∙◌, subst}
 use Rattle.std.specs.Global.{Global}
 use Rattle.std.proofs.lemmas.Result.{err_from_is_err_and}
 use Rattle.cedr_base.specs.declared.change.Message.{Message}
-use Rattle.cedr_source.specs.declared.fault.SourceFault.{SourceFault}
+use Rattle.cedr_source.specs.declared.fault.Unread.{Unread}
 use Rattle.cedr_source.specs.Whole.{Closes}
 use Rattle.cedr_source.proofs.WholeLemmas.{all_taken, refused_end}
 use Rattle.cedr_source.proofs.read.Reading.into_messages.Goals as goal
@@ -11,7 +11,7 @@ pub returns-in_err-take_all : goal.returns-in_err-take_all
 returns-in_err-take_all c = λ shape bytes reads within.
     let took = c.in_err-take_all.ensures.took shape bytes (c.finish.ensures.reads shape bytes c.args.self.messages.items reads) in
     let p = err_from_is_err_and c.from_residual.result c.from_residual.ensures.1 in
-    subst (λ (answer : Result (Vec Message Global) SourceFault). Closes answer shape bytes) (sym (p.1 ∙ ap (λ f. Err f) p.2)) (refused_end c.in_err-take_all.field-0.0 c.take_all.new.self shape bytes took)
+    subst (λ (answer : Result (Vec Message Global) Unread). Closes answer shape bytes) (sym (p.1 ∙ ap (λ f. Err f) p.2)) (refused_end c.in_err-take_all.field-0.0 c.take_all.new.self shape bytes took)
 
 pub returns : goal.returns
 returns c = λ shape bytes reads within.

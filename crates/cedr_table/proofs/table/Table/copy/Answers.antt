@@ -3,7 +3,7 @@ use Rattle.std.proofs.lemmas.List.{take_all}
 use Rattle.cedr_base.specs.declared.row.Row.{Row}
 use Rattle.cedr_base.specs.Rows.{SameRows, in_order}
 use Rattle.cedr_base.proofs.Sorting.{in_order_counts}
-use Rattle.cedr_stream.proofs.BagSums.{same_back, same_along}
+use Rattle.change_laws.proofs.BagSums.{same_back, same_along}
 use Rattle.cedr_table.proofs.table.Table.copy.Goals as goal
 
 pub returns : goal.returns

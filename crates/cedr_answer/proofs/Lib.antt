@@ -1,3 +1,0 @@
-pub mod FindLemmas
-pub mod EndLemmas
-pub mod TextLemmas

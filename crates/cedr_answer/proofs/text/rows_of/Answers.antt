@@ -1,8 +1,0 @@
-use Rattle.std.proofs.Common.{[], List, subst, sym}
-use Rattle.cedr_base.specs.declared.row.Row.{Row}
-use Rattle.cedr_stream.specs.Repairs.{AreLegal}
-use Rattle.cedr_answer.proofs.TextLemmas.{changes_legal}
-use Rattle.cedr_answer.proofs.text.rows_of.Goals as goal
-
-pub apply_all-requires : goal.apply_all-requires
-apply_all-requires c = subst (λ (rows : List Row). AreLegal rows [] c.args.changes.now) (sym c.new-table.ensures) (changes_legal c.requires.0 c.args.changes.now c.requires.1 c.requires.2)

@@ -1,6 +1,0 @@
-use Rattle.std.proofs.Common.{◌≡◌, ◌++◌, take}
-use Rattle.cedr_serial.specs.Queries.{changes_text}
-use Rattle.cedr_answer.proofs.text.write_changes.Given as goal
-
-abbrev pub invariant-loop-change : goal.invariant-loop-change
-invariant-loop-change l = l.out.items ≡ l.initial.out.items ++ changes_text (take l.change-index l.changes)

@@ -1,9 +1,0 @@
-pub mod Roles
-pub mod Crews
-pub mod Making
-pub mod Ends
-pub mod Wents
-pub mod Closings
-pub mod Forgettings
-pub mod Sortings
-pub mod Stopping

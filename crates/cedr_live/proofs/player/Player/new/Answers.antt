@@ -1,9 +1,0 @@
-use Rattle.std.proofs.Common.{map, arith}
-use Rattle.cedr_net.specs.Flows.{no_ports}
-use Rattle.cedr_live.proofs.FeedLemmas.{first_stands}
-use Rattle.cedr_live.proofs.player.Player.new.Goals as goal
-
-pub returns : goal.returns
-returns c =
-    let nodes = c.args.plan.now.nodes.items in
-    first_stands nodes (record { guards = c.in_ok-guards.guards; net = c.in_ok-net.net }) (map no_ports nodes) (omega (arith, c.in_ok-guards.ensures.count, c.len.ensures)) c.in_ok-guards.ensures.none c.in_ok-net.ensures

@@ -1,6 +1,0 @@
-use Rattle.std.proofs.Common.{take}
-use Rattle.cedr_stream.specs.Repairs.{Leads}
-use Rattle.cedr_query.proofs.applying.apply_all.Given as goal
-
-abbrev pub invariant-loop-change : goal.invariant-loop-change
-invariant-loop-change l = Leads l.fn.table (take l.change-index l.changes) l.table

@@ -1,6 +1,0 @@
-use Rattle.std.proofs.Common.{◌≡◌, ◌++◌, take}
-use Rattle.cedr_serial.specs.Answers.{port_text}
-use Rattle.cedr_serial.proofs.answer.write_port.Given as goal
-
-abbrev pub invariant-loop-one : goal.invariant-loop-one
-invariant-loop-one l = l.out.items ≡ l.initial.out.items ++ port_text l.name l.port (take l.one-index l.forgotten)

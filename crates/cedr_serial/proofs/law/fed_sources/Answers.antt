@@ -1,8 +1,0 @@
-use Rattle.cedr_serial.proofs.RunLemmas.{fed_first, whole_run}
-use Rattle.cedr_serial.proofs.law.fed_sources.Goals as goal
-
-pub returns-clause-begins : goal.returns-clause-begins
-returns-clause-begins c = fed_first
-
-pub returns-clause-ends : goal.returns-clause-ends
-returns-clause-ends c = whole_run

@@ -1,5 +1,0 @@
-use Rattle.cedr_serial.proofs.ChangesLemmas.{leads}
-use Rattle.cedr_serial.proofs.law.streamed_changes.Goals as goal
-
-pub returns : goal.returns
-returns c = leads c.strong_passing.ensures.no_cut c.strong_passing.ensures.ascend

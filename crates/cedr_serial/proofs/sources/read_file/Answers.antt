@@ -1,9 +1,0 @@
-use Rattle.std.proofs.Common.{◌∷◌, [], ◌∙◌}
-use Rattle.cedr_serial.proofs.SourceLemmas.{asked_all, known_answer}
-use Rattle.cedr_serial.proofs.sources.read_file.Goals as goal
-
-pub returns-clause-asked : goal.returns-clause-asked
-returns-clause-asked g c = asked_all c.read_messages-messages.result _ _ (c.args.name.now ∷ []) (c.give_back.ensures.asked ∙ c.in-Ok.ensures.asked)
-
-pub returns-clause-answer : goal.returns-clause-answer
-returns-clause-answer g c = known_answer c.read_messages-messages.result c.in_ok-shape.shape c.args.types.now _ _ c.in-Ok.ensures.found c.in_ok-shape.ensures c.read_messages-messages.ensures.answer

@@ -1,4 +1,0 @@
-pub mod Feeding
-pub mod Answers
-pub mod Sources
-pub mod Queries

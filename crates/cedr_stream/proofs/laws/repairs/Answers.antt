@@ -1,8 +1,0 @@
-use Rattle.cedr_stream.proofs.Legal.{legal_repaired, table_repaired}
-use Rattle.cedr_stream.proofs.laws.repairs.Goals as goal
-
-pub returns-clause-legal : goal.returns-clause-legal
-returns-clause-legal c = legal_repaired
-
-pub returns-clause-table : goal.returns-clause-table
-returns-clause-table c = table_repaired

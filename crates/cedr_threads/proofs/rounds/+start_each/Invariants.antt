@@ -1,5 +1,0 @@
-use Rattle.std.proofs.Common.{length}
-use Rattle.cedr_threads.proofs.rounds.+start_each.Given as goal
-
-abbrev pub decreases-start_each : goal.decreases-start_each
-decreases-start_each g l = length l.workers.items

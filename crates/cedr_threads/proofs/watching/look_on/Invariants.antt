@@ -1,8 +1,0 @@
-use Rattle.cedr_threads.specs.Watching.{ReadsOn, Watches}
-use Rattle.cedr_threads.proofs.watching.look_on.Given as goal
-
-abbrev pub invariant-loop : goal.invariant-loop
-invariant-loop g l = record {
-  reads : ReadsOn l.initial.reader l.reader;
-  watches : Watches (g.W.Watcher.stands l.start.value) l.watcher l.out l.reader;
-}

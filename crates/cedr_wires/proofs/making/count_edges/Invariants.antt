@@ -1,6 +1,0 @@
-use Rattle.std.proofs.Common.{◌≡◌, length, take}
-use Rattle.cedr_wires.specs.Wires.{froms}
-use Rattle.cedr_wires.proofs.making.count_edges.Given as goal
-
-abbrev pub invariant-loop-node : goal.invariant-loop-node
-invariant-loop-node l = l.count ≡ length (froms (take l.node-index l.nodes))

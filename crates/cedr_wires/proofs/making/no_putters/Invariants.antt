@@ -1,5 +1,0 @@
-use Rattle.std.proofs.Common.{◌≡◌, [], replicate}
-use Rattle.cedr_wires.proofs.making.no_putters.Given as goal
-
-abbrev pub invariant-loop : goal.invariant-loop
-invariant-loop l = l.putters.items ≡ replicate l.counter []

@@ -1,0 +1,168 @@
+-- A network to which the messages of accepted lines are fed.
+use Rattle.std.proofs.Common.{◌≡◌, ◌≢◌, ◌⊎◌, inl, inr, ℕ, zero, suc, ◌<◌, List, [], ◌∷◌, ◌++◌, length, set, get_or, Result, Err, refl, ap, sym, ◌∙◌, subst, arith, append-nil, get_or-set_same, get_or-set_other}
+use Rattle.std.specs.Prelude.{map, replicate}
+use Rattle.std.proofs.lemmas.List.{length-set}
+use Rattle.cedr_base.specs.declared.change.Message.{Message}
+use Rattle.cedr_base.specs.Messages.{IsLegal}
+use Rattle.cedr_guard.specs.declared.fault.GuardFault.{GuardFault}
+use Rattle.cedr_guard.specs.declared.fault.GuardFault.TheVariants as guard_fault
+use Rattle.cedr_guard.specs.declared.guard.Guard.{Guard}
+use Rattle.cedr_guard.specs.Messages.{messages_behind}
+use Rattle.cedr_guard.specs.Standing.{Guards}
+use Rattle.cedr_guard.proofs.MessageLemmas.{accepted_messages}
+use Rattle.node_laws.specs.Lists.{Lists, list_at, with_more}
+use Rattle.cedr_net.specs.declared.net.SerialNet.{SerialNet}
+use Rattle.cedr_net.specs.Edges.{NothingWaits, lists_joined}
+use Rattle.cedr_net.specs.Flows.{IsSourceAt, reads_of}
+use Rattle.cedr_net.specs.Networks.{NetStands, HasSettled, waiting_at}
+use Rattle.cedr_net.proofs.FlowLemmas.{same_or_not}
+use Rattle.node_laws.proofs.ListLemmas.{at_more_other, at_more}
+use Rattle.cedr_net.proofs.SettleLemmas.{grow_none, grow_along, grow_more}
+use Rattle.cedr_plan.specs.declared.plan.PlanNode.{PlanNode}
+use Rattle.plan_runs.specs.Runs.{lists_at}
+use Rattle.cedr_source.specs.Steps.{JudgesLine}
+use Rattle.cedr_text.specs.declared.event_line.EventLine.{EventLine}
+use Rattle.cedr_text.specs.declared.fault.LineFault.{LineFault}
+use Rattle.plan_live.specs.declared.player.Player.{Player}
+use Rattle.plan_live.specs.Scripts.{Accepted, lines_at, no_lines, with_lines}
+use Rattle.plan_live.specs.Playing.{IsSettledNet, IsFedOn, PlaysStand, PlaysLine}
+use Rattle.cedr_net.proofs.NewLemmas.{no_list}
+
+-- ---- one source gave more
+
+-- where there is no message all is as before
+at_none : (given : Lists) (place k : ℕ) → place < length given → list_at (with_more given place []) k ≡ list_at given k
+at_none given place k within = at (same_or_not k place) where
+  at : (k ≡ place) ⊎ (k ≢ place) → list_at (with_more given place []) k ≡ list_at given k
+  at (inl e) = ap (list_at (with_more given place [])) e ∙ (at_more given place [] within ∙ (append-nil (list_at given place) ∙ ap (list_at given) (sym e)))
+  at (inr ne) = at_more_other given place k [] ne
+
+-- a settled network has a list for each node of what it gave
+pub given_count : (nodes : List PlanNode) (net : SerialNet) (given : Lists) → IsSettledNet nodes net given → length given ≡ length nodes
+given_count nodes net given s = s.stands.stands.flows.given_count
+
+-- a network that was fed nothing
+pub fed_none : (nodes : List PlanNode) (net : SerialNet) (given : Lists) (place : ℕ) → IsSettledNet nodes net given → place < length nodes → IsFedOn nodes net given place []
+fed_none nodes net given place s within = record {
+  given' = given;
+  settled = s;
+  sources = λ k source. sym (at_none given place k (omega (arith, given_count nodes net given s, within)));
+  grow = grow_none given;
+}
+
+-- one that was fed a message and settled
+pub fed_settled : (nodes : List PlanNode) (net : SerialNet) (given : Lists) (place : ℕ) (m : Message) → length given ≡ length nodes → place < length nodes → HasSettled nodes net (with_more given place (m ∷ [])) → IsFedOn nodes net given place (m ∷ [])
+fed_settled nodes net given place m count within s = record {
+  given' = s.given';
+  settled = record { ports = s.ports; stands = s.stands; empty = s.empty };
+  sources = s.sources;
+  grow = grow_along given (with_more given place (m ∷ [])) s.given' (grow_more given place (m ∷ []) (omega (arith, count, within))) s.grow;
+}
+
+-- ---- a line was accepted
+
+-- a fault of the line
+pub fault_passes : (fault : GuardFault) (nodes : List PlanNode) (player : Player) (shown : Lists) (guard : Guard) (before : Accepted) (place : ℕ) (now : Result (List EventLine) LineFault)
+    → JudgesLine (Err fault) guard (lines_at before place) now → PlaysLine (Err fault) nodes player shown (with_lines before place now)
+fault_passes (guard_fault.Line fault) nodes player shown guard before place now h = ap (with_lines before place) h
+fault_passes guard_fault.OutOfMemory nodes player shown guard before place now h = tt
+
+-- the messages of lines that a guard stands for are legal
+pub legal_more : (given ms : List Message) (before lines : List EventLine) (guard : Guard) → given ≡ messages_behind [] before → Guards guard lines → messages_behind [] lines ≡ messages_behind [] before ++ ms → IsLegal (given ++ ms)
+legal_more given ms before lines guard gave stands more =
+    subst IsLegal (more ∙ ap (λ (xs : List Message). xs ++ ms) (sym gave)) (accepted_messages lines stands.accepted).legal
+
+-- one line more of the source at a place
+module _ (nodes : List PlanNode) (old new : Player) (before : Accepted) (shown : Lists) (place : ℕ) (p : PlaysStand nodes old before shown) (within : place < length nodes) (lines : List EventLine) (ms : List Message) (guard : Guard)
+    (set_to : new.guards.items ≡ set old.guards.items place guard) (stands : Guards guard lines) (more : messages_behind [] lines ≡ messages_behind [] (lines_at before place) ++ ms) (fed : IsFedOn nodes new.net p.given place ms) where
+  abbrev now : Accepted
+  now = set before place lines
+
+  lines_here : lines_at now place ≡ lines
+  lines_here = get_or-set_same before place lines [] (omega (arith, p.lines_count, within))
+
+  lines_other : (k : ℕ) → k ≢ place → lines_at now k ≡ lines_at before k
+  lines_other k ne = get_or-set_other before place k lines [] ne
+
+  guards_now : (k : ℕ) (d : Guard) → k < length nodes → (k ≡ place) ⊎ (k ≢ place) → Guards (get_or (set old.guards.items place guard) k d) (lines_at now k)
+  guards_now k d inside (inl e) =
+      subst (λ (j : ℕ). Guards (get_or (set old.guards.items place guard) j d) (lines_at now j)) (sym e)
+      (subst (λ (g : Guard). Guards g (lines_at now place)) (sym (get_or-set_same old.guards.items place guard d (omega (arith, p.guards_count, within)))) (subst (Guards guard) (sym lines_here) stands))
+  guards_now k d inside (inr ne) =
+      subst (λ (g : Guard). Guards g (lines_at now k)) (sym (get_or-set_other old.guards.items place k guard d ne)) (subst (Guards (get_or old.guards.items k d)) (sym (lines_other k ne)) (p.guards k d inside))
+
+  sources_now : (k : ℕ) → k < length nodes → IsSourceAt nodes k → (k ≡ place) ⊎ (k ≢ place) → list_at (with_more p.given place ms) k ≡ messages_behind [] (lines_at now k)
+  sources_now k inside source (inl e) =
+      ap (list_at (with_more p.given place ms)) e
+      ∙ (at_more p.given place ms (omega (arith, given_count nodes old.net p.given p.settled, within))
+      ∙ (ap (λ (xs : List Message). xs ++ ms) (p.sources place within (subst (IsSourceAt nodes) e source))
+      ∙ (sym more ∙ ap (messages_behind []) (sym (ap (lines_at now) e ∙ lines_here)))))
+  sources_now k inside source (inr ne) =
+      at_more_other p.given place k ms ne ∙ (p.sources k inside source ∙ ap (messages_behind []) (sym (lines_other k ne)))
+
+  pub stands_on : PlaysStand nodes new now shown
+  stands_on = record {
+    lines_count = length-set before place lines ∙ p.lines_count;
+    guards_count = ap (λ (gs : List Guard). length gs) set_to ∙ (length-set old.guards.items place guard ∙ p.guards_count);
+    guards = λ k d inside. subst (λ (gs : List Guard). Guards (get_or gs k d) (lines_at now k)) (sym set_to) (guards_now k d inside (same_or_not k place));
+    given = fed.given';
+    settled = fed.settled;
+    sources = λ k inside source. fed.sources k source ∙ sources_now k inside source (same_or_not k place);
+    grow = grow_along shown p.given fed.given' p.grow fed.grow;
+  }
+
+-- ---- no line was accepted
+
+no_line : (nodes : List PlanNode) (k : ℕ) → lines_at (no_lines nodes) k ≡ []
+no_line [] k = refl
+no_line (n ∷ nodes) zero = refl
+no_line (n ∷ nodes) (suc k) = no_line nodes k
+
+no_lines_count : (nodes : List PlanNode) → length (no_lines nodes) ≡ length nodes
+no_lines_count [] = refl
+no_lines_count (n ∷ nodes) = ap (λ (k : ℕ). suc k) (no_lines_count nodes)
+
+append_none : (l q : List Message) → l ++ q ≡ [] → q ≡ []
+append_none [] q e = e
+append_none (m ∷ l) q e = absurd (let x = e in cc)
+
+none_joined : (ls qs : Lists) → length ls ≡ length qs → ((k : ℕ) → list_at (lists_joined ls qs) k ≡ []) → NothingWaits qs
+none_joined [] [] wide none k = refl
+none_joined [] (q ∷ qs) wide none k = absurd (omega arith)
+none_joined (l ∷ ls) [] wide none k = absurd (omega arith)
+none_joined (l ∷ ls) (q ∷ qs) wide none zero = append_none l q (none 0)
+none_joined (l ∷ ls) (q ∷ qs) wide none (suc k) = none_joined ls qs (omega arith) (λ j. none (suc j)) k
+
+none_read : (given : Lists) (inputs : List ℕ) → ((k : ℕ) → list_at given k ≡ []) → (k : ℕ) → list_at (map (list_at given) inputs) k ≡ []
+none_read given [] none k = refl
+none_read given (i ∷ inputs) none zero = none i
+none_read given (i ∷ inputs) none (suc k) = none_read given inputs none k
+
+-- where no node gave anything no message waits
+nothing_waits : (nodes : List PlanNode) (net : SerialNet) (ports : List Lists) (given : Lists) → NetStands nodes net ports given → ((k : ℕ) → list_at given k ≡ []) → (k : ℕ) → NothingWaits (waiting_at net k)
+nothing_waits nodes net ports given h none k =
+    let flows = h.stands.flows in
+    none_joined (lists_at ports k) (waiting_at net k) (flows.widths k) (λ j. ap (λ (ls : Lists). list_at ls j) (flows.edges k) ∙ none_read given (get_or (reads_of nodes) k []) none j)
+
+-- a player of a new network
+pub first_stands : (nodes : List PlanNode) (player : Player) (ports : List Lists) → length player.guards.items ≡ length nodes → ((k : ℕ) (d : Guard) → k < length player.guards.items → Guards (get_or player.guards.items k d) [])
+    → NetStands nodes player.net ports (replicate (length nodes) []) → PlaysStand nodes player (no_lines nodes) []
+first_stands nodes player ports count guards stands =
+    let given : Lists = replicate (length nodes) [] in
+    let none : (k : ℕ) → list_at given k ≡ [] = no_list (length nodes) in
+    record {
+      lines_count = no_lines_count nodes;
+      guards_count = count;
+      guards = λ k d within. subst (Guards (get_or player.guards.items k d)) (sym (no_line nodes k)) (guards k d (omega (arith, count, within)));
+      given = given;
+      settled = record { ports = ports; stands = stands; empty = λ k within. nothing_waits nodes player.net ports given stands none k };
+      sources = λ k within source. none k ∙ ap (messages_behind []) (sym (no_line nodes k));
+      grow = record { grows = λ k. (list_at given k, refl) };
+    }
+
+-- one guard more that stands for no line, where the others stand for none
+pub guards_push : (guards : List Guard) (guard : Guard) → ((k : ℕ) (d : Guard) → k < length guards → Guards (get_or guards k d) []) → Guards guard [] → (k : ℕ) (d : Guard) → k < length (guards ++ guard ∷ []) → Guards (get_or (guards ++ guard ∷ []) k d) []
+guards_push [] guard all one zero d within = one
+guards_push [] guard all one (suc k) d within = absurd (omega arith)
+guards_push (g ∷ guards) guard all one zero d within = all 0 d (omega arith)
+guards_push (g ∷ guards) guard all one (suc k) d within = guards_push guards guard (λ j e inside. all (suc j) e (omega arith)) one k d (omega arith)

@@ -1,0 +1,39 @@
+ghost use Rattle.std.specs.Prelude.{◌≡◌, MatchOption, None, Some};
+ghost use Rattle.std.specs.List.{position};
+ghost use Rattle.cedr_plan.specs.declared.plan.PlanNode.{PlanNode};
+ghost use Rattle.plan_live.specs.Scripts.{cut_at_comma, is_question};
+ghost use Rattle.plan_live.specs.Playing.{is_source_named};
+
+use cedr_plan::PlanNode;
+use memchr::memchr;
+use op_node::is_source;
+
+/// Whether a line asks for the rows.
+pub(crate) fn is_question(line: &[u8]) -> bool
+    ensures { result ≡ is_question line.now }
+{
+    line == b"?".as_slice()
+}
+
+/// What stands before the first comma of a line, and what stands after it.
+pub(crate) fn cut_at_comma(line: &[u8]) -> Option<(&[u8], &[u8])>
+    ensures { MatchOption result (cut_at_comma line.now ≡ None) (λ cut. cut_at_comma line.now ≡ Some (cut.0.now, cut.1.now)) }
+{
+    match memchr(b',', line) {
+        Some(at) => Some((&line[..at], &line[at + 1..])),
+        None => None,
+    }
+}
+
+fn is_named(node: &PlanNode, name: &[u8]) -> bool
+    ensures { result ≡ is_source_named node.now name.now }
+{
+    is_source(&node.kind) && node.name.bytes() == name
+}
+
+/// The place of the first source of a name.
+pub(crate) fn find_source(nodes: &[PlanNode], name: &[u8]) -> Option<usize>
+    ensures { result ≡ position (λ (node : PlanNode). is_source_named node name.now) nodes.now }
+{
+    nodes.iter().position(|node| is_named(node, name))
+}

@@ -1,0 +1,215 @@
+ghost use Rattle.std.specs.Prelude.{ℕ, ◌≡◌, ◌<◌, ◌++◌, [], List, IfOk, OnOk, length, slice_index_or};
+ghost use Rattle.cedr_base.specs.Messages.{IsLegal};
+ghost use Rattle.cedr_guard.specs.Sources.{with_reading};
+ghost use Rattle.cedr_guard.specs.Standing.{Guards, message_list};
+ghost use Rattle.cedr_io.specs.Counts.{Counts};
+ghost use Rattle.node_laws.specs.Lists.{Lists, list_at};
+ghost use Rattle.cedr_net.specs.Flows.{IsSourceAt};
+ghost use Rattle.cedr_net.specs.Networks.{NetStands, HasSettled};
+ghost use Rattle.cedr_plan.specs.Rules.{IsPlan};
+ghost use Rattle.cedr_plan.specs.declared.plan.PlanNode.{PlanNode};
+ghost use Rattle.cedr_text.specs.Reading.{reading};
+ghost use Rattle.cedr_text.specs.declared.event_line.EventLine.{EventLine};
+ghost use Rattle.cedr_text.specs.declared.event_line.Shape.TheVariants.{AnyText};
+ghost use Rattle.plan_live.specs.Scripts.{Accepted, ShapesHaveTypes, lines_at, no_lines, with_lines, with_line};
+ghost use Rattle.plan_live.specs.Shown.{reach_text};
+ghost use Rattle.plan_live.specs.Playing.{PlaysStand, JudgesAt, IsSettledNet, IsFedOn, IsShownText, PlaysLine, Shows, TakesStep, step_of};
+
+use crate::line::{cut_at_comma, find_source, is_question};
+use cedr_base::{Message, OutOfMemory, Time};
+use cedr_guard::{Guard, GuardFault};
+use cedr_io::{OutsideFault, Sink, write_all};
+use cedr_net::SerialNet;
+use cedr_plan::{Plan, PlanNode};
+use cedr_source::judge_line;
+use cedr_text::{LINE_LIMIT, LineFault, Shape, without_return, write_rows, write_time};
+use std::alloc::Global;
+
+/// The shape of each node of a plan. That of a source has its types.
+pub(crate) fn shapes_of(alloc: Global, nodes: &[PlanNode]) -> Result<Vec<Shape>, OutOfMemory>
+    ensures { IfOk result (λ shapes. ShapesHaveTypes nodes.now shapes.items) }
+{
+    let mut shapes = Vec::new(alloc);
+    for node in nodes {
+        let types = Vec::from_slice(alloc, node.types.as_slice())?;
+        shapes.push(Shape::Fields(types))?;
+    }
+    Ok(shapes)
+}
+
+fn guards_of(alloc: Global, count: usize) -> Result<Vec<Guard>, OutOfMemory>
+    ensures count { IfOk result (λ guards. length guards.items ≡ count) }
+    ensures none { IfOk result (λ guards. (k : ℕ) (d : Guard) → k < length guards.items → Guards (slice_index_or guards.items k d) []) }
+{
+    let mut guards = Vec::new(alloc);
+    for _ in 0..count {
+        guards.push(Guard::new(alloc))?;
+    }
+    Ok(guards)
+}
+
+/// Judges an event line of the source at a place.
+fn judge_at(
+    alloc: Global,
+    guards: &mut Vec<Guard>,
+    place: usize,
+    shape: &Shape,
+    line: &[u8],
+) -> Result<Option<Message>, GuardFault>
+    requires { place < length guards.old.items }
+    ensures { JudgesAt result guards.old.items guards.new.items place (reading shape.now line.now) }
+{
+    judge_line(alloc, &mut guards[place], shape, line)
+}
+
+fn settle(alloc: Global, net: &mut SerialNet) -> Result<(), OutOfMemory>
+    requires { (nodes : List PlanNode) × (ports : List Lists) × (given : Lists) × NetStands nodes net.old ports given }
+    ensures { OnOk result ((nodes : List PlanNode) (ports : List Lists) (given : Lists) → NetStands nodes net.old ports given → HasSettled nodes net.new given) }
+{
+    match net.settle(alloc) {
+        Ok(()) => Ok(()),
+        Err(_) => Err(OutOfMemory),
+    }
+}
+
+/// Feeds the message of a source, where there is one, and then the network settles.
+fn feed_on(
+    alloc: Global,
+    net: &mut SerialNet,
+    place: usize,
+    message: Option<Message>,
+) -> Result<(), OutOfMemory>
+    requires { (nodes : List PlanNode) × (given : Lists) × IsSettledNet nodes net.old given × (place < length nodes) × IsSourceAt nodes place × IsLegal (list_at given place ++ message_list message) }
+    ensures { OnOk result ((nodes : List PlanNode) (given : Lists) → IsSettledNet nodes net.old given → place < length nodes → IsSourceAt nodes place → IsLegal (list_at given place ++ message_list message) → IsFedOn nodes net.new given place (message_list message)) }
+{
+    let Some(message) = message else {
+        return Ok(());
+    };
+    match net.feed(alloc, place, message) {
+        Ok(()) => settle(alloc, net),
+        Err(_) => Err(OutOfMemory),
+    }
+}
+
+/// `. ` and the reach, as a line.
+fn write_reach(reach: Time, out: &mut Vec<u8>) -> Result<(), OutOfMemory>
+    ensures { OnOk result (out.new.items ≡ out.old.items ++ reach_text reach) }
+{
+    out.extend_from_slice(b". ")?;
+    write_time(reach, out)?;
+    out.push(b'\n')?;
+    Ok(())
+}
+
+/// The rows of the output in canonical order, and the reach.
+fn shown_text(alloc: Global, net: &SerialNet) -> Result<Vec<u8>, OutOfMemory>
+    ensures { IfOk result (λ text. (nodes : List PlanNode) (ports : List Lists) (given : Lists) → NetStands nodes net.now ports given → IsShownText nodes ports given text.items) }
+{
+    let rows = net.answer().canonical()?;
+    let mut text = Vec::new(alloc);
+    write_rows(rows.as_slice(), &mut text)?;
+    write_reach(net.reach(), &mut text)?;
+    Ok(text)
+}
+
+/// A network to which the messages of a script's lines are fed, and a guard for each node. No message waits in it.
+#[derive(Drop)]
+pub(crate) struct Player {
+    guards: Vec<Guard>,
+    net: SerialNet,
+}
+
+impl Player {
+    /// No line was accepted.
+    pub(crate) fn new(alloc: Global, plan: &Plan) -> Result<Player, OutOfMemory>
+        requires { IsPlan plan.now }
+        ensures { IfOk result (λ player. PlaysStand plan.now.nodes.items player (no_lines plan.now.nodes.items) []) }
+    {
+        let guards = guards_of(alloc, plan.nodes.len())?;
+        let net = SerialNet::of_table(alloc, plan)?;
+        Ok(Player { guards, net })
+    }
+
+    /// An event line of the source at a place: its message goes over the network.
+    fn take_event(
+        &mut self,
+        alloc: Global,
+        shapes: &[Shape],
+        place: usize,
+        line: &[u8],
+    ) -> Result<(), GuardFault>
+        requires shape { place < length shapes.now }
+        requires stands { (nodes : List PlanNode) × (before : Accepted) × (shown : Lists) × PlaysStand nodes self.old before shown × (place < length nodes) × IsSourceAt nodes place }
+        ensures { (nodes : List PlanNode) (before : Accepted) (shown : Lists) → PlaysStand nodes self.old before shown → place < length nodes → IsSourceAt nodes place → PlaysLine result nodes self.new shown (with_lines before place (with_reading (lines_at before place) (reading (slice_index_or shapes.now place AnyText) line.now))) }
+    {
+        let message = judge_at(alloc, &mut self.guards, place, &shapes[place], line)?;
+        feed_on(alloc, &mut self.net, place, message)?;
+        Ok(())
+    }
+
+    /// A line that isn't `?`, without its line feed and the carriage return before that.
+    fn take_line(
+        &mut self,
+        alloc: Global,
+        nodes: &[PlanNode],
+        shapes: &[Shape],
+        line: &[u8],
+    ) -> Result<(), GuardFault>
+        requires stands { (before : Accepted) × (shown : Lists) × PlaysStand nodes.now self.old before shown }
+        requires types { ShapesHaveTypes nodes.now shapes.now }
+        ensures { (before : Accepted) (shown : Lists) → PlaysStand nodes.now self.old before shown → PlaysLine result nodes.now self.new shown (with_line nodes.now shapes.now before line.now) }
+    {
+        if line.is_empty() {
+            return Ok(());
+        }
+        let Some((name, event)) = cut_at_comma(line) else {
+            return Err(GuardFault::Line(LineFault::BadForm));
+        };
+        let Some(place) = find_source(nodes, name) else {
+            return Err(GuardFault::Line(LineFault::BadForm));
+        };
+        if event.is_empty() {
+            return Err(GuardFault::Line(LineFault::BadForm));
+        }
+        self.take_event(alloc, shapes, place, event)
+    }
+
+    /// Writes the rows of the output and the reach.
+    fn show<K: Sink>(&self, alloc: Global, out: &mut K) -> Result<(), OutsideFault>
+        ensures shown { (nodes : List PlanNode) (before : Accepted) (shown : Lists) → PlaysStand nodes self.now before shown → Shows result nodes self.now before shown (K.written out.old) (K.written out.new) }
+        ensures counted { Counts result (K.faults out.old) (K.faults out.new) }
+    {
+        let text = shown_text(alloc, &self.net)?;
+        write_all(out, text.as_slice())
+    }
+
+    /// Takes the next line of a script, without its line feed, and answers its fault if it has one. At `?` it writes the rows
+    /// of the output and the reach.
+    pub(crate) fn take<K: Sink>(
+        &mut self,
+        alloc: Global,
+        nodes: &[PlanNode],
+        shapes: &[Shape],
+        line: &[u8],
+        out: &mut K,
+    ) -> Result<Option<LineFault>, OutsideFault>
+        requires stands { (before : Accepted) × (shown : Lists) × PlaysStand nodes.now self.old before shown }
+        requires types { ShapesHaveTypes nodes.now shapes.now }
+        ensures taken { (before : Accepted) (shown : Lists) → PlaysStand nodes.now self.old before shown → TakesStep result nodes.now self.new before shown (step_of nodes.now shapes.now before line.now) (K.written out.old) (K.written out.new) }
+        ensures counted { Counts result (K.faults out.old) (K.faults out.new) }
+    {
+        if line.len() > LINE_LIMIT {
+            return Ok(Some(LineFault::LineTooLong));
+        }
+        let line = without_return(line);
+        if is_question(line) {
+            self.show(alloc, out)?;
+            return Ok(None);
+        }
+        match self.take_line(alloc, nodes, shapes, line) {
+            Ok(()) => Ok(None),
+            Err(GuardFault::Line(fault)) => Ok(Some(fault)),
+            Err(GuardFault::OutOfMemory) => Err(OutsideFault::OutOfMemory),
+        }
+    }
+}

@@ -1,0 +1,11 @@
+pub mod EachNode
+pub mod PlanNodes
+pub mod Ports
+pub mod First
+pub mod NodeFits
+pub mod Closed
+pub mod Remembered
+pub mod Going
+pub mod Output
+pub mod Partial
+pub mod SourceLists

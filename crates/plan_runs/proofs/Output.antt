@@ -1,0 +1,137 @@
+-- What is made of the output, where all nodes before it are middle.
+use Rattle.std.proofs.Common.{◌≡◌, ℕ, ◌+◌, ◌<◌, List, [], ◌∷◌, ◌++◌, Bool, true, false, cond, length, replicate, get_or, refl, ap, subst, sym, ◌∙◌, arith, append_assoc}
+use Rattle.std.specs.Prelude.{map, All, None, nat_lt}
+use Rattle.std.specs.List.{filter}
+use Rattle.std.proofs.lemmas.List.{append-nil, length-append, get_or_append_left}
+use Rattle.std.proofs.lemmas.List.Elements.{All-head}
+use Rattle.cedr_base.specs.declared.row.Row.{Row}
+use Rattle.cedr_base.specs.Messages.{IsTableOf, mark_of}
+use Rattle.change_laws.proofs.BagSums.{same_back}
+use Rattle.cedr_table.specs.Operators.{Tables, Meaning, table_at, mark_at}
+use Rattle.cedr_plan.specs.declared.plan.NodeKind.{NodeKind}
+use Rattle.cedr_plan.specs.declared.plan.NodeKind.TheVariants as kind
+use Rattle.cedr_plan.specs.declared.plan.PlanNode.{PlanNode}
+use Rattle.cedr_plan.specs.Drawn.{node_of}
+use Rattle.cedr_plan.specs.Rules.{AreNodes}
+use Rattle.node_laws.specs.Lists.{Lists, list_at, AreTables}
+use Rattle.node_laws.specs.Pass.{passed_table}
+use Rattle.node_laws.specs.Lawful.{tables_of}
+use Rattle.node_laws.proofs.Passes.{table_alike}
+use Rattle.cedr_query.specs.Queries.{is_output, source_count, each_node, node_table, node_mark, query, reaches}
+use Rattle.cedr_query.proofs.NodeLemmas.{inputs_are}
+use Rattle.op_node.specs.Meanings.{node_meaning, meaning_of, port_levels}
+use Rattle.op_node.specs.Outputs.{handed_on}
+use Rattle.op_node.specs.Ready.{is_source, IsReady}
+use Rattle.op_node.specs.ReadyLaws.{node_ready}
+use Rattle.plan_runs.specs.Middle.{IsGoing, AllGoing, AreMiddle, AreMarks}
+use Rattle.plan_runs.specs.Runs.{input_lists, IsRun}
+use Rattle.plan_runs.proofs.EachNode.{get_or-last}
+use Rattle.plan_runs.proofs.Going.{going_table, going_list, going_mark, strong_passed}
+use Rattle.plan_runs.proofs.NodeFits.{all_unbroken, node_fits}
+use Rattle.plan_runs.proofs.PlanNodes.{node_stands, place_within}
+
+-- a kind that is that of an output is `Output`
+pub output_kind : (k : NodeKind) → is_output k ≡ true → k ≡ kind.Output
+output_kind kind.Output e = refl
+output_kind other e = absurd (cc e)
+
+module _ {X : Type 0} (make : List PlanNode → List X → PlanNode → X) (d : X) where
+  each_append : (bs : List PlanNode) (done : List X) (xs ys : List PlanNode) → each_node make bs done (xs ++ ys) ≡ each_node make (bs ++ xs) (each_node make bs done xs) ys
+  each_append bs done [] ys = ap (λ (b : List PlanNode). each_node make b done ys) (sym (append-nil bs))
+  each_append bs done (x ∷ xs) ys =
+      each_append (bs ++ x ∷ []) (done ++ make bs done x ∷ []) xs ys
+      ∙ ap (λ (b : List PlanNode). each_node make b (each_node make (bs ++ x ∷ []) (done ++ make bs done x ∷ []) xs) ys) (append_assoc bs (x ∷ []) xs)
+
+  each_keeps : (bs : List PlanNode) (done : List X) (ys : List PlanNode) (k : ℕ) → k < length done → get_or (each_node make bs done ys) k d ≡ get_or done k d
+  each_keeps bs done [] k within = refl
+  each_keeps bs done (y ∷ ys) k within =
+      each_keeps (bs ++ y ∷ []) (done ++ make bs done y ∷ []) ys k (omega (arith, within, length-append done (make bs done y ∷ []))) ∙ get_or_append_left done (make bs done y ∷ []) d k within
+
+  each_length : (bs : List PlanNode) (done : List X) (ys : List PlanNode) → length (each_node make bs done ys) ≡ length done + length ys
+  each_length bs done [] = omega arith
+  each_length bs done (y ∷ ys) = omega (arith, each_length (bs ++ y ∷ []) (done ++ make bs done y ∷ []) ys, length-append done (make bs done y ∷ []))
+
+  -- the value of a node is made of those before it
+  pub each_at : (nodes before after : List PlanNode) (n : PlanNode) → nodes ≡ before ++ n ∷ after → get_or (each_node make [] [] nodes) (length before) d ≡ make before (each_node make [] [] before) n
+  each_at nodes before after n whole =
+      let made = each_node make [] [] before in
+      let len = each_length [] [] before in
+      ap (λ (ns : List PlanNode). get_or (each_node make [] [] ns) (length before) d) whole
+      ∙ (ap (λ (xs : List X). get_or xs (length before) d) (each_append [] [] before (n ∷ after))
+      ∙ (each_keeps (before ++ n ∷ []) (each_node make [] [] before ++ make before (each_node make [] [] before) n ∷ []) after (length before) (omega (arith, len, length-append made (make before made n ∷ [])))
+      ∙ get_or-last made (make before made n) d (length before) (omega (arith, len))))
+
+  -- and the values before it are as they were
+  pub each_before : (nodes before after : List PlanNode) (n : PlanNode) (k : ℕ) → nodes ≡ before ++ n ∷ after → k < length before → get_or (each_node make [] [] nodes) k d ≡ get_or (each_node make [] [] before) k d
+  each_before nodes before after n k whole within =
+      ap (λ (ns : List PlanNode). get_or (each_node make [] [] ns) k d) whole
+      ∙ (ap (λ (xs : List X). get_or xs k d) (each_append [] [] before (n ∷ after)) ∙ each_keeps before (each_node make [] [] before) (n ∷ after) k (omega (arith, within, each_length [] [] before)))
+
+-- a list of one place is that place
+pub one_input : (xs : List ℕ) → length xs ≡ 1 → (i : ℕ) × (xs ≡ i ∷ [])
+one_input [] h = absurd (omega arith)
+one_input (x ∷ []) h = (x, refl)
+one_input (x ∷ (y ∷ xs)) h = absurd (omega arith)
+
+not_source : {X : Type 0} (b : Bool) (x y : X) → b ≡ false → cond b x y ≡ y
+not_source true x y e = cc
+not_source false x y e = refl
+
+module _ (nodes : List PlanNode) (sources : Lists) (tables : Tables) (marks : List ℕ) (ports : List Lists) (given : Lists) (are : AreNodes [] (map node_of nodes)) (run : IsRun nodes sources ports given)
+    (all_going : AllGoing (source_count nodes) sources) (are_tables : AreTables sources tables) (are_marks : AreMarks (source_count nodes) sources marks)
+    (before after : List PlanNode) (n : PlanNode) (whole : nodes ≡ before ++ n ∷ after) (middle : AreMiddle (length before) nodes) (out : n.kind ≡ kind.Output) where
+  isnt : is_source n.kind ≡ false
+  isnt = ap is_source out
+
+  pub input : (i : ℕ) × (n.inputs.items ≡ i ∷ [])
+  input = one_input n.inputs.items (subst (λ (k : NodeKind). IsReady k (length n.inputs.items)) out (node_ready (map node_of before) n (node_stands nodes before after n are whole) isnt))
+
+  meaning_is : meaning_of n ≡ handed_on
+  meaning_is = ap (λ (k : NodeKind). node_meaning k (length n.inputs.items)) out
+
+  earlier : input.0 < length before
+  earlier = All-head (λ (place : ℕ). place < length before) input.0 [] (subst (All (λ (place : ℕ). place < length before)) input.1 (inputs_are before n (node_stands nodes before after n are whole)))
+
+  inside : input.0 < length nodes
+  inside = let e = earlier in let w = place_within nodes before after n whole in omega arith
+
+  -- the output's query is that of the node that it reads
+  query_same : table_at (query tables nodes) (length before) ≡ table_at (query tables nodes) input.0
+  query_same =
+      let done = query tables before in
+      each_at (node_table tables) [] nodes before after n whole
+      ∙ (not_source (is_source n.kind) (table_at tables (source_count before)) ((meaning_of n).result (map (table_at (query tables before)) n.inputs.items)) isnt
+      ∙ (ap (λ (m : Meaning). m.result (map (table_at (query tables before)) n.inputs.items)) meaning_is
+      ∙ (ap (λ (xs : List ℕ). table_at (map (table_at (query tables before)) xs) 0) input.1
+      ∙ sym (each_before (node_table tables) [] nodes before after n input.0 whole earlier))))
+
+  -- and so is its reach
+  reach_same : mark_at (reaches tables marks nodes) (length before) ≡ mark_at (reaches tables marks nodes) input.0
+  reach_same =
+      let make = node_mark (query tables nodes) marks in
+      each_at make 0 nodes before after n whole
+      ∙ (not_source (is_source n.kind) (mark_at marks (source_count before)) ((meaning_of n).bound (map (table_at (query tables nodes)) n.inputs.items) (map (mark_at (each_node make [] [] before)) n.inputs.items)) isnt
+      ∙ (ap (λ (m : Meaning). m.bound (map (table_at (query tables nodes)) n.inputs.items) (map (mark_at (each_node make [] [] before)) n.inputs.items)) meaning_is
+      ∙ (ap (λ (xs : List ℕ). mark_at (map (mark_at (each_node make [] [] before)) xs) 0) input.1
+      ∙ sym (each_before make 0 nodes before after n input.0 whole earlier))))
+
+  going : IsGoing (list_at given input.0)
+  going = going_list nodes (length before) sources tables marks ports given are run all_going are_tables are_marks middle input.0 inside earlier
+
+  -- the mark that came on its port is its reach
+  pub output_mark : mark_of (list_at given input.0) ≡ mark_at (reaches tables marks nodes) (length before)
+  output_mark = going_mark nodes (length before) sources tables marks ports given are run all_going are_tables are_marks middle input.0 inside earlier ∙ sym reach_same
+
+  -- and where its port is strong, what it gave has the rows of its query that end before that
+  pub output_table : n.level.block ≡ None → n.level.memory ≡ None → IsTableOf (list_at given (length before)) (filter (λ (r : Row). nat_lt r.end (mark_at (reaches tables marks nodes) (length before))) (table_at (query tables nodes) (length before)))
+  output_table block memory =
+      let is = node_stands nodes before after n are whole in
+      let fits = node_fits nodes sources ports given run before after n whole is isnt (all_unbroken (length before) given (λ k h. (going_list nodes (length before) sources tables marks ports given are run all_going are_tables are_marks middle k (let w = place_within nodes before after n whole in omega arith) h).unbroken) n.inputs.items (inputs_are before n is)) in
+      let l = list_at given input.0 in
+      let made : (meaning_of n).result (tables_of (port_levels n) (input_lists given n)) ≡ passed_table n.level (list_at given input.0) =
+      ap (λ (m : Meaning). m.result (tables_of (port_levels n) (input_lists given n))) meaning_is ∙ ap (λ (xs : List ℕ). table_at (tables_of (replicate (length xs) n.level) (map (list_at given) xs)) 0) input.1 in
+      let table = going_table nodes (length before) sources tables marks ports given are run all_going are_tables are_marks middle input.0 inside earlier in
+      let strong = strong_passed n.level l (table_at (query tables nodes) input.0) block memory going table in
+      subst (λ (t : ℕ). IsTableOf (list_at given (length before)) (filter (λ (r : Row). nat_lt r.end t) (table_at (query tables nodes) (length before)))) output_mark
+      (subst (λ (rows : List Row). IsTableOf (list_at given (length before)) (filter (λ (r : Row). nat_lt r.end (mark_of (list_at given input.0))) rows)) (sym query_same)
+      (table_alike (list_at given (length before)) (passed_table n.level l) _ (same_back _ _ strong) (subst (λ (rows : List Row). IsTableOf (list_at given (length before)) rows) made fits.table)))

@@ -1,0 +1,43 @@
+ghost use Rattle.cedr_plan.specs.declared.plan.NodeKind.TheVariants as kind;
+ghost use Rattle.std.specs.Prelude.{ℕ, ◌≡◌, ◌<◌, List, [], ◌∷◌, ◌++◌, length, map, None, nat_lt, true};
+ghost use Rattle.cedr_base.specs.Messages.{IsTableOf, mark_of};
+ghost use Rattle.cedr_base.specs.declared.change.Message.{Message};
+ghost use Rattle.cedr_plan.specs.Drawn.{node_of};
+ghost use Rattle.cedr_plan.specs.Rules.{AreNodes};
+ghost use Rattle.cedr_plan.specs.declared.plan.PlanNode.{PlanNode};
+ghost use Rattle.node_laws.specs.Lists.{Lists, list_at, AreTables};
+ghost use Rattle.cedr_query.specs.Queries.{source_count, query, reaches};
+ghost use Rattle.std.specs.List.{filter};
+ghost use Rattle.cedr_base.specs.declared.level.Level.{Level};
+ghost use Rattle.cedr_base.specs.declared.row.Row.{Row};
+ghost use Rattle.cedr_base.specs.Rows.{SameRows};
+ghost use Rattle.node_laws.specs.Pass.{passed_table};
+ghost use Rattle.op_node.specs.Ready.{is_source};
+ghost use Rattle.plan_runs.specs.Middle.{IsGoing, AllGoing, AreMiddle, AreMarks};
+ghost use Rattle.cedr_table.specs.Operators.{Tables, table_at, mark_at};
+ghost use Rattle.plan_runs.specs.Runs.{IsRun, IsPartialRun, AllWhole, sources_in};
+ghost use Rattle.plan_runs.specs.Without.{query_without, forgot_in, Remembers};
+
+/// The law of closed runs: where each source's list is whole, that of each node is, and its table is that of the query
+/// with what each port forgot left out. Where no memory is finite this is the query.
+pub fn closed_runs()
+    ensures whole { (nodes : List PlanNode) (sources : Lists) (ports : List Lists) (given : Lists) → AreNodes [] (map node_of nodes) → IsRun nodes sources ports given → AllWhole (source_count nodes) sources → AllWhole (length nodes) given }
+    ensures tables { (nodes : List PlanNode) (sources : Lists) (tables : Tables) (ports : List Lists) (given : Lists) → AreNodes [] (map node_of nodes) → IsRun nodes sources ports given → AllWhole (source_count nodes) sources → AreTables sources tables → (place : ℕ) → place < length nodes → IsTableOf (list_at given place) (table_at (query_without (forgot_in nodes ports) tables nodes) place) }
+    ensures query { (nodes : List PlanNode) (sources : Lists) (tables : Tables) (ports : List Lists) (given : Lists) → AreNodes [] (map node_of nodes) → IsRun nodes sources ports given → AllWhole (source_count nodes) sources → Remembers nodes → query_without (forgot_in nodes ports) tables nodes ≡ query tables nodes }
+{}
+
+/// The law of runs that go on: where the first nodes of a plan have the middle level, and each source's list is legal and
+/// without its end, the table of each of these nodes is that of the query over the tables so far, and its mark is how far
+/// it reaches.
+pub fn going_runs()
+    ensures tables { (nodes : List PlanNode) (count : ℕ) (sources : Lists) (tables : Tables) (marks : List ℕ) (ports : List Lists) (given : Lists) → AreNodes [] (map node_of nodes) → IsRun nodes sources ports given → AllGoing (source_count nodes) sources → AreTables sources tables → AreMarks (source_count nodes) sources marks → AreMiddle count nodes → (place : ℕ) → place < length nodes → place < count → IsTableOf (list_at given place) (table_at (query tables nodes) place) }
+    ensures marks { (nodes : List PlanNode) (count : ℕ) (sources : Lists) (tables : Tables) (marks : List ℕ) (ports : List Lists) (given : Lists) → AreNodes [] (map node_of nodes) → IsRun nodes sources ports given → AllGoing (source_count nodes) sources → AreTables sources tables → AreMarks (source_count nodes) sources marks → AreMiddle count nodes → (place : ℕ) → place < length nodes → place < count → mark_of (list_at given place) ≡ mark_at (reaches tables marks nodes) place }
+    ensures output { (nodes : List PlanNode) (sources : Lists) (tables : Tables) (marks : List ℕ) (ports : List Lists) (given : Lists) → AreNodes [] (map node_of nodes) → IsRun nodes sources ports given → AllGoing (source_count nodes) sources → AreTables sources tables → AreMarks (source_count nodes) sources marks → (before after : List PlanNode) (n : PlanNode) → nodes ≡ before ++ n ∷ after → AreMiddle (length before) nodes → n.kind ≡ kind.Output → n.level.block ≡ None → n.level.memory ≡ None → IsTableOf (list_at given (length before)) (filter (λ (r : Row). nat_lt r.end (mark_at (reaches tables marks nodes) (length before))) (table_at (query tables nodes) (length before))) }
+    ensures strong { (level : Level) (ms : List Message) (rows : List Row) → level.block ≡ None → level.memory ≡ None → IsGoing ms → IsTableOf ms rows → SameRows (passed_table level ms) (filter (λ (r : Row). nat_lt r.end (mark_of ms)) rows) }
+{}
+
+/// The law of partial runs: a run is one, and in what the nodes gave the list of each source can be found.
+pub fn partial_runs()
+    ensures whole { (nodes : List PlanNode) (sources : Lists) (ports : List Lists) (given : Lists) → IsRun nodes sources ports given → IsPartialRun nodes sources ports given }
+    ensures sources { (before after : List PlanNode) (n : PlanNode) (given : Lists) → is_source n.kind ≡ true → list_at (sources_in (before ++ n ∷ after) given) (source_count before) ≡ list_at given (length before) }
+{}

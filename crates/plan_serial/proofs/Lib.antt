@@ -1,0 +1,4 @@
+pub mod FeedLemmas
+pub mod RunLemmas
+pub mod SourceLemmas
+pub mod QueryLemmas

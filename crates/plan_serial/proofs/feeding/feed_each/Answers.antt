@@ -1,0 +1,43 @@
+use Rattle.std.proofs.Common.{refl, length, ap, arith}
+use Rattle.node_laws.specs.Lists.{Lists}
+use Rattle.cedr_net.proofs.SettleLemmas.{grow_none, grow_along}
+use Rattle.plan_serial.proofs.FeedLemmas.{fed_either, none_either, none_left, taken_none, taken_more, taken_all}
+use Rattle.plan_serial.proofs.feeding.feed_each.Goals as goal
+
+pub loop-place-init : goal.loop-place-init
+loop-place-init c = record {
+  stands = λ nodes whole f. record { feeds = f; grow = grow_none f.given };
+  fed = λ is. absurd (let e = is in cc);
+  none = λ isnt. (refl, λ k within. absurd (omega arith));
+  taken = taken_none c.args.remaining.now.items;
+}
+
+pub feed_one-requires : goal.feed_one-requires
+feed_one-requires c =
+    let r = c.requires in
+    (r.0, r.1, (c.loop-place.invariant.stands r.0 r.1 r.2).feeds, omega (arith, r.2.fed.count, c.loop-place-test.true, c.len-place-end.ensures))
+
+pub loop-place-preserved : goal.loop-place-preserved
+loop-place-preserved c =
+    let inv = c.loop-place.invariant in
+    let now = c.in_ok-fed.ensures in
+    let first = c.args.remaining.now.items in
+    let old = c.loop-place.remaining.items in
+    let new = c.feed_one.new.remaining.items in
+    record {
+      stands = λ nodes whole f.
+          let on = inv.stands nodes whole f in
+          let next = now.stands nodes whole on.feeds (omega (arith, f.fed.count, c.loop-place-test.true, c.len-place-end.ensures)) in
+          record { feeds = next.feeds; grow = grow_along f.given on.feeds.given next.feeds.given on.grow next.grow };
+      fed = fed_either c.loop-place.fed c.in_ok-fed.field-0 first old new inv.fed (λ isnt. (inv.none isnt).0) now.fed (λ isnt. (now.none isnt).1);
+      taken = taken_more c.loop-place.place first old new inv.taken now.taken;
+      none = none_either c.loop-place.fed c.in_ok-fed.field-0 first old new c.loop-place.place inv.none now.none;
+    }
+
+pub returns-clause-none : goal.returns-clause-none
+returns-clause-none c = λ isnt k.
+    let n = c.loop-place.invariant.none isnt in
+    none_left c.loop-place.remaining.items c.loop-place.place k (omega (arith, ap (λ (ls : Lists). length ls) n.0, c.loop-place-test.false, c.len-place-end.ensures)) n.1
+
+pub returns-clause-taken : goal.returns-clause-taken
+returns-clause-taken c = taken_all c.loop-place.place c.args.remaining.now.items c.loop-place.remaining.items (omega (arith, c.loop-place-test.false, c.loop-place.auto.place-end, c.len-place-end.ensures)) c.loop-place.invariant.taken

@@ -1,0 +1,14 @@
+pub mod AllLemmas
+pub mod PlanLemmas
+pub mod MakeLemmas
+pub mod GaveLemmas
+pub mod LeftLemmas
+pub mod WentLemmas
+pub mod RanLemmas
+pub mod EndingLemmas
+pub mod ClosingLemmas
+pub mod ForgottenLemmas
+pub mod SortingLemmas
+pub mod TookLemmas
+pub mod CountLemmas
+pub mod EndLemmas

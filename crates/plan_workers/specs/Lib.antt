@@ -1,0 +1,10 @@
+pub mod Roles
+pub mod Crews
+pub mod Making
+pub mod Ends
+pub mod Wents
+pub mod Closings
+pub mod Forgettings
+pub mod Sortings
+pub mod Stopping
+pub mod Tellings

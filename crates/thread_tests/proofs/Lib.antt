@@ -1,0 +1,2 @@
+pub mod PlanNodes
+pub mod TwoMarks
