@@ -3,6 +3,8 @@
 Some of what is written is free: which repairs a node sends, and so which changes a port with a finite memory forgets
 where an operator feeds it, and the changes of `stream` where an operator feeds an output that isn't strong. There
 the answer's own choice is read from it, held to what is fixed, and the rest of the answer must follow from it.
+`serial` and `audit` feed their sources in rounds, so there a port behind operators has one right list too, as long as no
+message changes more than one row of the result of a node before it: then no repair is a choice.
 """
 import math
 from collections import Counter
@@ -10,8 +12,9 @@ from collections import Counter
 import made
 from aligner import aligned
 from answer_lines import LIST_MARK, REACH_MARK, Unlawful, change_of, forgotten_of, lines_of, mark_of, row_of
-from asked import Asked
+from asked import ON_THREADS, Asked
 from messages import Add, Cut, End, apply, in_order, is_change, sync, table_of
+from network import fed_in_rounds
 from network_texts import forgotten_text, rows_text
 from query_reference import by_place, output_place, port_standing, query, standing
 from reference import change_text, time_text
@@ -40,7 +43,8 @@ def whole_answer(read: Asked, out: bytes) -> bytes:
         return made.summary(in_order(query(plan, tables, {})))
     lines = lines_of(out)
     front = lines.index(LIST_MARK) if LIST_MARK in lines else len(lines)
-    left_out = lawful_list(plan, lists, lines[front + 1 :])
+    fixed = {} if read.command in ON_THREADS else fed_in_rounds(plan, read.fed).fixed()
+    left_out = lawful_list(plan, lists, fixed, lines[front + 1 :])
     answer = query(plan, tables, left_out)
     text = stream(plan, lists, answer, lines[:front]) if read.command == "stream" else rows_text(in_order(answer))
     if read.command != "audit" and not any(node.forgets for node in plan):
@@ -49,8 +53,9 @@ def whole_answer(read: Asked, out: bytes) -> bytes:
                                        for (place, port), found in left_out.items() for one in found)
 
 
-def lawful_list(plan: list, lists: list, lines: list) -> dict:
-    """What each port forgot, by its place and number. Ports of sources have one right list, and others a lawful one."""
+def lawful_list(plan: list, lists: list, fixed: dict, lines: list) -> dict:
+    """What each port forgot, by its place and number. Ports of sources and fixed ones have one right list, and others a
+    lawful one."""
     told, sources, left_out = {}, by_place(plan, lists), {}
     for place, port, one in (forgotten_of(line, plan) for line in lines):
         told.setdefault((place, port), []).append(one)
@@ -58,6 +63,8 @@ def lawful_list(plan: list, lists: list, lines: list) -> dict:
         for port, feeding in enumerate(node.inputs if node.forgets else []):
             if feeding in sources:
                 left_out[place, port] = aligned(node.block, node.memory, sources[feeding])[0].forgotten
+            elif (place, port) in fixed:
+                left_out[place, port] = fixed[place, port]
             else:
                 left_out[place, port] = told.get((place, port), [])
                 check_forgotten(node.memory, left_out[place, port])

@@ -8,14 +8,16 @@ import reference
 from program import USAGE
 
 READ_FAULT = b"read fault\n"
+EMPTY = object()
 ON_SOURCES = ("serial", "run", "audit", "stream")
+ON_THREADS = ("run", "stream")
 
 
 class Asked(NamedTuple):
     """The status and standard error, and where the plan is accepted its nodes and what is fed to them.
 
-    What is fed is for each source its list of messages by line, with none for a line that has none. For `live` it is
-    the list of the script's steps, each `?` or a source with the message of its line.
+    What is fed is for each source its list of messages by line, with none for a line that has none; an empty line isn't
+    in it. For `live` it is the list of the script's steps, each `?` or a source with the message of its line.
     """
 
     command: str
@@ -49,10 +51,16 @@ def sources_of(plan: list) -> list:
 def read_sources(command: str, plan: list, find) -> Asked:
     sources = sources_of(plan)
     contents = [find(node.members["file"]) for node in sources]
-    judged = [reference.judged(data or b"", reference.Judge(node.types).take) for node, data in zip(sources, contents)]
+    judged = [reference.judged(data or b"", source_line(node.types)) for node, data in zip(sources, contents)]
     err = "".join(f"events {node.name} {told}\n" for node, (_, told) in zip(sources, judged) if told).encode()
     status, err = (4, READ_FAULT) if None in contents else (3 if err else 0, err)
-    return Asked(command, status, err, plan, [answers for answers, _ in judged])
+    return Asked(command, status, err, plan, [[one for one in answers if one is not EMPTY] for answers, _ in judged])
+
+
+def source_line(types: list):
+    """What a line of a source with these types is judged by."""
+    judge = reference.Judge(types)
+    return lambda line: judge.take(line) if reference.without_return(line) else EMPTY
 
 
 def read_script(plan: list, name: str, find) -> Asked:

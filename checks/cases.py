@@ -191,9 +191,12 @@ SMALL = [accepted(*case) for case in ACCEPTED] + [refused(*case) for case in REF
 
 
 def large():
-    """Cases at the limit of 67,108,864 bytes. FULL has just so many, in 1,025 whole lines."""
+    """Cases at the limit of 67,108,864 bytes. THOUSAND and FULL have just so many, FULL in 1,025 whole lines."""
     front = EVENT + guarantee(LINE) * 1_022
     full = front + guarantee(LINE) + guarantee(LINE - 10)
+    thousand = guarantee(LINE) * 1_024
+    yield accepted("1,024 lines that fill the limit", thousand, b"")
+    yield refused("1,024 lines that fill the limit, and a line feed more", thousand + b"\n", "1025 fault 10")
     yield accepted("a file at the limit", full, b"4,9,a\n")
     yield accepted("a file at the limit, no line feed at its end", full[:-1] + b"0", b"4,9,a\n")
     yield refused("a line feed at the limit and one behind", full + b"\n", "1026 fault 10")

@@ -8,20 +8,27 @@ from messages import Add, Cut, End, Mark, apply, in_order, is_change
 
 
 class WorkingNode:
-    """A node that isn't a source: its ports, what they passed on, and what it has sent."""
+    """A node that isn't a source: its ports, what they passed on, and what it has sent.
+
+    It is free once it has answered a message otherwise than it had to: where more than one row of its result changed, which
+    changes say so, and in which order, is its own choice.
+    """
 
     def __init__(self, node: nodes.Node) -> None:
         self.node = node
         self.ports = [Aligner(node.block, node.memory) for _ in node.inputs]
         self.table = Counter()
         self.mark = 0
+        self.free = False
 
     def take(self, port: int, message) -> list:
         """What it sends after a message on a port."""
         passed_on = self.ports[port].take(message)
         sent = [one for one in passed_on if is_change(one)]
         if sent and self.node.op != "output":
-            sent = self.repairs(nodes.result(self.node, self.tables()))
+            result = nodes.result(self.node, self.tables())
+            self.free |= rows_between(self.table, result) > 1
+            sent = self.repairs(result)
         for change in sent:
             apply(self.table, change)
         bound = nodes.bound(self.node, self.tables(), [port.front for port in self.ports])
@@ -36,6 +43,10 @@ class WorkingNode:
 
     def tables(self) -> list:
         return [port.passed for port in self.ports]
+
+
+def rows_between(old: Counter, new: Counter) -> int:
+    return (old - new).total() + (new - old).total()
 
 
 def difference(old: Counter, new: Counter) -> list:
@@ -56,29 +67,33 @@ class Network:
     def __init__(self, plan: list) -> None:
         self.plan = plan
         self.working = {place: WorkingNode(node) for place, node in enumerate(plan) if node.op != "source"}
-        self.waiting = deque()
+        self.waiting = {(place, port): deque() for place, node in enumerate(plan) for port in range(len(node.inputs))}
         self.sources = [place for place, node in enumerate(plan) if node.op == "source"]
         self.output = next(place for place, node in enumerate(plan) if node.op == "output")
         self.changes = []
 
     def feed(self, source: int, message) -> None:
-        """A message of a source goes to each port that reads it, and what comes of it on to the output."""
+        """A message of a source waits on each port that reads it."""
         self.send(self.sources[source], [message])
-        while self.waiting:
-            place, port, message = self.next_waiting()
-            sent = self.working[place].take(port, message)
+
+    def settle(self) -> None:
+        """Nodes take what waits, and what comes of it goes on to the output, until nothing waits."""
+        while waiting := self.next_waiting():
+            place, port = waiting
+            sent = self.working[place].take(port, self.waiting[waiting].popleft())
             self.send(place, sent)
             if place == self.output:
                 self.changes += [one for one in sent if is_change(one)]
 
-    def next_waiting(self) -> tuple:
-        return self.waiting.popleft()
+    def next_waiting(self):
+        """The first node with a message that waits, in the order of the plan, and its first port with one."""
+        return next((port for port, messages in self.waiting.items() if messages), None)
 
     def send(self, place: int, messages: list) -> None:
         for reader, node in self.working.items():
             for port, input_place in enumerate(node.node.inputs):
                 if input_place == place:
-                    self.waiting.extend((reader, port, message) for message in messages)
+                    self.waiting[reader, port].extend(messages)
 
     def answer(self) -> list:
         return in_order(self.working[self.output].table)
@@ -91,17 +106,31 @@ class Network:
         return [(place, port, one) for place, node in self.working.items()
                 for port, aligner in enumerate(node.ports) for one in aligner.forgotten]
 
+    def fixed(self) -> dict:
+        """What each port forgot whose list is no node's choice, by its place and number."""
+        free = {place for place, node in self.working.items() if node.free}
+        for place in self.working:
+            free |= {place} if free.intersection(self.plan[place].inputs) else set()
+        return {(place, port): node.ports[port].forgotten for place, node in self.working.items()
+                for port, feeding in enumerate(node.node.inputs) if feeding not in free}
 
-def fed_in_turn(plan: list, lists: list) -> Network:
-    """The network after one line of each source that hasn't ended in turn, until all have.
+
+def fed_in_rounds(plan: list, lists: list, network=Network) -> Network:
+    """The network after rounds, until all sources have ended: one line of each that hasn't, and then it settles.
 
     A list has for each line of its source the message, or none where the line has none.
     """
-    network = Network(plan)
+    fed = network(plan)
     left = [deque(lines + [End()]) for lines in lists]
     while any(left):
         for source, lines in enumerate(left):
             message = lines.popleft() if lines else None
             if message is not None:
-                network.feed(source, message)
-    return network
+                fed.feed(source, message)
+        fed.settle()
+    return fed
+
+
+def fed_on_threads(plan: list, lists: list) -> Network:
+    """The network after one of the orders that threads may take."""
+    return fed_in_rounds(plan, lists)

@@ -71,6 +71,7 @@ UNLESS = two("unless", '"scope":10,"hold":1,"where":[]')
 THREE = plan(source("a"), source("b"), node("q", "sequence", "a b a", '"scope":10,"where":[]'), output("q"))
 WINDOW = node("w", "window", "s", '"width":3')
 UNION = plan(source("u"), source("v"), node("n", "union", "u v"), output("n", STRONG))
+UNTIL = plan(source("u"), source("v"), node("n", "union", "u v"), output("n", WEAK))
 DIAMOND = plan(source("s"), node("p", "window", "s", '"width":4'), node("q", "shift", "s", '"by":2'),
                node("j", "join", "p q", '"where":[[0,"=",{"column":1}]]'), output("j"), first='"edge":1,')
 ROWS = plan(source("s", "text", "int"), node("f", "select", "s", '"where":[[1,">=",{"int":5}]]'),
@@ -118,6 +119,14 @@ ANSWERED = [
      "+,1,2,a / +,1,3,b / +,20,30,c"),
     ("a block of 3", "stream", passing('{"block":3,"memory":"inf"}'),
      {"s": "+,1,1,9,a / +,2,4,9,b / =,2 / -,2,5 / =,7"}, "+,1,9,a / +,4,5,b"),
+    ("a guarantee that says nothing has its turn", "serial", UNTIL,
+     {"u": "=,0 / +,1,20,21,a", "v": "+,1,10,11,b"}, "10,11,b / 20,21,a / --"),
+    ("a guarantee that says nothing has its turn", "audit", UNTIL,
+     {"u": "=,0 / +,1,20,21,a", "v": "+,1,10,11,b"}, "10,11,b / 20,21,a / --"),
+    ("an empty line has none", "serial", UNTIL, {"u": " / +,1,20,21,a", "v": "+,1,10,11,b"},
+     "20,21,a / -- / out,0,late,20,+,10,11,b"),
+    ("a round goes port by port", "audit", UNTIL, {"u": "+,1,20,21,a", "v": "+,1,10,11,b"},
+     "20,21,a / -- / out,0,late,20,+,10,11,b"),
     ("a shift", "run", one("shift", '"by":7'), {"s": "+,1,1,5,a"}, "8,12,a"),
     ("a shift past the last time", "run", one("shift", '"by":1099511627776'), {"s": f"+,1,{LEAST},inf,a"}, ""),
     ("a hop", "run", one("hop", '"every":10,"width":20'), {"s": "+,1,13,14,a"}, "10,30,a"),

@@ -1,7 +1,7 @@
 """What the commands write, from one of the runs that the definitions allow."""
 import asked
 import made
-from network import Network, fed_in_turn
+from network import Network, fed_in_rounds, fed_on_threads
 from reference import change_text, row_text, time_text
 
 
@@ -12,7 +12,7 @@ def answer(words: list, find) -> tuple[int, bytes, bytes]:
         return read.status, live(read.plan, read.fed), read.err
     if read.status:
         return read.status, b"", read.err
-    network = fed_in_turn(read.plan, read.fed)
+    network = (fed_on_threads if read.command in asked.ON_THREADS else fed_in_rounds)(read.plan, read.fed)
     return 0, TEXTS[read.command](network), b""
 
 
@@ -54,6 +54,7 @@ def live(plan: list, steps: list) -> bytes:
             text += rows_text(network.answer()) + f". {time_text(network.reach())}\n".encode()
         elif step[1] is not None:
             network.feed(*step)
+            network.settle()
     return text
 
 

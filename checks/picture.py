@@ -54,6 +54,7 @@ def drawn() -> str:
     for line, step in zip(lines, read.fed, strict=True):
         network.arrows = []
         network.feed(*step)
+        network.settle()
         ink = LATE if line == LATE_LINE else INK
         parts.append(text_at(8, y, line, ink, "start") + text_at(300, y, NOTES.get(line, ""), ink, "start"))
         for arrow in network.arrows:

@@ -23,7 +23,7 @@ import nodes
 import reference
 from aligner import Aligner
 from messages import Add, Cut, End, Mark, later, sync
-from network import Network, WorkingNode
+from network import Network, WorkingNode, fed_in_rounds
 
 SEEDS = range(60), range(60), range(20), range(20), range(1)
 
@@ -131,11 +131,48 @@ def never_quoted(field) -> bytes:
     return str(field).encode() if isinstance(field, int) else field
 
 
+class AnyOrder(Network):
+    """Nodes take in any order."""
+
+    def next_waiting(self):
+        return CHOICE.choice([port for port, messages in self.waiting.items() if messages] or [None])
+
+
+def fed_one_after_the_other(plan: list, lists: list) -> Network:
+    network = Network(plan)
+    for source, messages in reversed(list(enumerate(lists))):
+        for message in messages + [End()]:
+            if message is not None:
+                network.feed(source, message)
+                network.settle()
+    return network
+
+
+def fed_by_messages(plan: list, lists: list) -> Network:
+    return fed_in_rounds(plan, [[message for message in lines if message is not None] for lines in lists])
+
+
+def fed_before_all_settles(plan: list, lists: list) -> Network:
+    network = Network(plan)
+    for place in range(max(map(len, lists)) + 1):
+        for source, lines in enumerate(lists):
+            for message in (lines + [End()])[place : place + 1]:
+                if message is not None:
+                    network.feed(source, message)
+    network.settle()
+    return network
+
+
+def fed_in_any_order(plan: list, lists: list) -> Network:
+    return fed_in_rounds(plan, lists, AnyOrder)
+
+
 def silent_at_a_fault(words: list, find) -> tuple[int, bytes, bytes]:
     status, out, err = ANSWER(words, find)
     return status, b"" if status else out, err
 
 
+CHOICE = random.Random(1)
 READ_SOURCES, FORGOTTEN, ANSWER, MIXED = asked.read_sources, Network.forgotten, network_texts.answer, made.mixed
 
 WAYS = {
@@ -160,19 +197,12 @@ WAYS = {
     "a field isn't quoted": instead(reference, "field_text", never_quoted),
     "what a script showed before its fault is lost": instead(network_texts, "answer", silent_at_a_fault),
     "a guarantee of live is that of the sources": instead(Network, "reach", lambda self: 0),
+    "a line without a message uses up no turn": instead(network_texts, "fed_in_rounds", fed_by_messages),
+    "the network settles once all is fed": instead(network_texts, "fed_in_rounds", fed_before_all_settles),
+    "sources come one after the other in rounds": instead(network_texts, "fed_in_rounds", fed_one_after_the_other),
+    "nodes take in any order in rounds": instead(network_texts, "fed_in_rounds", fed_in_any_order),
     "made numbers are others": instead(made, "mixed", lambda number: MIXED(number + 1)),
 }
-
-
-def any_waiting(self) -> tuple:
-    """The first message of some port, whichever."""
-    firsts = {}
-    for place, waiting in enumerate(self.waiting):
-        firsts.setdefault(waiting[:2], place)
-    place = CHOICE.choice(list(firsts.values()))
-    waiting = self.waiting[place]
-    del self.waiting[place]
-    return waiting
 
 
 def withdrawn_repairs(self, table) -> list:
@@ -187,22 +217,14 @@ def in_two(change, mark: int) -> list:
     return [change]
 
 
-def fed_one_after_the_other(plan: list, lists: list) -> Network:
-    network = Network(plan)
-    for source, messages in reversed(list(enumerate(lists))):
-        for message in messages + [End()]:
-            if message is not None:
-                network.feed(source, message)
-    return network
-
-
-CHOICE, REPAIRS = random.Random(1), WorkingNode.repairs
+REPAIRS = WorkingNode.repairs
 
 LAWFUL = {
     "nothing is other": contextlib.nullcontext,
-    "nodes take in any order": instead(Network, "next_waiting", any_waiting),
+    "nodes take in any order on threads": instead(network_texts, "fed_on_threads", fed_in_any_order),
+    "nodes take in any order of a script": instead(network_texts, "Network", AnyOrder),
     "rows are withdrawn, not cut": instead(WorkingNode, "repairs", withdrawn_repairs),
-    "sources come one after the other": instead(network_texts, "fed_in_turn", fed_one_after_the_other),
+    "sources come one after the other on threads": instead(network_texts, "fed_on_threads", fed_one_after_the_other),
 }
 
 

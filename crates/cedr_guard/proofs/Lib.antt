@@ -6,3 +6,4 @@ pub mod GuardLemmas
 pub mod LivingLemmas
 pub mod MessageLemmas
 pub mod SourceLemmas
+pub mod LineMessages

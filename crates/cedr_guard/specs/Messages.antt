@@ -23,3 +23,25 @@ message_of before (Promise time) = if nat_lt (guarantee_of before) time then mes
 abbrev pub messages_behind : List EventLine → List EventLine → List Message
 messages_behind before [] = []
 messages_behind before (line ∷ lines) = message_of before line ++ messages_behind (before ++ line ∷ []) lines
+
+-- ---- line by line
+
+-- the first of some messages, if there is one
+abbrev pub first_message : List Message → Option Message
+first_message [] = None
+first_message (m ∷ ms) = Some m
+
+-- a line's message after the lines before it, or none where it has none
+abbrev pub line_message : List EventLine → EventLine → Option Message
+line_message before line = first_message (message_of before line)
+
+-- the messages of lines that come after others: one entry for each line
+abbrev pub line_messages : List EventLine → List EventLine → List (Option Message)
+line_messages before [] = []
+line_messages before (line ∷ lines) = line_message before line ∷ line_messages (before ++ line ∷ []) lines
+
+-- the messages that entries hold
+abbrev pub messages_in : List (Option Message) → List Message
+messages_in [] = []
+messages_in (None ∷ entries) = messages_in entries
+messages_in (Some m ∷ entries) = m ∷ messages_in entries

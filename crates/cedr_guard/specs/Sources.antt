@@ -1,5 +1,5 @@
 -- The bytes of a source: its lines judged one after the other, its messages and its canonical history.
-use Rattle.std.specs.Prelude.{ℕ, ◌+◌, List, [], ◌∷◌, ◌++◌, length, take, nat_lt, if◌then◌else◌, Option, None, Some, Result, Ok, Err}
+use Rattle.std.specs.Prelude.{ℕ, ◌+◌, List, [], ◌∷◌, ◌++◌, length, map, take, nat_lt, if◌then◌else◌, Option, None, Some, Result, Ok, Err}
 use Rattle.cedr_base.specs.declared.row.Row.{Row}
 use Rattle.cedr_base.specs.declared.change.Message.{Message}
 use Rattle.cedr_base.specs.declared.change.Message.TheVariants as message
@@ -16,7 +16,7 @@ use Rattle.cedr_guard.specs.declared.refusal.Refusal.{Refusal}
 use Rattle.cedr_guard.specs.declared.refusal.TheConstants.{FILE_LIMIT}
 use Rattle.cedr_guard.specs.Judging.{fault_behind}
 use Rattle.cedr_guard.specs.History.{history_of}
-use Rattle.cedr_guard.specs.Messages.{messages_behind}
+use Rattle.cedr_guard.specs.Messages.{messages_behind, line_messages}
 
 -- ---- one line
 
@@ -102,6 +102,11 @@ ending (Some refusal) = []
 -- the messages of a source: those of the lines before its first fault, and then the end where it has none
 abbrev pub messages_of : Shape → List ℕ → List Message
 messages_of shape bytes = messages_behind [] (judged shape bytes).good ++ ending (judged shape bytes).fault
+
+-- the messages of a source line by line: an entry for each of those lines, in order, which holds its message or none, and
+-- at last the end where the source has no fault
+abbrev pub messages_by_line : Shape → List ℕ → List (Option Message)
+messages_by_line shape bytes = line_messages [] (judged shape bytes).good ++ map (λ (m : Message). Some m) (ending (judged shape bytes).fault)
 
 -- the canonical history of the lines before the first fault
 abbrev pub history_of_bytes : Shape → List ℕ → List Row

@@ -2,13 +2,13 @@
 use Rattle.std.proofs.Common.{◌≡◌, ◌≢◌, ◌⊎◌, ◌≤◌, ℕ, zero, suc, ◌<◌, inl, inr, List, [], ◌∷◌, ◌++◌, Bool, true, false, cond, length, get_or, set, refl, ap, sym, ◌∙◌, subst, arith, append_assoc, get_or-set_same, get_or-set_other, eq-eqb}
 use Rattle.std.specs.Prelude.{map, nat_eq, All}
 use Rattle.std.proofs.lemmas.List.Elements.{All-head, All-tail}
-use Rattle.cedr_query.proofs.NodeLemmas.{inputs_are}
+use Rattle.cedr_plan.proofs.PlaceLemmas.{inputs_are}
 use Rattle.std.proofs.lemmas.Bool.{cases_lt, eqb-true, ne_eqb}
 use Rattle.std.proofs.lemmas.List.{length-set, length-map}
 use Rattle.std.proofs.Math.Seq.{get_or-append_seam}
 use Rattle.cedr_base.specs.declared.change.Message.{Message}
 use Rattle.cedr_base.specs.Messages.{MayCome, IsLegal}
-use Rattle.change_laws.proofs.Legal.{legal-push}
+use Rattle.change_laws.proofs.Legal.{legal-push, may_come_in}
 use Rattle.op_driver.specs.Driving.{MayTake}
 use Rattle.node_laws.specs.Lists.{Lists, list_at, with_more}
 use Rattle.node_laws.specs.Lawful.{IsLawful}
@@ -18,12 +18,11 @@ use Rattle.cedr_plan.specs.declared.plan.PlanNode.{PlanNode}
 use Rattle.cedr_plan.specs.Drawn.{Node as DrawnNode, node_of}
 use Rattle.cedr_plan.specs.Operators.{operator_row}
 use Rattle.cedr_plan.specs.Rules.{IsNode, operator_of_kind}
-use Rattle.change_laws.proofs.Legal.{may_come_in}
 use Rattle.op_node.specs.Meanings.{meaning_of, port_levels}
 use Rattle.op_node.proofs.ReadyMeanings.{alike}
 use Rattle.cedr_node.specs.Nodes.{made_of}
 use Rattle.cedr_node.proofs.NodeLemmas.{same_ports, stands_lawful, stands_legal}
-use Rattle.op_node.specs.Ready.{is_source}
+use Rattle.cedr_plan.specs.Places.{is_source}
 use Rattle.plan_runs.specs.Runs.{lists_at}
 use Rattle.plan_runs.proofs.PlanNodes.{node_stands, place_within, Split, split}
 use Rattle.cedr_base.specs.declared.level.Level.{Level}

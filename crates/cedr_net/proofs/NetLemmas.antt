@@ -5,14 +5,12 @@ use Rattle.std.proofs.lemmas.Bool.{eqb-true}
 use Rattle.std.proofs.lemmas.List.{length-set}
 use Rattle.cedr_base.specs.declared.change.Message.{Message}
 use Rattle.cedr_base.specs.Messages.{IsLegalBehind, IsLegal, MayCome, mark_of}
-use Rattle.change_laws.proofs.Legal.{mark-append}
+use Rattle.change_laws.proofs.Legal.{mark-append, legal_rest}
 use Rattle.node_laws.specs.Lists.{Lists, list_at, with_more}
 use Rattle.op_driver.specs.Driving.{MayTake}
 use Rattle.cedr_plan.specs.declared.plan.PlanNode.{PlanNode}
-use Rattle.cedr_query.specs.Queries.{output_place}
+use Rattle.cedr_plan.specs.Places.{is_source, output_place}
 use Rattle.plan_runs.specs.Runs.{lists_at}
-use Rattle.change_laws.proofs.Legal.{legal_rest}
-use Rattle.op_node.specs.Ready.{is_source}
 use Rattle.cedr_net.specs.declared.work.Work.{Work}
 use Rattle.cedr_net.specs.declared.answer.Answer.{Answer}
 use Rattle.cedr_net.specs.declared.flow.Flow.{Flow}

@@ -1,14 +1,14 @@
 -- A network to which nothing came.
 use Rattle.std.proofs.Common.{inl, inr, ◌≡◌, ℕ, zero, suc, ◌+◌, ◌<◌, List, [], ◌∷◌, ◌++◌, length, get_or, replicate, take, refl, ap, sym, ◌∙◌, subst, arith, ◌≢◌, true, false, Bool, cond, append_assoc}
-use Rattle.std.specs.Prelude.{map}
+use Rattle.std.specs.Prelude.{map, All, Option, Some, IfSome}
 use Rattle.std.proofs.lemmas.List.{length-replicate, length-map, length-append, map-append, take_more, take_all}
 use Rattle.std.proofs.Math.Seq.{get_or-append_seam}
 use Rattle.cedr_base.specs.declared.change.Message.{Message}
 use Rattle.cedr_base.specs.Messages.{IsLegal, mark_of}
 use Rattle.node_laws.specs.Lists.{Lists, list_at}
 use Rattle.cedr_plan.specs.declared.plan.PlanNode.{PlanNode}
-use Rattle.cedr_plan.specs.Drawn.{node_of}
-use Rattle.cedr_plan.specs.Rules.{AreNodes}
+use Rattle.cedr_plan.specs.Drawn.{Node, node_of}
+use Rattle.cedr_plan.specs.Rules.{AreNodes, IsPlan, IsNode, IsInput}
 use Rattle.plan_runs.specs.Runs.{lists_at}
 use Rattle.cedr_net.specs.declared.work.Work.{Work}
 use Rattle.cedr_net.specs.Edges.{AreSized, lists_joined, readers_on, readers_from}
@@ -17,19 +17,15 @@ use Rattle.cedr_net.specs.declared.flow.Flow.{Flow}
 use Rattle.cedr_net.specs.Networks.{IsAnswerOf, FlowStands}
 use Rattle.plan_runs.proofs.Output.{output_kind}
 use Rattle.plan_runs.proofs.PlanNodes.{split, node_stands}
-use Rattle.std.specs.Prelude.{All, Option, Some, IfSome}
 use Rattle.std.specs.List.{slice_get}
 use Rattle.std.proofs.lemmas.List.Elements.{All-head, All-tail}
 use Rattle.std.proofs.lemmas.Bool.{ne_eqb, cases_lt}
 use Rattle.cedr_plan.specs.declared.plan.Plan.{Plan}
-use Rattle.cedr_plan.specs.Drawn.{Node, is_output_node as is_drawn_output}
-use Rattle.cedr_plan.specs.Rules.{IsPlan, IsNode, IsInput}
-use Rattle.cedr_query.specs.Queries.{is_output, output_place}
+use Rattle.cedr_plan.specs.Places.{is_output, is_source, output_place}
 use Rattle.node_laws.specs.Pass.{HasBlockWithin as IsPassLevel}
 use Rattle.cedr_node.proofs.LevelLemmas.{within_memory}
-use Rattle.cedr_query.proofs.NodeLemmas.{node_is}
-use Rattle.cedr_query.proofs.PlaceLemmas.{place_within, output_stands, output_alike}
-use Rattle.op_node.specs.Ready.{is_source, IsReady}
+use Rattle.cedr_plan.proofs.PlaceLemmas.{node_is, output_stands, place_within}
+use Rattle.op_node.specs.Ready.{IsReady}
 use Rattle.op_node.specs.ReadyLaws.{node_ready}
 use Rattle.cedr_plan.specs.declared.plan.NodeKind.{NodeKind}
 use Rattle.cedr_plan.specs.declared.plan.NodeKind.TheVariants as kind
@@ -126,8 +122,8 @@ input_apart plan is before rest whole i input same =
     let parts : plan.nodes.items ≡ s.before ++ s.node ∷ (s.after ++ rest) = whole ∙ (ap (λ (ns : List PlanNode). ns ++ rest) s.whole ∙ append_assoc s.before (s.node ∷ s.after) rest) in
     let out = output_stands plan s.before (s.after ++ rest) s.node is parts (s.place ∙ same) in
     let got : slice_get (map node_of before) i ≡ Some (node_of s.node) = ap (λ (ns : List PlanNode). slice_get (map node_of ns) i) s.whole ∙ (ap (λ (k : ℕ). slice_get (map node_of (s.before ++ s.node ∷ s.after)) k) (sym s.place) ∙ got_at s.before s.after s.node) in
-    let isnt : is_drawn_output (node_of s.node) ≡ false = subst (λ (o : Option Node). IfSome o (λ node. is_drawn_output node ≡ false)) got input.1 in
-    absurd (let a = output_alike s.node.kind (node_of s.node) in cc)
+    let isnt : is_output s.node.kind ≡ false = subst (λ (o : Option Node). IfSome o (λ node. is_output node.kind ≡ false)) got input.1 in
+    absurd (cc (isnt, out))
 
 inputs_apart : (plan : Plan) → IsPlan plan → (before rest : List PlanNode) → plan.nodes.items ≡ before ++ rest → (inputs : List ℕ) → All (IsInput (map node_of before)) inputs → Apart (output_place plan.nodes.items) inputs
 inputs_apart plan is before rest whole [] all = tt

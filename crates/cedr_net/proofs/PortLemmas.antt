@@ -7,10 +7,9 @@ use Rattle.node_laws.specs.Lists.{Lists, list_at}
 use Rattle.cedr_plan.specs.declared.plan.PlanNode.{PlanNode}
 use Rattle.cedr_node.specs.declared.node.Node.{Node}
 use Rattle.cedr_node.proofs.NodeLemmas.{stands_ports}
-use Rattle.cedr_query.specs.Queries.{output_place}
+use Rattle.cedr_plan.specs.Places.{is_source, output_place}
 use Rattle.plan_runs.specs.Runs.{lists_at}
 use Rattle.plan_runs.proofs.PlanNodes.{place_within, split}
-use Rattle.op_node.specs.Ready.{is_source}
 use Rattle.cedr_net.specs.declared.work.Work.{Work}
 use Rattle.cedr_net.specs.declared.flow.Flow.{Flow}
 use Rattle.cedr_net.specs.Flows.{reads_of, WorksAt, PortAt}

@@ -3,15 +3,14 @@ use Rattle.std.proofs.Common.{◌≡◌, ℕ, suc, ◌<◌, List, [], ◌∷◌,
 use Rattle.std.specs.Prelude.{map, None}
 use Rattle.std.proofs.lemmas.List.{append-nil}
 use Rattle.cedr_base.specs.declared.change.Message.{Message}
-use Rattle.node_laws.specs.Lists.{Lists, list_at}
+use Rattle.node_laws.specs.Lists.{Lists, list_at, AreTables}
 use Rattle.cedr_plan.specs.declared.plan.PlanNode.{PlanNode}
-use Rattle.cedr_query.specs.Queries.{source_count, query}
-use Rattle.plan_runs.specs.Runs.{lists_at, input_lists, ArePrefixes, IsNodeRun, IsRun, IsPartialRun, sources_in}
+use Rattle.cedr_query.specs.Queries.{query}
+use Rattle.cedr_plan.specs.Places.{source_count}
+use Rattle.plan_runs.specs.Runs.{lists_at, input_lists, ArePrefixes, IsNodeRun, IsRun, IsPartialRun, sources_in, AllWhole}
 use Rattle.cedr_base.specs.declared.row.Row.{Row}
 use Rattle.cedr_base.specs.Rows.{SameRows}
 use Rattle.cedr_table.specs.Operators.{Tables, table_at}
-use Rattle.node_laws.specs.Lists.{AreTables}
-use Rattle.plan_runs.specs.Runs.{AllWhole}
 use Rattle.plan_runs.specs.Without.{query_without, forgot_in, Remembers}
 use Rattle.plan_runs.proofs.Partial.{source_at}
 use Rattle.plan_runs.proofs.Remembered.{remembered}

@@ -1,3 +1,4 @@
 pub mod Edges
 pub mod Flows
 pub mod Networks
+pub mod Settling

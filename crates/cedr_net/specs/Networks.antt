@@ -1,16 +1,17 @@
 -- A network, and the lists that went over it.
-use Rattle.std.specs.Prelude.{ℕ, ◌≡◌, ◌<◌, List, [], ◌∷◌, ◌++◌, length, slice_index_or, slice_set, Bool, true, false}
+use Rattle.std.specs.Prelude.{ℕ, ◌≡◌, ◌≢◌, ◌≤◌, ◌<◌, List, [], ◌∷◌, ◌++◌, length, slice_index_or, slice_set, Bool, true, false}
 use Rattle.cedr_base.specs.declared.change.Message.{Message}
 use Rattle.cedr_base.specs.Messages.{changes_of, mark_of, IsTableOf}
 use Rattle.node_laws.specs.Lists.{Lists, list_at, with_more}
 use Rattle.cedr_plan.specs.declared.plan.PlanNode.{PlanNode}
-use Rattle.cedr_query.specs.Queries.{output_place}
 use Rattle.plan_runs.specs.Runs.{lists_at}
 use Rattle.cedr_net.specs.declared.answer.Answer.{Answer}
 use Rattle.cedr_net.specs.declared.flow.Flow.{Flow}
 use Rattle.cedr_net.specs.declared.net.SerialNet.{SerialNet}
 use Rattle.cedr_net.specs.Edges.{readers_from, NothingWaits}
 use Rattle.cedr_net.specs.Flows.{reads_of, Flows, IsSourceAt, PortAt, with_taken}
+use Rattle.cedr_net.specs.Settling.{AreUpToPort, TakesPortByPort}
+use Rattle.cedr_plan.specs.Places.{is_source, output_place}
 
 -- the table of a list and, where changes are kept, these
 pub record IsAnswerOf (answer : Answer) (given : List Message) : Type 0 where
@@ -62,29 +63,47 @@ pub record IsTurn (nodes : List PlanNode) (old new : Flow) (ports : List Lists) 
   pub earlier : (k : ℕ) → k < place → lists_at new.waiting.items k ≡ lists_at old.waiting.items k
   pub stands : FlowStands nodes new (with_taken ports place port message) (with_more given place piece)
 
--- The network went on by turns of the node at a place: no source gave anything, the lists went on, and what waits at
--- earlier places is as before.
-pub record IsOnTheWay (nodes : List PlanNode) (old new : Flow) (given : Lists) (place : ℕ) : Type 0 where
+-- what a node took and gave is as before
+pub record IsAsBefore (ports ports' : List Lists) (given given' : Lists) (place : ℕ) : Type 0 where
+  pub taken : lists_at ports' place ≡ lists_at ports place
+  pub gave : list_at given' place ≡ list_at given place
+
+-- each node at these places went on port by port
+abbrev pub AllTake : List PlanNode → (ℕ → Type 0) → List Lists → Lists → List Lists → Lists → Type 0
+AllTake nodes these ports given ports' given' = (before after : List PlanNode) (n : PlanNode) → nodes ≡ before ++ n ∷ after → is_source n.kind ≡ false → these (length before)
+    → TakesPortByPort n (lists_at ports (length before)) (list_at given (length before)) (lists_at ports' (length before)) (list_at given' (length before))
+
+-- The network went on by turns of the node at a place, which it took port by port: no source gave anything, the lists
+-- went on, and what waits at earlier places is as before, and so is what the other nodes took and gave.
+pub record IsOnTheWay (nodes : List PlanNode) (old new : Flow) (taken : List Lists) (given : Lists) (place : ℕ) : Type 0 where
   pub ports : List Lists
   pub given' : Lists
   pub stands : FlowStands nodes new ports given'
   pub sources : (k : ℕ) → IsSourceAt nodes k → list_at given' k ≡ list_at given k
   pub grow : AllGrow given given'
   pub earlier : (k : ℕ) → k < place → lists_at new.waiting.items k ≡ lists_at old.waiting.items k
+  pub others : (k : ℕ) → k ≢ place → IsAsBefore taken ports given given' k
+  -- nothing waits on the ports before the last one on which a message was taken
+  pub port : ℕ
+  pub first : (k : ℕ) → k < port → list_at (lists_at new.waiting.items place) k ≡ []
+  pub takes : (before after : List PlanNode) (n : PlanNode) → nodes ≡ before ++ n ∷ after → is_source n.kind ≡ false → length before ≡ place
+      → (t : TakesPortByPort n (lists_at taken (length before)) (list_at given (length before)) (lists_at ports (length before)) (list_at given' (length before))) × AreUpToPort port t.steps
 
 -- and nothing waits there
-pub record IsDrained (nodes : List PlanNode) (old new : Flow) (given : Lists) (place : ℕ) : Type 0 where
-  pub way : IsOnTheWay nodes old new given place
+pub record IsDrained (nodes : List PlanNode) (old new : Flow) (taken : List Lists) (given : Lists) (place : ℕ) : Type 0 where
+  pub way : IsOnTheWay nodes old new taken given place
   pub empty : NothingWaits (lists_at new.waiting.items place)
 
 -- the network went on by turns until nothing waited at the first places
-pub record IsSettledUpTo (nodes : List PlanNode) (new : Flow) (given : Lists) (count : ℕ) : Type 0 where
+pub record IsSettledUpTo (nodes : List PlanNode) (new : Flow) (taken : List Lists) (given : Lists) (count : ℕ) : Type 0 where
   pub ports : List Lists
   pub given' : Lists
   pub stands : FlowStands nodes new ports given'
   pub sources : (k : ℕ) → IsSourceAt nodes k → list_at given' k ≡ list_at given k
   pub grow : AllGrow given given'
   pub empty : (k : ℕ) → k < count → NothingWaits (lists_at new.waiting.items k)
+  pub others : (k : ℕ) → count ≤ k → IsAsBefore taken ports given given' k
+  pub takes : AllTake nodes (λ k. k < count) taken given ports given'
 
 -- A node took the first message of the first port on which one waited, and gave a piece for it; or nothing waited there,
 -- and all is as before.
@@ -93,14 +112,16 @@ pub record IsNetTurn (nodes : List PlanNode) (old new : SerialNet) (ports : List
   pub idle : moved ≡ false → NothingWaits (waiting_at old node) × NetStands nodes new ports given
   pub usable : is_net_spent new ≡ false
 
--- the network went on until nothing waited, and no source gave anything
-pub record HasSettled (nodes : List PlanNode) (new : SerialNet) (given : Lists) : Type 0 where
+-- The network went on from what its nodes had taken and given until nothing waited, and no source gave anything. Each
+-- other node took port by port what came to it.
+pub record HasSettled (nodes : List PlanNode) (new : SerialNet) (taken : List Lists) (given : Lists) : Type 0 where
   pub ports : List Lists
   pub given' : Lists
   pub stands : NetStands nodes new ports given'
   pub sources : (k : ℕ) → IsSourceAt nodes k → list_at given' k ≡ list_at given k
   pub grow : AllGrow given given'
   pub empty : (k : ℕ) → k < length nodes → NothingWaits (waiting_at new k)
+  pub takes : AllTake nodes (λ k. k < length nodes) taken given ports given'
 
 -- the node at a place has such a port
 abbrev pub HasPort : SerialNet → ℕ → ℕ → Type 0

@@ -6,7 +6,7 @@ ghost use Rattle.node_laws.specs.Lists.{Lists, list_at, with_more};
 ghost use Rattle.cedr_plan.specs.declared.plan.PlanNode.{PlanNode};
 ghost use Rattle.cedr_plan.specs.Rules.{IsPlan};
 ghost use Rattle.plan_runs.specs.Runs.{lists_at};
-ghost use Rattle.op_node.specs.Ready.{is_source};
+ghost use Rattle.cedr_plan.specs.Places.{is_source};
 ghost use Rattle.cedr_net.specs.declared.work.Work.{Work};
 ghost use Rattle.cedr_net.specs.Edges.{all_wait, ArePorts, NothingWaits};
 ghost use Rattle.cedr_net.specs.Flows.{WorksAt, IsWorked, IsSourceAt, no_ports};
@@ -17,8 +17,7 @@ use crate::edges::{Readers, pull_at, send};
 use crate::queue::Queues;
 use crate::work::Work;
 use cedr_base::{Message, OutOfMemory, Time};
-use cedr_plan::Plan;
-use cedr_query::find_output;
+use cedr_plan::{Plan, find_output};
 use std::alloc::Global;
 
 /// The nodes of a network, what waits on their ports, and what came of the output.
@@ -179,7 +178,7 @@ impl Flow {
     /// The node at a place takes all that waits on its ports.
     pub(crate) fn drain(&mut self, alloc: Global, place: usize) -> Result<(), OutOfMemory>
         requires { (nodes : List PlanNode) × (ports : List Lists) × (given : Lists) × FlowStands nodes self.old ports given × (place < length nodes) }
-        ensures drained { OnOk result ((nodes : List PlanNode) (ports : List Lists) (given : Lists) → FlowStands nodes self.old ports given → place < length nodes → IsDrained nodes self.old self.new given place) }
+        ensures drained { OnOk result ((nodes : List PlanNode) (ports : List Lists) (given : Lists) → FlowStands nodes self.old ports given → place < length nodes → IsDrained nodes self.old self.new ports given place) }
         ensures keeps { self.new.answer.keeps ≡ self.old.answer.keeps }
     {
         while self.turn(alloc, place)? {}
@@ -190,7 +189,7 @@ impl Flow {
     /// taken for good.
     pub(crate) fn settle(&mut self, alloc: Global) -> Result<(), OutOfMemory>
         requires { (nodes : List PlanNode) × (ports : List Lists) × (given : Lists) × FlowStands nodes self.old ports given }
-        ensures settled { OnOk result ((nodes : List PlanNode) (ports : List Lists) (given : Lists) → FlowStands nodes self.old ports given → IsSettledUpTo nodes self.new given (length nodes)) }
+        ensures settled { OnOk result ((nodes : List PlanNode) (ports : List Lists) (given : Lists) → FlowStands nodes self.old ports given → IsSettledUpTo nodes self.new ports given (length nodes)) }
         ensures keeps { self.new.answer.keeps ≡ self.old.answer.keeps }
     {
         for place in 0..self.works.len() {

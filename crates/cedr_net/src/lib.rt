@@ -14,4 +14,3 @@ mod work;
 
 pub use law::network_runs;
 pub use net::{NetFault, SerialNet};
-pub use queue::{Queue, pop_at};

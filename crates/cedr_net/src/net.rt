@@ -5,7 +5,7 @@ ghost use Rattle.node_laws.specs.Lawful.{all_over};
 ghost use Rattle.node_laws.specs.Lists.{Lists, list_at, with_more};
 ghost use Rattle.cedr_plan.specs.declared.plan.PlanNode.{PlanNode};
 ghost use Rattle.cedr_plan.specs.Rules.{IsPlan};
-ghost use Rattle.cedr_query.specs.Queries.{output_place};
+ghost use Rattle.cedr_plan.specs.Places.{output_place};
 ghost use Rattle.plan_runs.specs.Runs.{lists_at};
 ghost use Rattle.cedr_net.specs.declared.net.NetFault.TheVariants.{OutOfMemory as NoMemory, Spent};
 ghost use Rattle.cedr_net.specs.Flows.{IsSourceAt, no_ports};
@@ -114,10 +114,10 @@ impl SerialNet {
     }
 
     /// Nodes are turned until no message waits. They go in the order of the plan, so that each takes all that waits on its
-    /// ports once and for good.
+    /// ports once and for good, port by port.
     pub fn settle(&mut self, alloc: Global) -> Result<(), NetFault>
         requires { is_net_spent self.old ≡ false → (nodes : List PlanNode) × (ports : List Lists) × (given : Lists) × NetStands nodes self.old ports given }
-        ensures settled { OnOk result ((nodes : List PlanNode) (ports : List Lists) (given : Lists) → NetStands nodes self.old ports given → HasSettled nodes self.new given) }
+        ensures settled { OnOk result ((nodes : List PlanNode) (ports : List Lists) (given : Lists) → NetStands nodes self.old ports given → HasSettled nodes self.new ports given) }
         ensures spent { IsErrOf result Spent ↔ (is_net_spent self.old ≡ true) }
         ensures spends { IsErrOf result NoMemory → is_net_spent self.new ≡ true }
         ensures stays_spent { is_net_spent self.old ≡ true → is_net_spent self.new ≡ true }

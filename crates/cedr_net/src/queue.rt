@@ -7,9 +7,9 @@ use std::alloc::Global;
 use std::collections::VecDeque;
 use std::marker::Model;
 
-/// Messages in order, first in and first out: what waits on a port, or what a source has still to give.
+/// Messages in order, first in and first out: what waits on a port.
 #[derive(Drop)]
-pub struct Queue {
+pub(crate) struct Queue {
     messages: VecDeque<Message>,
 }
 
@@ -28,15 +28,6 @@ impl Queue {
     {
         Queue {
             messages: VecDeque::new(alloc),
-        }
-    }
-
-    /// These messages, in order. It takes no memory.
-    pub fn from_vec(messages: Vec<Message>) -> Queue
-        ensures { result ≡ messages.items }
-    {
-        Queue {
-            messages: VecDeque::from_vec(messages),
         }
     }
 
@@ -79,7 +70,7 @@ fn push_on(ports: &mut Vec<Queue>, port: usize, message: Message) -> Result<(), 
 }
 
 /// Takes the first message of the queue at a place.
-pub fn pop_at(queues: &mut Vec<Queue>, place: usize) -> Option<Message>
+fn pop_at(queues: &mut Vec<Queue>, place: usize) -> Option<Message>
     requires { place < length queues.old.items }
     ensures some { IfSome result (λ m. (list_at queues.old.items place ≡ m ∷ list_at queues.new.items place) × (queues.new.items ≡ slice_set queues.old.items place (list_at queues.new.items place))) }
     ensures none { IfNone result ((list_at queues.old.items place ≡ []) × (queues.new.items ≡ queues.old.items)) }

@@ -6,15 +6,15 @@ ghost use Rattle.node_laws.specs.Lawful.{all_over};
 ghost use Rattle.node_laws.specs.Lists.{Lists, list_at, with_more};
 ghost use Rattle.node_laws.specs.Pass.{HasBlockWithin};
 ghost use Rattle.cedr_plan.specs.declared.plan.PlanNode.{PlanNode};
-ghost use Rattle.op_node.specs.Ready.{is_source, IsReady};
+ghost use Rattle.op_node.specs.Ready.{IsReady};
+ghost use Rattle.cedr_plan.specs.Places.{is_source};
 ghost use Rattle.cedr_net.specs.declared.work.Work.{Work};
 ghost use Rattle.cedr_net.specs.Flows.{WorksAt, PortAt, no_ports};
 
 use cedr_base::{Message, OutOfMemory};
 use cedr_node::Node;
-use cedr_plan::PlanNode;
+use cedr_plan::{PlanNode, is_source};
 use node_laws::Forgotten;
-use op_node::is_source;
 use std::alloc::Global;
 
 /// The node that works at a place of a plan. A source has none.

@@ -10,7 +10,8 @@ ghost use Rattle.cedr_plan.specs.declared.plan.PlanNode.{PlanNode};
 ghost use Rattle.cedr_node.specs.declared.node.Node.{Node};
 ghost use Rattle.cedr_node.specs.Nodes.{made_of, is_spent, port_count, NodeStands};
 ghost use Rattle.op_node.specs.Meanings.{meaning_of, port_levels};
-ghost use Rattle.op_node.specs.Ready.{is_source, IsReady};
+ghost use Rattle.op_node.specs.Ready.{IsReady};
+ghost use Rattle.cedr_plan.specs.Places.{is_source};
 
 /// The law of the nodes of plans: a node that an accepted plan has after others, and that is no source, meets what
 /// [`crate::Node::new`] asks of it.

@@ -6,3 +6,4 @@ pub mod NoFaults
 pub mod SoundNodes
 pub mod SoundPlans
 pub mod UnlikeLemmas
+pub mod PlaceLemmas

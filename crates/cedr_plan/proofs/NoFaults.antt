@@ -10,7 +10,8 @@ use Rattle.serde_json.specs.Find.{get, as_str, as_u64, as_number}
 use Rattle.cedr_base.specs.declared.field.FieldType.{FieldType}
 use Rattle.cedr_base.specs.declared.field.FieldType.TheVariants as field_type
 use Rattle.cedr_expr.specs.Types.{first_type_fault, first_bad_column, first_differing, first_past_end, keep_fault_of, same_type, type_fault_of}
-use Rattle.cedr_plan.specs.Drawn.{Node, is_output_node}
+use Rattle.cedr_plan.specs.Drawn.{Node}
+use Rattle.cedr_plan.specs.Places.{is_output}
 use Rattle.cedr_plan.specs.Json.{as_list, as_whole, is_number, is_text, is_whole_within, is_word, has, values_of}
 use Rattle.cedr_plan.specs.Levels.{strong, middle, is_bad_bound, has_bad_bound, is_unknown_level, bound_at, level_of, has_block_over_memory}
 use Rattle.cedr_plan.specs.Nodes.{is_name, is_name_value, text_at, number_at, place_of, is_unknown, tests_at, is_text_column, same_types}
@@ -34,11 +35,11 @@ name_there d h = named (get (codes "name") d) h
 
 -- ---- inputs
 
-known : (earlier : List Node) (place : ℕ) (found : Option Node) → slice_get earlier place ≡ found → option_map_or is_output_node found true ≡ false → (place < length earlier) × IfSome found (λ node. is_output_node node ≡ false)
+known : (earlier : List Node) (place : ℕ) (found : Option Node) → slice_get earlier place ≡ found → option_map_or (λ (node : Node). is_output node.kind) found true ≡ false → (place < length earlier) × IfSome found (λ node. is_output node.kind ≡ false)
 known earlier place None e h = absurd (true≢false h)
 known earlier place (Some node) e h = (slice_get_within earlier place node e, h)
 
-known_first : (earlier : List Node) (o : Option ℕ) (rest : List ℕ) (n : ℕ) → option_map_or (λ place. option_map_or is_output_node (slice_get earlier place) true) o true ≡ false
+known_first : (earlier : List Node) (o : Option ℕ) (rest : List ℕ) (n : ℕ) → option_map_or (λ place. option_map_or (λ (node : Node). is_output node.kind) (slice_get earlier place) true) o true ≡ false
     → (length rest ≡ n) × AllByRecursion (IsInput earlier) rest → (length (cons_option o rest) ≡ suc n) × AllByRecursion (IsInput earlier) (cons_option o rest)
 known_first earlier None rest n h r = absurd (true≢false h)
 known_first earlier (Some place) rest n h r = (ap suc r.0, (known earlier place (slice_get earlier place) refl h, r.1))

@@ -7,7 +7,8 @@ use Rattle.std.proofs.lemmas.List.{append-nil}
 use Rattle.std.proofs.lemmas.List.Sums.{sum_by-cons}
 use Rattle.serde_json.specs.Data.{Data}
 use Rattle.serde_json.specs.Find.{get}
-use Rattle.cedr_plan.specs.Drawn.{Node, Drawn, is_output_node}
+use Rattle.cedr_plan.specs.Drawn.{Node, Drawn}
+use Rattle.cedr_plan.specs.Places.{is_output}
 use Rattle.cedr_plan.specs.Json.{as_whole, is_whole_within}
 use Rattle.cedr_plan.specs.Nodes.{fault_under, fault_without_operator, node_fault, node_from, node_of_value, operator_at}
 use Rattle.cedr_plan.specs.Operators.{operator_row}
@@ -60,11 +61,11 @@ outputs_by : (b : Bool) (number n : ℕ) (rest : List ℕ) → length rest ≡ n
 outputs_by true number n rest e = omega (arith, e)
 outputs_by false number n rest e = omega (arith, e)
 
-outputs_count : (number : ℕ) (nodes : List Node) → length (outputs_from number nodes) ≡ count_by is_output_node nodes
+outputs_count : (number : ℕ) (nodes : List Node) → length (outputs_from number nodes) ≡ count_by (λ (node : Node). is_output node.kind) nodes
 outputs_count number [] = refl
 outputs_count number (node ∷ nodes) =
-    outputs_by (is_output_node node) number (count_by is_output_node nodes) (outputs_from (number + 1) nodes) (outputs_count (number + 1) nodes)
-    ∙ sym (sum_by-cons (λ x. cond (is_output_node x) 1 0) node nodes)
+    outputs_by (is_output node.kind) number (count_by (λ (node : Node). is_output node.kind) nodes) (outputs_from (number + 1) nodes) (outputs_count (number + 1) nodes)
+    ∙ sym (sum_by-cons (λ (x : Node). cond (is_output x.kind) 1 0) node nodes)
 
 one_of : (outputs : List ℕ) → excess_output outputs ≡ None → length outputs ≡ 1
 one_of [] h = let no : ⊥ = cc in absurd no

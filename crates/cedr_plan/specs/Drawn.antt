@@ -1,9 +1,8 @@
 -- Plans as lists: what a `Plan` and its nodes are, without where they lie in memory.
-use Rattle.std.specs.Prelude.{ℕ, Bool, true, false, List, map}
+use Rattle.std.specs.Prelude.{ℕ, List, map}
 use Rattle.cedr_base.specs.declared.field.FieldType.{FieldType}
 use Rattle.cedr_base.specs.declared.level.Level.{Level}
 use Rattle.cedr_plan.specs.declared.plan.NodeKind.{NodeKind}
-use Rattle.cedr_plan.specs.declared.plan.NodeKind.TheVariants as kind
 use Rattle.cedr_plan.specs.declared.plan.PlanNode.{PlanNode}
 use Rattle.cedr_plan.specs.declared.plan.Plan.{Plan}
 
@@ -28,10 +27,3 @@ node_of node = record { name = node.name; kind = node.kind; inputs = node.inputs
 -- a `Plan` as lists, without where it lies in memory
 abbrev pub drawn : Plan → Drawn
 drawn plan = record { nodes = map node_of plan.nodes.items; edge = plan.edge }
-
--- the node is an output
-abbrev pub is_output_node : Node → Bool
-is_output_node node = is_output_kind node.kind where
-  is_output_kind : NodeKind → Bool
-  is_output_kind kind.Output = true
-  is_output_kind other = false

@@ -4,6 +4,7 @@ pub mod Json
 pub mod Levels
 pub mod Tests
 pub mod Drawn
+pub mod Places
 pub mod Nodes
 pub mod Rules
 pub mod Plans

@@ -16,7 +16,8 @@ use Rattle.serde_json.specs.Data.{Data}
 use Rattle.serde_json.specs.Find.{get, as_bool, as_str}
 use Rattle.cedr_plan.specs.declared.plan.NodeKind.{NodeKind}
 use Rattle.cedr_plan.specs.declared.plan.NodeKind.TheVariants as kind
-use Rattle.cedr_plan.specs.Drawn.{Node, is_output_node}
+use Rattle.cedr_plan.specs.Drawn.{Node}
+use Rattle.cedr_plan.specs.Places.{is_output}
 use Rattle.cedr_plan.specs.Json.{as_list, as_whole, is_list, is_number, is_text, is_whole_within, has, values_of}
 use Rattle.cedr_plan.specs.Levels.{middle, is_level, has_bad_bound, is_unknown_level, level_of, has_block_over_memory}
 use Rattle.cedr_plan.specs.Operators.{Row, operator_row, operator_of, member_key, form_of}
@@ -226,7 +227,7 @@ is_named_twice earlier d = list_any (is_named (text_at (codes "name") d)) earlie
 
 -- no earlier node, or an output
 abbrev pub is_unknown : List Node → Data → Bool
-is_unknown earlier d = option_map_or (λ place. option_map_or is_output_node (slice_get earlier place) true) (place_of earlier d) true
+is_unknown earlier d = option_map_or (λ place. option_map_or (λ (node : Node). is_output node.kind) (slice_get earlier place) true) (place_of earlier d) true
 
 -- 9
 unfoldable pub has_unknown_input : List Node → Row → Data → Bool

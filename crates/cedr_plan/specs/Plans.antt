@@ -6,7 +6,8 @@ use Rattle.std.specs.Str.{is_utf8}
 use Rattle.serde_json.specs.Data.{Data}
 use Rattle.serde_json.specs.Find.{get, as_array, as_object}
 use Rattle.serde_json.specs.Read.{read}
-use Rattle.cedr_plan.specs.Drawn.{Node, Drawn, is_output_node}
+use Rattle.cedr_plan.specs.Drawn.{Node, Drawn}
+use Rattle.cedr_plan.specs.Places.{is_output}
 use Rattle.cedr_plan.specs.Json.{as_whole, is_number, is_whole_within, has, values_of}
 use Rattle.cedr_plan.specs.Nodes.{first_fault, node_fault, node_of_value}
 use Rattle.cedr_plan.specs.Rules.{first_unused}
@@ -75,7 +76,7 @@ nodes_from earlier (d ∷ ds) = unless_fault (node_fault earlier d) (length earl
 -- the numbers of the outputs, where the first node has this number
 abbrev pub outputs_from : ℕ → List Node → List ℕ
 outputs_from number [] = []
-outputs_from number (node ∷ nodes) = if is_output_node node then number ∷ outputs_from (number + 1) nodes else outputs_from (number + 1) nodes
+outputs_from number (node ∷ nodes) = if is_output node.kind then number ∷ outputs_from (number + 1) nodes else outputs_from (number + 1) nodes
 
 -- where there isn't exactly one output: the second one, or 0 where there is none
 abbrev pub excess_output : List ℕ → Option ℕ

@@ -9,13 +9,15 @@ use Rattle.cedr_expr.specs.Types.{type_fault_of, keep_fault_of}
 use Rattle.cedr_expr.specs.declared.test.Test.{Test}
 use Rattle.cedr_plan.specs.declared.plan.NodeKind.{NodeKind}
 use Rattle.cedr_plan.specs.declared.plan.NodeKind.TheVariants as kind
-use Rattle.cedr_plan.specs.Drawn.{Node, Drawn, is_output_node, drawn}
+use Rattle.cedr_plan.specs.Drawn.{Node, Drawn, drawn, node_of}
+use Rattle.cedr_plan.specs.Places.{is_output}
 use Rattle.cedr_plan.specs.Levels.{middle, has_block_over_memory}
 use Rattle.cedr_plan.specs.Nodes.{is_name, is_named, types_of, first_port, all_ports, group_types}
 use Rattle.cedr_plan.specs.Operators.{Row, operator_row}
 use Rattle.cedr_plan.specs.declared.operator.Operator.{Operator}
 use Rattle.cedr_plan.specs.declared.operator.Operator.TheVariants as operator
 use Rattle.cedr_plan.specs.declared.plan.Plan.{Plan}
+use Rattle.cedr_plan.specs.declared.plan.PlanNode.{PlanNode}
 
 -- the operator of what a node does
 abbrev pub operator_of_kind : NodeKind → Operator
@@ -44,7 +46,7 @@ port_types earlier node = map (types_of earlier) node.inputs
 
 -- an earlier node that isn't an output
 abbrev pub IsInput : List Node → ℕ → Type 0
-IsInput earlier place = (place < length earlier) × IfSome (slice_get earlier place) (λ node. is_output_node node ≡ false)
+IsInput earlier place = (place < length earlier) × IfSome (slice_get earlier place) (λ node. is_output node.kind ≡ false)
 
 -- a bound of a level is at most 2^40, or without limit
 abbrev pub IsBound : Option ℕ → Type 0
@@ -133,7 +135,7 @@ is_read place nodes = list_any (λ (node : Node). list_any (λ input. input == p
 -- list stands at this place in the plan
 abbrev pub first_unused : ℕ → List Node → Option ℕ
 first_unused place [] = None
-first_unused place (node ∷ nodes) = if is_output_node node || is_read place nodes then first_unused (place + 1) nodes else Some (place + 1)
+first_unused place (node ∷ nodes) = if is_output node.kind || is_read place nodes then first_unused (place + 1) nodes else Some (place + 1)
 
 -- the rules of a plan: each node reads earlier ones that fit, there is one output, and all else is used
 pub record IsSound (plan : Drawn) : Type 0 where
@@ -141,9 +143,15 @@ pub record IsSound (plan : Drawn) : Type 0 where
   pub count : length plan.nodes ≤ 64
   pub least_edge : 1 ≤ plan.edge
   pub most_edge : plan.edge ≤ 1024
-  pub one_output : count_by is_output_node plan.nodes ≡ 1
+  pub one_output : count_by (λ (node : Node). is_output node.kind) plan.nodes ≡ 1
   pub used : first_unused 0 plan.nodes ≡ None
 
 -- the plan keeps the rules
 abbrev pub IsPlan : Plan → Type 0
 IsPlan plan = IsSound (drawn plan)
+
+-- the nodes of a plan that keeps the rules
+pub record ArePlanned (nodes : List PlanNode) : Type 0 where
+  pub plan : Drawn
+  pub sound : IsSound plan
+  pub nodes_are : map node_of nodes ≡ plan.nodes

@@ -2,14 +2,16 @@ ghost use Rattle.std.specs.Prelude.{◌≡◌, IfOk, map, true};
 ghost use Rattle.std.specs.Option.{option_map_or};
 ghost use Rattle.std.specs.List.{filter_map, position, slice_get};
 ghost use Rattle.serde_json.specs.View.{view};
-ghost use Rattle.cedr_plan.specs.Drawn.{node_of, is_output_node};
+ghost use Rattle.cedr_plan.specs.Drawn.{Node, node_of};
 ghost use Rattle.cedr_plan.specs.Nodes.{is_named, place_of, is_unknown, input_values, level_at, types_of, inputs_at, first_port, all_ports, has_ports};
 ghost use Rattle.cedr_plan.specs.Operators.{operator_row};
+ghost use Rattle.cedr_plan.specs.Places.{is_output};
 
 use crate::json::values_at;
 use crate::level::{MIDDLE, level_of};
 use crate::operator::Operator;
-use crate::plan::{NodeKind, PlanNode};
+use crate::places::is_output;
+use crate::plan::PlanNode;
 use cedr_base::{FieldType, Level, OutOfMemory};
 use serde_json::Value;
 use std::alloc::Global;
@@ -42,12 +44,6 @@ pub(crate) fn level_at(operator: Operator, node: &Value) -> Level
         Some(level) => level_of(level),
         None => MIDDLE,
     }
-}
-
-pub(crate) fn is_output(node: &PlanNode) -> bool
-    ensures { result ≡ is_output_node (node_of node.now) }
-{
-    matches!(node.kind, NodeKind::Output)
 }
 
 pub(crate) fn is_named(node: &PlanNode, name: &str) -> bool
@@ -84,10 +80,10 @@ pub(crate) fn is_unknown(earlier: &[PlanNode], value: &Value) -> bool
 }
 
 fn is_output_at(earlier: &[PlanNode], place: usize) -> bool
-    ensures { result ≡ option_map_or is_output_node (slice_get (map node_of earlier.now) place) true }
+    ensures { result ≡ option_map_or (λ (node : Node). is_output node.kind) (slice_get (map node_of earlier.now) place) true }
 {
     match earlier.get(place) {
-        Some(node) => is_output(node),
+        Some(node) => is_output(&node.kind),
         None => true,
     }
 }

@@ -4,7 +4,7 @@ ghost use Rattle.cedr_plan.specs.Drawn.{node_of};
 ghost use Rattle.cedr_plan.specs.Plans.{excess_output, outputs_from};
 ghost use Rattle.cedr_plan.specs.Rules.{first_unused, is_read};
 
-use crate::inputs::is_output;
+use crate::places::is_output;
 use crate::plan::PlanNode;
 
 /// The number of the second output, or 0 where there is none, if there isn't exactly one. The first of these
@@ -15,7 +15,7 @@ pub(crate) fn find_excess_output(found: bool, number: usize, nodes: &[PlanNode])
 {
     match nodes {
         [] => if found { None } else { Some(0) },
-        [node, rest @ ..] => if !is_output(node) {
+        [node, rest @ ..] => if !is_output(&node.kind) {
             find_excess_output(found, number + 1, rest)
         } else if found {
             Some(number)
@@ -33,7 +33,7 @@ pub(crate) fn find_unused(place: usize, nodes: &[PlanNode]) -> Option<usize>
 {
     match nodes {
         [] => None,
-        [node, rest @ ..] => if is_output(node) || is_read(place, rest) {
+        [node, rest @ ..] => if is_output(&node.kind) || is_read(place, rest) {
             find_unused(place + 1, rest)
         } else {
             Some(place + 1)

@@ -1,4 +1,3 @@
 pub mod Feeding
 pub mod NodeLemmas
 pub mod QueryLemmas
-pub mod PlaceLemmas

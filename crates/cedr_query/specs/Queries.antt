@@ -1,26 +1,10 @@
 -- What a plan's nodes make of the tables and the marks of its sources.
-use Rattle.std.specs.Prelude.{ℕ, List, [], ◌∷◌, ◌++◌, Bool, true, false, map, count_by, unwrap_or, if◌then◌else◌}
-use Rattle.std.specs.List.{position}
+use Rattle.std.specs.Prelude.{ℕ, List, [], ◌∷◌, ◌++◌, map, if◌then◌else◌}
 use Rattle.cedr_base.specs.declared.row.Row.{Row}
-use Rattle.cedr_plan.specs.declared.plan.NodeKind.{NodeKind}
-use Rattle.cedr_plan.specs.declared.plan.NodeKind.TheVariants as kind
 use Rattle.cedr_plan.specs.declared.plan.PlanNode.{PlanNode}
+use Rattle.cedr_plan.specs.Places.{is_source, source_count}
 use Rattle.cedr_table.specs.Operators.{Tables, table_at, mark_at}
 use Rattle.op_node.specs.Meanings.{meaning_of}
-use Rattle.op_node.specs.Ready.{is_source}
-
--- a node of this kind is an output
-abbrev pub is_output : NodeKind → Bool
-is_output kind.Output = true
-is_output other = false
-
--- how many of the nodes are sources
-abbrev pub source_count : List PlanNode → ℕ
-source_count nodes = count_by (λ (node : PlanNode). is_source node.kind) nodes
-
--- where the output stands among the nodes
-abbrev pub output_place : List PlanNode → ℕ
-output_place nodes = unwrap_or (position (λ (node : PlanNode). is_output node.kind) nodes) 0
 
 -- the tables of the nodes that a node reads, one for each port
 abbrev pub input_tables : Tables → PlanNode → Tables

@@ -6,9 +6,7 @@
 #![tactic(auto)]
 
 mod ask;
-mod law;
 mod node;
 mod query;
 
-pub use law::plan_places;
-pub use query::{evaluate, find_output, reach};
+pub use query::{evaluate, reach};

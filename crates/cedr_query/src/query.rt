@@ -1,36 +1,17 @@
-ghost use Rattle.std.specs.Prelude.{ℕ, ◌≡◌, ◌<◌, ◌≤◌, [], All, IfOk, OnOk, true, false, length};
+ghost use Rattle.std.specs.Prelude.{ℕ, ◌≡◌, ◌<◌, ◌≤◌, [], All, IfOk, true, false, length};
 ghost use Rattle.cedr_base.specs.Rows.{SameRows, AreRows};
 ghost use Rattle.cedr_table.specs.Operators.{Tables, AreTimes, SameTables, table_at, mark_at, HaveRows};
 ghost use Rattle.cedr_base.specs.declared.time.TheConstants.{FOREVER};
-ghost use Rattle.cedr_query.specs.Queries.{is_output, source_count, output_place, query, reaches, each_node, node_table, node_mark};
-ghost use Rattle.op_node.specs.Ready.{is_source, IsReady};
+ghost use Rattle.cedr_query.specs.Queries.{query, reaches, each_node, node_table, node_mark};
+ghost use Rattle.cedr_plan.specs.Places.{is_source, output_place, source_count};
+ghost use Rattle.op_node.specs.Ready.{IsReady};
 ghost use Rattle.cedr_plan.specs.Rules.{IsPlan};
 
 use crate::node::ask_node;
 use cedr_base::{OutOfMemory, Time};
-use cedr_plan::{NodeKind, Plan, PlanNode};
+use cedr_plan::{Plan, PlanNode, count_sources, find_output, is_source};
 use cedr_table::{Table, no_marks};
-use op_node::is_source;
 use std::alloc::Global;
-
-fn is_output(kind: &NodeKind) -> bool
-    ensures { result ≡ is_output kind.now }
-{
-    matches!(kind, NodeKind::Output)
-}
-
-/// How many of the nodes are sources.
-fn count_sources(nodes: &[PlanNode]) -> usize
-    ensures { result ≡ source_count nodes.now }
-{
-    let mut count = 0;
-    for node in nodes {
-        if is_source(&node.kind) {
-            count += 1;
-        }
-    }
-    count
-}
 
 /// The table of a node, from those of the nodes before it.
 fn find_table(
@@ -140,19 +121,6 @@ fn find_marks(
         marks.push(mark)?;
     }
     Ok(marks)
-}
-
-/// Where the output stands among the nodes of a plan, which have one. It takes no memory. O(n).
-pub fn find_output(nodes: &[PlanNode]) -> usize
-    ensures place { result ≡ output_place nodes.now }
-    ensures within { 0 < length nodes.now → result < length nodes.now }
-{
-    for place in 0..nodes.len() {
-        if is_output(&nodes[place].kind) {
-            return place;
-        }
-    }
-    0
 }
 
 /// The query of a plan from scratch: the rows of its output, from one table for each source, in plan order. It takes a

@@ -13,10 +13,11 @@ use Rattle.cedr_guard.specs.Sources.{ending, judged, messages_of}
 use Rattle.node_laws.specs.Lists.{Lists, list_at}
 use Rattle.worker_outlets.specs.Outgoing.{last_message}
 use Rattle.cedr_plan.specs.declared.plan.PlanNode.{PlanNode}
-use Rattle.cedr_query.specs.Queries.{source_count}
-use Rattle.cedr_query.proofs.PlaceLemmas.{sources_behind}
-use Rattle.plan_runs.specs.Runs.{IsPrefix, sources_in}
-use Rattle.plan_answer.specs.Queries.{given_text, source_nodes}
+use Rattle.plan_runs.specs.Runs.{IsPrefix, sources_in, IsPartialRun}
+use Rattle.plan_answer.specs.Queries.{given_text, source_nodes, IsStrong}
+use Rattle.cedr_plan.specs.Places.{is_source, output_place, source_count}
+use Rattle.cedr_plan.proofs.PlaceLemmas.{sources_behind}
+use Rattle.cedr_base.specs.Messages.{changes_of}
 use Rattle.plan_answer.specs.Sources.{AreTold, file_of, source_files}
 use Rattle.cedr_text.specs.declared.event_line.Shape.{Shape}
 use Rattle.plan_threads.specs.SoFar.{IsSoFar, SourceBegan, unbroken}
@@ -26,8 +27,7 @@ use Rattle.cedr_worker.specs.declared.source.SourceEnd.{SourceEnd}
 use Rattle.cedr_worker.specs.declared.stop.SourceStop.{SourceStop}
 use Rattle.cedr_worker.specs.declared.stop.SourceStop.TheVariants as stop
 use Rattle.cedr_worker.specs.Stops.{IsGiven, StoppedAs, last_at}
-use Rattle.op_node.specs.Ready.{is_source}
-use Rattle.cedr_run.specs.Answers.{AllHaveBegun, HasBegun, StreamsSoFar}
+use Rattle.cedr_run.specs.Answers.{AllHaveBegun, HasBegun, StreamsSoFar, AddsInOrder}
 use Rattle.cedr_worker.proofs.SourceLemmas.{open_unbroken}
 
 -- ---- one source
@@ -119,15 +119,20 @@ begun_each told (n ∷ nodes) (g ∷ given) each =
     begun_more told (is_source n.kind) n (source_nodes nodes) g (sources_in nodes given) (each [] nodes n refl)
     (begun_each told nodes given (λ before after m whole. each (n ∷ before) after m (ap (λ (ns : List PlanNode). n ∷ ns) whole)))
 
+-- what a strong output gives in a partial run over the first messages of these sources
+abbrev pub AllOrdered : (List ℕ → List ℕ) → List PlanNode → Type 0
+AllOrdered told nodes = (begun : Lists) (ports : List Lists) (given : Lists) → AllHaveBegun told (source_nodes nodes) begun → IsPartialRun nodes begun ports given → IsStrong nodes → AddsInOrder (changes_of (list_at given (output_place nodes)))
+
 -- the changes of a run so far are those of a partial run over the first messages of the sources
 pub streams_so_far : {S : Type 0} (rest : S → Option (List ℕ)) (faults : S → ℕ) (content : List ℕ → Option (List ℕ)) (told : List ℕ → List ℕ) (nodes : List PlanNode) (sources : List S) (ends : List (SourceEnd S)) (list : List Change)
-    → length ends ≡ source_count nodes → AreFound rest content nodes sources → AreTold content told (source_files nodes) → (so_far : IsSoFar rest faults nodes sources ends list) → StreamsSoFar told nodes (given_text nodes so_far.given)
-streams_so_far {S = S} rest faults content told nodes sources ends list count found known so_far = record {
+    → AllOrdered told nodes → length ends ≡ source_count nodes → AreFound rest content nodes sources → AreTold content told (source_files nodes) → (so_far : IsSoFar rest faults nodes sources ends list) → StreamsSoFar told nodes (given_text nodes so_far.given)
+streams_so_far {S = S} rest faults content told nodes sources ends list ordered count found known so_far = record {
   begun = sources_in nodes so_far.given;
   first = begun_each told nodes so_far.given (each ends count so_far);
   ports = so_far.ports;
   given = so_far.given;
   run = so_far.run;
+  ordered = ordered (sources_in nodes so_far.given) so_far.ports so_far.given (begun_each told nodes so_far.given (each ends count so_far)) so_far.run;
   text_is = refl;
 }
   where

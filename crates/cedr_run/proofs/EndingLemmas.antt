@@ -1,5 +1,5 @@
 -- How a command ends, from how its steps went.
-use Rattle.std.proofs.Common.{◌≡◌, ◌≢◌, ℕ, suc, Bool, ◌<◌, ◌⊎◌, inl, inr, List, [], ◌∷◌, ◌++◌, take, Option, None, Some, Result, Ok, Err, refl, sym, ap, ◌∙◌, subst, rules, tests}
+use Rattle.std.proofs.Common.{◌≡◌, ◌≢◌, ℕ, suc, Bool, ◌<◌, ◌⊎◌, inl, inr, List, [], ◌∷◌, ◌++◌, take, Option, None, Some, Result, Ok, Err, refl, sym, ap, ◌∙◌, subst, rules, tests, false}
 use Rattle.std.specs.Prelude.{IfSome, OnOk, OnErr}
 use Rattle.std.specs.Io.KnownBytes.{Appends, Keeps}
 use Rattle.std.proofs.lemmas.List.{append-nil, append_assoc}
@@ -10,20 +10,22 @@ use Rattle.cedr_plan.specs.Plans.{plan_of}
 use Rattle.cedr_plan.specs.declared.fault.PlanKind.{PlanKind}
 use Rattle.cedr_plan.specs.declared.plan.Plan.{Plan}
 use Rattle.cedr_plan.specs.declared.plan.PlanNode.{PlanNode}
-use Rattle.plan_answer.specs.Sources.{AsksFirst, AreTold, AreRead, source_files}
-use Rattle.node_laws.specs.Lists.{Lists}
+use Rattle.plan_answer.specs.Sources.{AsksFirst, AreTold, source_files}
+use Rattle.node_laws.specs.Lists.{Lists, AreTables}
+use Rattle.plan_serial.specs.Rounds.{ByLine, all_messages}
+use Rattle.plan_serial.specs.Feeding.{AnswersInRounds}
+use Rattle.plan_serial.specs.Sources.{AreReadByLine}
 use Rattle.cedr_run.specs.declared.command.Job.{Job}
 use Rattle.cedr_run.specs.declared.command.Job.TheVariants.{History, Check, Serial, Run, Stream, Audit, Live, Make}
 use Rattle.cedr_run.specs.declared.outcome.Outcome.{Outcome}
 use Rattle.cedr_run.specs.declared.outcome.Outcome.TheVariants as outcome
 use Rattle.cedr_run.specs.declared.status.Status.{Status}
 use Rattle.cedr_run.specs.declared.status.Status.TheVariants as status
-use Rattle.node_laws.specs.Lists.{AreTables}
-use Rattle.cedr_query.specs.Queries.{source_count}
+use Rattle.cedr_plan.specs.Places.{source_count}
 use Rattle.plan_runs.specs.Runs.{AllWhole, sources_in}
-use Rattle.plan_answer.specs.Queries.{AreAcceptedSources, source_nodes, IsAnswerText}
+use Rattle.plan_answer.specs.Queries.{AreAcceptedSources, source_nodes}
 use Rattle.cedr_table.specs.Operators.{Tables}
-use Rattle.cedr_run.specs.Answers.{AnswersQuery, IsPlanOf, IsNoPlan, OfPlan, Gives, Refuses, Begins, RefusesPlan, RefusesSources, GivesPlan, BeginsPlan}
+use Rattle.cedr_run.specs.Answers.{AnswersInTurns, AnswersQuery, IsPlanOf, IsNoPlan, OfPlan, Gives, Refuses, Begins, RefusesPlan, RefusesSources, GivesPlan, BeginsPlan}
 use Rattle.cedr_run.specs.Commands.{Command, named_files}
 use Rattle.cedr_run.specs.Seen.{FilesSeen, SinkSeen, SinkGains}
 use Rattle.cedr_run.specs.Outcomes.{status_of, outcome_text, TellsLack, CommandEnds, AsksOnly, AsksPlan}
@@ -96,7 +98,7 @@ pub ends_no_plan : (command : Command) (files files' : FilesSeen) (out : SinkSee
     → CommandEnds command files files' out out o
 ends_no_plan command files files' out (outcome.BadPlan kind node) h same refuses =
     (record { files_count = same; out_count = refl }, kept_itself out.written, λ told is. refuses told kind node (known_no_plan (files.content command.file) (told command.file) kind node is.0 h))
-ends_no_plan command files files' out outcome.Read h rose refuses = (rose, inl (kept_itself out.written))
+ends_no_plan command files files' out outcome.Read h rose refuses = (rose, refl, inl (kept_itself out.written))
 ends_no_plan command files files' out outcome.OutOfMemory h same refuses = inl (kept_itself out.written)
 ends_no_plan command files files' out (outcome.Events said) h same refuses = absurd h
 ends_no_plan command files files' out outcome.Done h same refuses = absurd h
@@ -187,8 +189,8 @@ unfolding IsOpened
 opened_told files file nodes opened = opened
 
 -- and so were its sources
-pub are_opened : (files files' : FilesSeen) (file : List ℕ) (nodes : List PlanNode) (left : Lists) → IsOpened files file nodes → files'.faults ≡ files.faults
-    → ((told : List ℕ → List ℕ) → AreTold files.content told (source_files nodes) → AreRead told nodes left []) → AreOpened files files' file nodes left
+pub are_opened : (files files' : FilesSeen) (file : List ℕ) (nodes : List PlanNode) (left : ByLine) → IsOpened files file nodes → files'.faults ≡ files.faults
+    → ((told : List ℕ → List ℕ) → AreTold files.content told (source_files nodes) → AreReadByLine told nodes left []) → AreOpened files files' file nodes left
 unfolding IsOpened
 are_opened files files' file nodes left opened same read = record { plan = opened; sources = read; faults = same }
 
@@ -209,7 +211,7 @@ sources_stopped T job file script files files' out (outcome.Events said) nodes r
   (λ live stream. kept_itself out.written),
   λ told is. ([], refuses_of job files.content told file script said.items reads (record { nodes = nodes; plan = opened told (named_one job files.content told file script reads is); holding = λ all. refuses told all }), nothing_appends out.written),
 )
-sources_stopped T job file script files files' out outcome.Read nodes reads opened stops counts refuses = (counts, inl (kept_itself out.written))
+sources_stopped T job file script files files' out outcome.Read nodes reads opened stops counts refuses = (counts, refl, inl (kept_itself out.written))
 sources_stopped T job file script files files' out outcome.OutOfMemory nodes reads opened stops counts refuses = inl (kept_itself out.written)
 sources_stopped T job file script files files' out (outcome.BadPlan kind node) nodes reads opened stops counts refuses = absurd stops
 sources_stopped T job file script files files' out outcome.Done nodes reads opened stops counts refuses = absurd stops
@@ -217,7 +219,7 @@ sources_stopped T job file script files files' out outcome.Usage nodes reads ope
 sources_stopped T job file script files files' out outcome.Write nodes reads opened stops counts refuses = absurd stops
 
 -- they were: a text was written, or begun
-pub ends_text : (texts : Texts) (nodes : List PlanNode) (left : Lists) (out out' : SinkSeen) (o : Outcome) (text : List ℕ) → WritesText o out out' text → ((told : List ℕ → List ℕ) → AreRead told nodes left [] → texts told nodes text)
+pub ends_text : (texts : Texts) (nodes : List PlanNode) (left : ByLine) (out out' : SinkSeen) (o : Outcome) (text : List ℕ) → WritesText o out out' text → ((told : List ℕ → List ℕ) → AreReadByLine told nodes left [] → texts told nodes text)
     → EndsWith texts texts nodes left out out' o
 ends_text texts nodes left out out' outcome.Done text h gives = (h.0, record { text = text; gives = gives; wrote = h.1 })
 ends_text texts nodes left out out' outcome.Write text h gives = (h.0, record { text = text; begins = gives; wrote = h.1 })
@@ -228,12 +230,37 @@ ends_text texts nodes left out out' (outcome.BadPlan kind node) text h gives = a
 ends_text texts nodes left out out' outcome.Read text h gives = absurd h
 
 -- where the sources are accepted, the text of an answer over their canonical histories answers the query
-pub answers_query : (always : Bool) (told : List ℕ → List ℕ) (nodes : List PlanNode) (left : Lists) (text : List ℕ) → AcceptedLeft told nodes left
-    → ((histories : Tables) → AllWhole (source_count nodes) (sources_in nodes left) → AreTables (sources_in nodes left) histories → IsAnswerText always nodes (sources_in nodes left) histories text) → AnswersQuery always told nodes text
-answers_query always told nodes left text got answer = record { sources = sources_in nodes left; histories = got.0; accepted = got.1; text_is = answer got.0 got.2 got.3 }
+pub answers_query : (always : Bool) (told : List ℕ → List ℕ) (nodes : List PlanNode) (left : ByLine) (text : List ℕ) → AreReadByLine told nodes left [] → AcceptedLeft told nodes (all_messages left)
+    → ((histories : Tables) → AllWhole (source_count nodes) (sources_in nodes (all_messages left)) → AreTables (sources_in nodes (all_messages left)) histories → AnswersInRounds always nodes left histories text) → AnswersInTurns always told nodes text
+answers_query always told nodes left text read got answer =
+    let came = answer got.0 got.2 got.3 in
+    record { query = record { sources = sources_in nodes (all_messages left); histories = got.0; accepted = got.1; text_is = came.text_is }; lines = left; read = read; rounds = came.rounds }
+
+-- a text that answers more answers less
+ends_weaker : (texts others : Texts) → ((told : List ℕ → List ℕ) (nodes : List PlanNode) (text : List ℕ) → texts told nodes text → others told nodes text) → (nodes : List PlanNode) (left : ByLine) (out out' : SinkSeen) (o : Outcome)
+    → EndsWith texts texts nodes left out out' o → EndsWith others others nodes left out out' o
+ends_weaker texts others less nodes left out out' outcome.Done h = (h.0, record { text = h.1.text; gives = λ told read. less told nodes h.1.text (h.1.gives told read); wrote = h.1.wrote })
+ends_weaker texts others less nodes left out out' outcome.Write h = (h.0, record { text = h.1.text; begins = λ told read. less told nodes h.1.text (h.1.begins told read); wrote = h.1.wrote })
+ends_weaker texts others less nodes left out out' outcome.OutOfMemory (inl keeps) = inl keeps
+ends_weaker texts others less nodes left out out' outcome.OutOfMemory (inr h) = inr (record { text = h.text; begins = λ told read. less told nodes h.text (h.begins told read); wrote = h.wrote })
+ends_weaker texts others less nodes left out out' outcome.Usage h = absurd h
+ends_weaker texts others less nodes left out out' (outcome.Events said) h = absurd h
+ends_weaker texts others less nodes left out out' (outcome.BadPlan kind node) h = absurd h
+ends_weaker texts others less nodes left out out' outcome.Read h = absurd h
+
+-- what came in rounds is what `serial` gives, and so what `run` may give
+pub ends_in_turns : (job : Job) → ReadsSources job → job ≢ Stream → job ≢ Audit → (nodes : List PlanNode) (left : ByLine) (out out' : SinkSeen) (o : Outcome) → EndsWith (AnswersInTurns false) (AnswersInTurns false) nodes left out out' o → EndsSources job nodes left out out' o
+ends_in_turns Serial reads other unasked nodes left out out' o h = h
+ends_in_turns Run reads other unasked nodes left out out' o h = ends_weaker (AnswersInTurns false) (AnswersQuery false) (λ told nodes text answers. answers.query) nodes left out out' o h
+ends_in_turns Audit reads other unasked nodes left out out' o h = absurd (unasked refl)
+ends_in_turns Stream reads other unasked nodes left out out' o h = absurd (other refl)
+ends_in_turns History reads other unasked nodes left out out' o h = absurd reads
+ends_in_turns Check reads other unasked nodes left out out' o h = absurd reads
+ends_in_turns Live reads other unasked nodes left out out' o h = absurd reads
+ends_in_turns (Make n) reads other unasked nodes left out out' o h = absurd reads
 
 -- they were, and what the command gives of them was written, or was begun
-pub sources_given : (job : Job) (file script : List ℕ) (files files' : FilesSeen) (out out' : SinkSeen) (o : Outcome) (nodes : List PlanNode) (left : Lists) → ReadsSources job → AreOpened files files' file nodes left → EndsSources job nodes left out out' o
+pub sources_given : (job : Job) (file script : List ℕ) (files files' : FilesSeen) (out out' : SinkSeen) (o : Outcome) (nodes : List PlanNode) (left : ByLine) → ReadsSources job → AreOpened files files' file nodes left → EndsSources job nodes left out out' o
     → CommandEnds (record { job = job; file = file; script = script }) files files' out out' o
 sources_given job file script files files' out out' outcome.Done nodes left reads opened h = (
   record { files_count = opened.faults; out_count = h.0 },

@@ -1,9 +1,11 @@
 -- The lines of a file, one after the other.
 use Rattle.std.proofs.Common.{◌≡◌, ◌≢◌, ℕ, ◌+◌, ◌<◌, ◌≤◌, List, [], ◌∷◌, ◌++◌, Bool, true, false, cond, length, take, Option, None, Some, Result, Ok, Err, refl, ap, sym, ◌∙◌, subst, arith}
 use Rattle.std.specs.Prelude.{nat_lt, IfSome}
+use Rattle.std.specs.Io.KnownBytes.{Consumes}
 use Rattle.std.specs.List.{slice_split, onto_first}
+use Rattle.std.proofs.KnownBytes.{Consumes-trans}
 use Rattle.std.proofs.lemmas.Bool.{ltb-true, ltb-false, lt-ltb, le-ltb}
-use Rattle.std.proofs.lemmas.List.{append-nil, take-append-le, length-append}
+use Rattle.std.proofs.lemmas.List.{append-nil, take-append-le, length-append, length-take}
 use Rattle.cedr_base.specs.Bytes.{line_feed}
 use Rattle.cedr_text.specs.Parts.{parts_of}
 use Rattle.cedr_text.specs.Lines.{without_empty_end, raw_lines}
@@ -32,6 +34,14 @@ use Rattle.cedr_plan.specs.declared.fault.PlanKind.TheVariants as kind
 use Rattle.cedr_run.specs.Files.{IsFileFront}
 use Rattle.cedr_run.specs.Refusals.{fault_at}
 use Rattle.cedr_run.specs.Events.{AreEventsOf, TakesEvent, JudgesFile, parts_behind}
+
+-- ---- what is read of a file
+
+-- a block more than the limit, at most
+pub took_more : (a b c : Option (List ℕ)) (bytes block : List ℕ) (count limit : ℕ) → Consumes a b bytes → Consumes b c (take count block) → length bytes ≤ limit → length block ≡ 4096
+    → (all : List ℕ) × Consumes a c all × (length all ≤ limit + 4096)
+took_more a b c bytes block count limit before now few room =
+    (bytes ++ take count block, Consumes-trans a b c bytes (take count block) before now, omega (arith, length-append bytes (take count block), length-take count block, few, room))
 
 -- ---- the parts of a file
 

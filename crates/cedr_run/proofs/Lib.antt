@@ -10,3 +10,4 @@ pub mod PlanLemmas
 pub mod StreamLemmas
 pub mod BegunLemmas
 pub mod StreamEndLemmas
+pub mod StrongLemmas

@@ -19,12 +19,14 @@ use Rattle.plan_runs.specs.Without.{Remembers}
 use Rattle.plan_answer.specs.declared.faulty.FaultySource.{FaultySource}
 use Rattle.plan_serial.specs.declared.sources.SourcesFault.{SourcesFault}
 use Rattle.plan_serial.specs.declared.sources.SourcesFault.TheVariants.{Events}
+use Rattle.plan_serial.specs.Rounds.{all_messages}
 use Rattle.plan_serial.specs.Sources.{AnswersSources}
+use Rattle.plan_serial.proofs.SourceLemmas.{messages_read}
 use Rattle.plan_answer.specs.Sources.{file_of, files_of, source_files, AreTold, HasGiven, AllHaveGiven, fault_here, faulty_from}
 use Rattle.cedr_text.specs.Shapes.{ShapeHasTypes}
 use Rattle.cedr_text.specs.declared.event_line.Shape.{Shape}
 use Rattle.cedr_text.specs.declared.event_line.Shape.TheVariants.{AnyText, Fields}
-use Rattle.op_node.specs.Ready.{is_source}
+use Rattle.cedr_plan.specs.Places.{is_source}
 use Rattle.cedr_run.specs.Answers.{made_file}
 
 -- ---- the files of the sources
@@ -121,7 +123,8 @@ none_faulty accepted n place (m ∷ nodes) (l ∷ ls) (f ∷ faults) most typed 
 pub made_faultless : AreAcceptable → (n : ℕ) (nodes : List PlanNode) (fault : SourcesFault) (faulty : Vec FaultySource Global) → n ≤ 100000 → map node_of nodes ≡ built_in.nodes → fault ≡ Events faulty
     → AnswersSources (Err fault) (made_file n) nodes → ⊥
 made_faultless accepted n nodes fault faulty most are is answer =
-    let read = subst (λ (f : SourcesFault). AnswersSources (Err f) (made_file n) nodes) is answer in
-    let none : faulty.items ≡ [] = read.1.faulty_are ∙ none_faulty accepted n 0 nodes read.0 read.1.faults most (subst AllTyped (sym are) built_in_typed) read.1.given in
+    let answered = subst (λ (f : SourcesFault). AnswersSources (Err f) (made_file n) nodes) is answer in
+    let read = messages_read (made_file n) nodes answered.0 faulty.items answered.1 in
+    let none : faulty.items ≡ [] = read.faulty_are ∙ none_faulty accepted n 0 nodes (all_messages answered.0) read.faults most (subst AllTyped (sym are) built_in_typed) read.given in
     let count : length faulty.items ≡ 0 = ap (λ (fs : List FaultySource). length fs) none in
-    omega (arith, count, read.2)
+    omega (arith, count, answered.2)

@@ -37,7 +37,7 @@ run_query told nodes edges ran text answers = record {
   sources = answers.sources;
   histories = answers.histories;
   accepted = answers.accepted;
-  text_is = record { ports = ports_of nodes (carried edges); given = answers.given; run = answers.run; text_is = answers.text_is };
+  text_is = record { ports = ports_of nodes (carried edges); given = answers.given; run = answers.run; remembers = answers.remembers; text_is = answers.text_is };
 }
 
 -- and so is that of the changes that the output gave
@@ -143,7 +143,7 @@ module _ (job : Job) (is : IsThreaded job) (files now files' : FilesSeen) (file 
   pub plan_ended : (o : Outcome) → RunEnds job nodes now files' out out' edges ran o → CommandEnds command files files' out out' o
   plan_ended outcome.Done h = (record { files_count = h.0.files_count ∙ same; out_count = h.0.out_count }, gave h.1)
   plan_ended (outcome.Events said) h = (record { files_count = h.0.files_count ∙ same; out_count = h.0.out_count }, silent_as job now.content nodes out out' h.1, refused said.items h.1 h.2)
-  plan_ended outcome.Read h = (omega (arith, same, h.0), at_read h.1)
+  plan_ended outcome.Read h = (omega (arith, same, h.0), h.1, at_read h.2)
   plan_ended outcome.Write h = (h.0, began h.1)
   plan_ended outcome.OutOfMemory (inl keeps) = inl keeps
   plan_ended outcome.OutOfMemory (inr h) = inr (began h)
@@ -182,7 +182,7 @@ module _ (job : Job) (files now files' : FilesSeen) (nodes : List PlanNode) (sam
     record { text = h.1.text; answers = λ told known. h.1.answers told (told_now told known); wrote = h.1.wrote },
   )
   ends_later (outcome.Events said) h = (record { files_count = h.0.files_count ∙ same; out_count = h.0.out_count }, silent_later h.1, λ told known. h.2 told (told_now told known))
-  ends_later outcome.Read h = (omega (arith, same, h.0), silent_later h.1)
+  ends_later outcome.Read h = (omega (arith, same, h.0), h.1, silent_later h.2)
   ends_later outcome.Write h = (h.0, began_later h.1)
   ends_later outcome.OutOfMemory (inl keeps) = inl keeps
   ends_later outcome.OutOfMemory (inr h) = inr (began_later h)

@@ -23,12 +23,13 @@ use Rattle.node_laws.specs.declared.forgotten.Forgotten.{Forgotten}
 use Rattle.node_laws.specs.Lists.{AreTables, Lists, list_at}
 use Rattle.cedr_plan.specs.declared.plan.Plan.{Plan}
 use Rattle.cedr_plan.specs.declared.plan.PlanNode.{PlanNode}
-use Rattle.cedr_plan.specs.Rules.{IsPlan}
-use Rattle.cedr_query.specs.Queries.{output_place, source_count}
-use Rattle.cedr_query.proofs.PlaceLemmas.{place_within, sources_behind}
+use Rattle.cedr_plan.specs.Rules.{ArePlanned, IsPlan}
+use Rattle.cedr_plan.specs.Places.{is_source, output_place, source_count}
+use Rattle.cedr_plan.proofs.PlaceLemmas.{nodes_planned, place_within, sources_behind}
 use Rattle.plan_runs.specs.Runs.{AllWhole, IsRun, IsWhole, sources_in}
 use Rattle.plan_runs.specs.Without.{forgot_in}
 use Rattle.plan_runs.proofs.Closed.{closed_table, closed_whole, forgot_length}
+use Rattle.plan_answer.proofs.ChangesLemmas.{rows_remembered}
 use Rattle.plan_answer.specs.Answers.{answer_text, has_memory}
 use Rattle.plan_answer.specs.Queries.{AreAcceptedSources, LeadsTo, changes_text, rows_without, source_nodes}
 use Rattle.plan_answer.specs.declared.faulty.FaultySource.{FaultySource}
@@ -45,7 +46,6 @@ use Rattle.cedr_worker.specs.declared.source.SourceEnd.{SourceEnd}
 use Rattle.cedr_worker.specs.declared.stop.SourceStop.{SourceStop}
 use Rattle.cedr_worker.specs.declared.stop.SourceStop.TheVariants as stop
 use Rattle.cedr_worker.specs.Stops.{StoppedAs, meant}
-use Rattle.op_node.specs.Ready.{is_source}
 use Rattle.cedr_run.specs.declared.command.Job.{Job}
 use Rattle.cedr_run.specs.declared.command.Job.TheVariants.{Run}
 use Rattle.cedr_run.specs.declared.outcome.Outcome.{Outcome}
@@ -66,7 +66,7 @@ Accepts = (told : List ℕ → List ℕ) (nodes : List PlanNode) (left : Lists) 
 
 -- the changes of an output lead to the rows of the answer
 abbrev pub Leads : Type 0
-Leads = (plan : Plan) (sources : Lists) (histories : Tables) (ports : List Lists) (given : Lists) → IsPlan plan → IsRun plan.nodes.items sources ports given → AllWhole (source_count plan.nodes.items) sources → AreTables sources histories → LeadsTo plan.nodes.items histories ports given
+Leads = (nodes : List PlanNode) (sources : Lists) (histories : Tables) (ports : List Lists) (given : Lists) → ArePlanned nodes → IsRun nodes sources ports given → AllWhole (source_count nodes) sources → AreTables sources histories → LeadsTo nodes histories ports given
 
 -- ---- sources that closed are whole
 
@@ -162,8 +162,8 @@ module _ (job : Job) (nodes : List PlanNode) (files files' : FilesSeen) (out out
   lacking_ends o lacks ends = subst (λ (o : Outcome). RunEnds job nodes files files' out out' edges ran o) (sym lacks) ends
 
   -- a find or a read was refused
-  pub read_ends : (o : Outcome) → o ≡ outcome.Read → files.faults < files'.faults → IsSilentBy job files.content nodes out out' → RunEnds job nodes files files' out out' edges ran o
-  read_ends o refused rose silent = subst (λ (o : Outcome). RunEnds job nodes files files' out out' edges ran o) (sym refused) (rose, silent)
+  pub read_ends : (o : Outcome) → o ≡ outcome.Read → files.faults < files'.faults → out'.faults ≡ out.faults → IsSilentBy job files.content nodes out out' → RunEnds job nodes files files' out out' edges ran o
+  read_ends o refused rose same silent = subst (λ (o : Outcome). RunEnds job nodes files files' out out' edges ran o) (sym refused) (rose, same, silent)
 
   -- some source isn't accepted
   pub said_ends : (text : List ℕ) (o : Outcome) → files'.faults ≡ files.faults → out'.faults ≡ out.faults → IsSilentBy job files.content nodes out out' → RunEnds job nodes files files' out out' edges ran outcome.OutOfMemory
@@ -231,7 +231,9 @@ module _ {S : Type 0} (rest : S → Option (List ℕ)) (faults : S → ℕ) (acc
           histories = got.0;
           accepted = got.1;
           given = given;
+          count = reported.reported.edges;
           run = is_done.run;
+          remembers = rows_remembered nodes (sources_in nodes given) got.0 ports given is.nodes is_done.run whole;
           text_is = ap (λ (ordered : List Row). answer_text (has_memory nodes) nodes ordered (forgot_in nodes ports)) (one_canonical rows (rows_without nodes ports got.0) (one_table (list_at given (output_place nodes)) rows (rows_without nodes ports got.0) table closed));
           ran_is = reported.reported.ran;
         }
@@ -249,9 +251,10 @@ module _ {S : Type 0} (rest : S → Option (List ℕ)) (faults : S → ℕ) (acc
           histories = got.0;
           accepted = got.1;
           given = given;
+          count = reported.reported.edges;
           run = is_done.run;
           text_is = ap (λ (cs : List Change). changes_text cs ++ tail_of nodes (forgot_in nodes ports)) is_done.changes;
-          leads = leads plan (sources_in nodes given) got.0 ports given is is_done.run whole got.2;
+          leads = leads nodes (sources_in nodes given) got.0 ports given (nodes_planned plan is) is_done.run whole got.2;
           ran_is = reported.reported.ran;
         }
 
@@ -300,7 +303,7 @@ module _ {S : Type 0} (rest : S → Option (List ℕ)) (faults : S → ℕ) (acc
   ends_as came.Done is_how short so tells = done_ends is_how (tells (list_at reported.reported.given (output_place plan.nodes.items)) (forgot_in plan.nodes.items (ports_of plan.nodes.items (carried report.edges.items))) (can_tell rest faults accepts plan is files.content report reported is_how))
   ends_as came.Memory is_how short so tells = lacking_ends Run plan.nodes.items files files' out out' report.edges.items report.ran.items o tells.0 (inl (kept_same out out' tells.1))
   ends_as came.Read is_how short so tells =
-      read_ends Run plan.nodes.items files files' out out' report.edges.items report.ran.items o tells.0 (subst (λ (n : ℕ). files.faults < n) (sym counted) (some_rose rest faults accepts plan is files.content report reported so.2 files.faults few)) (inl (kept_same out out' tells.1))
+      read_ends Run plan.nodes.items files files' out out' report.edges.items report.ran.items o tells.0 (subst (λ (n : ℕ). files.faults < n) (sym counted) (some_rose rest faults accepts plan is files.content report reported so.2 files.faults few)) (ap (λ (o : SinkSeen). o.faults) tells.1) (inl (kept_same out out' tells.1))
   ends_as (came.Events listed) is_how short so tells =
       said_ends Run plan.nodes.items files files' out out' report.edges.items report.ran.items (faulty_text plan.nodes.items listed.items) o (counted ∙ faulty_kept rest faults accepts plan is files.content report reported so.2 files.faults (omega (arith, few)))
       (ap (λ (o : SinkSeen). o.faults) tells.1) (inl (kept_same out out' tells.1)) (inl (kept_same out out' tells.1)) (refuses_so rest faults accepts plan is files.content report reported so.2 so.1 listed.items so.3 so.4) tells.0

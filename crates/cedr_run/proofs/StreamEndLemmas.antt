@@ -1,5 +1,6 @@
 -- How a stream ends, by what was written of it and by what is reported of its run.
-use Rattle.std.proofs.Common.{◌≡◌, ℕ, ◌<◌, inl, inr, List, Bool, length, map, refl, ap, sym, ◌∙◌, subst, arith}
+use Rattle.std.specs.Io.KnownBytes.{Keeps}
+use Rattle.std.proofs.Common.{◌≡◌, ℕ, ◌<◌, inl, inr, List, [], Bool, length, map, refl, ap, sym, ◌∙◌, subst, arith}
 use Rattle.std.specs.Prelude.{Option}
 use Rattle.std.proofs.KnownBytes.{Appends-trans}
 use Rattle.std.specs.List.{All}
@@ -13,9 +14,10 @@ use Rattle.node_laws.specs.declared.forgotten.Forgotten.{Forgotten}
 use Rattle.cedr_plan.specs.declared.plan.Plan.{Plan}
 use Rattle.cedr_plan.specs.declared.plan.PlanNode.{PlanNode}
 use Rattle.cedr_plan.specs.Rules.{IsPlan}
-use Rattle.cedr_query.specs.Queries.{source_count}
-use Rattle.plan_runs.specs.Without.{forgot_in}
-use Rattle.plan_answer.specs.Queries.{changes_text, given_text, source_nodes}
+use Rattle.plan_runs.specs.Without.{forgot_in, Remembers}
+use Rattle.plan_answer.specs.Queries.{changes_text, given_text, source_nodes, IsStrong}
+use Rattle.cedr_plan.specs.Places.{source_count}
+use Rattle.plan_answer.specs.Answers.{tail_text}
 use Rattle.plan_answer.specs.Sources.{AreTold, source_files}
 use Rattle.plan_threads.specs.declared.report.Outcome.{Outcome as Came}
 use Rattle.plan_threads.specs.declared.report.Outcome.TheVariants as came
@@ -29,6 +31,7 @@ use Rattle.cedr_run.specs.declared.progress.Progress.{Progress}
 use Rattle.cedr_run.specs.declared.progress.Progress.TheVariants as progress
 use Rattle.cedr_run.specs.Answers.{Contents, StreamsSoFar}
 use Rattle.cedr_run.specs.Seen.{FilesSeen, SinkSeen}
+use Rattle.cedr_run.specs.Strong.{WroteGood, WroteStrong}
 use Rattle.cedr_run.specs.Steps.{WritesText, faulty_text}
 use Rattle.cedr_run.specs.declared.command.Job.TheVariants.{Stream}
 use Rattle.cedr_run.specs.Threads.{BeganRun, CanTellTail, IsSilentBy, IsStreamed, RunEnds, EndsStream, WritesTail, WroteList, tail_of}
@@ -38,6 +41,7 @@ use Rattle.cedr_run.proofs.PlanLemmas.{stream_changes}
 use Rattle.cedr_run.proofs.RunLemmas.{Accepts, Leads, can_tell_tail, faulty_kept, lacking_ends, none_rose, read_ends, refuses_so, said_ends, some_rose, streams_so}
 use Rattle.cedr_run.proofs.StreamLemmas.{lines_longer, wrote_front}
 use Rattle.plan_live.proofs.ShownLemmas.{front_along}
+use Rattle.cedr_run.proofs.StrongLemmas.{Legal, Table, adds_in_order, front_kept, no_front_kept, no_tail, none_kept, wrote_good}
 
 -- what was forgotten can be listed as it is handed on
 pub can_tell_tail_as : (nodes seen_nodes : List PlanNode) (forgotten seen : List PortForgotten) (listed : List (List (List Forgotten))) → seen_nodes ≡ nodes → seen ≡ forgotten → CanTellTail nodes forgotten listed → CanTellTail seen_nodes seen listed
@@ -68,7 +72,7 @@ whole_counts rest faults content nodes report by start out streamed whole =
     let wrote = subst (λ (b : Progress). WroteList b start out streamed.list) whole streamed.wrote in
     subst (λ (n : ℕ). n < last_count) (sym wrote.0) streamed.counts
 
-module _ {S : Type 0} (rest : S → Option (List ℕ)) (faults : S → ℕ) (accepts : Accepts) (leads : Leads) (plan : Plan) (is : IsPlan plan) (files files' : FilesSeen) (start out out' : SinkSeen) (report : Report S) (by : Progress)
+module _ {S : Type 0} (rest : S → Option (List ℕ)) (faults : S → ℕ) (accepts : Accepts) (leads : Leads) (legal : Legal) (plan : Plan) (is : IsPlan plan) (files files' : FilesSeen) (start out out' : SinkSeen) (report : Report S) (by : Progress)
     (streamed : IsStreamed rest faults files.content plan.nodes.items report by start out) (few : files.faults < last_count) (counted : files'.faults ≡ count_with faults files.faults (map source_left_in report.sources.items)) (o : Outcome) where
   abbrev nodes : List PlanNode
   nodes = plan.nodes.items
@@ -85,7 +89,7 @@ module _ {S : Type 0} (rest : S → Option (List ℕ)) (faults : S → ℕ) (acc
   begun_text = given_text nodes streamed.so_far.given
 
   begins : (told : List ℕ → List ℕ) → AreTold files.content told (source_files nodes) → StreamsSoFar told nodes begun_text
-  begins told known = streams_so_far rest faults files.content told nodes streamed.run.sources report.sources.items streamed.list streamed.run.reported.count streamed.run.found known streamed.so_far
+  begins told known = streams_so_far rest faults files.content told nodes streamed.run.sources report.sources.items streamed.list (adds_in_order legal plan is told) streamed.run.reported.count streamed.run.found known streamed.so_far
 
   -- is a front of the changes of a partial run
   front : AppendsFront start.written out.written begun_text
@@ -160,7 +164,8 @@ module _ {S : Type 0} (rest : S → Option (List ℕ)) (faults : S → ℕ) (acc
       done_ends is_how (subst (λ (b : Progress). WroteList b start out report.changes.items) is_by (streamed.whole is_how)) (tells listed (can_tell_tail rest faults accepts plan is files.content report streamed.run is_how))
   ends_as came.Memory progress.Whole is_how is_by short so_came tells = lacked tells.1 tells.0
   ends_as came.Read progress.Whole is_how is_by short so_came tells =
-      read_ends Stream nodes files files' start out' report.edges.items report.ran.items o tells.0 (subst (λ (n : ℕ). files.faults < n) (sym counted) (some_rose rest faults accepts plan is files.content report streamed.run so_came.2 files.faults few)) (silent tells.1)
+      let wrote = subst (λ (b : Progress). WroteList b start out streamed.list) is_by streamed.wrote in
+      read_ends Stream nodes files files' start out' report.edges.items report.ran.items o tells.0 (subst (λ (n : ℕ). files.faults < n) (sym counted) (some_rose rest faults accepts plan is files.content report streamed.run so_came.2 files.faults few)) (ap (λ (s : SinkSeen). s.faults) tells.1 ∙ wrote.0) (silent tells.1)
   ends_as (came.Events faulty) progress.Whole is_how is_by short so_came tells =
       let wrote = subst (λ (b : Progress). WroteList b start out streamed.list) is_by streamed.wrote in
       said_ends Stream nodes files files' start out' report.edges.items report.ran.items (faulty_text nodes faulty.items) o (counted ∙ faulty_kept rest faults accepts plan is files.content report streamed.run so_came.2 files.faults (omega (arith, few)))
@@ -169,3 +174,41 @@ module _ {S : Type 0} (rest : S → Option (List ℕ)) (faults : S → ℕ) (acc
   -- a stream ends by what is written or said of it
   pub stream_ends : EndsStream report.outcome by nodes report.forgotten.items out out' o → Ends o
   stream_ends tells = ends_as report.outcome by refl refl streamed.run.reported.short streamed.run.reported.came tells
+
+  -- ---- a strong output
+
+  module _ (table : Table) where
+    -- a front of the lines of the query over the good lines was written
+    good_now : IsStrong nodes → Remembers nodes → AppendsFront start.written out'.written begun_text → (told : List ℕ → List ℕ) → AreTold files.content told (source_files nodes) → WroteGood told nodes start out'
+    good_now strong remembers front_so told known = wrote_good legal table plan is told begun_text start out' strong remembers (begins told known) front_so
+
+    kept_on : WritesText o out out' [] → Keeps out.written out'.written
+    kept_on = by_outcome o
+      where
+        by_outcome : (o : Outcome) → WritesText o out out' [] → Keeps out.written out'.written
+        by_outcome outcome.Done h = none_kept out.written out'.written h.1
+        by_outcome outcome.Write h = no_front_kept out.written out'.written h.1
+        by_outcome outcome.OutOfMemory h = no_front_kept out.written out'.written h
+        by_outcome outcome.Usage h = absurd h
+        by_outcome (outcome.Events said) h = absurd h
+        by_outcome (outcome.BadPlan kind node) h = absurd h
+        by_outcome outcome.Read h = absurd h
+
+    -- whatever is told of it, no more was written than the changes
+    front_at : Remembers nodes → (how : Came) (so : Progress) → report.outcome ≡ how → EndsStream how so nodes report.forgotten.items out out' o → AppendsFront start.written out'.written begun_text
+    front_at remembers how progress.Lacked is_how tells = front_now tells.1
+    front_at remembers came.Done progress.Refused is_how tells = front_now tells.1
+    front_at remembers came.Memory progress.Refused is_how tells = front_now tells.1
+    front_at remembers came.Read progress.Refused is_how tells = front_now tells.1
+    front_at remembers (came.Events faulty) progress.Refused is_how tells = front_now tells.1
+    front_at remembers came.Done progress.Whole is_how tells = elim (tells listed (can_tell_tail rest faults accepts plan is files.content report streamed.run is_how)) [
+      | inl lacks ↦ front_now lacks.1
+      | inr wrote ↦ front_kept start.written out.written out'.written begun_text front (kept_on (subst (WritesText o out out') (no_tail nodes (tail_text nodes listed) remembers) wrote))
+    ]
+    front_at remembers came.Memory progress.Whole is_how tells = front_now tells.1
+    front_at remembers came.Read progress.Whole is_how tells = front_now tells.1
+    front_at remembers (came.Events faulty) progress.Whole is_how tells = front_now tells.1
+
+    -- however a stream ends that is strong
+    pub stream_strong : EndsStream report.outcome by nodes report.forgotten.items out out' o → WroteStrong files.content nodes start out'
+    stream_strong tells strong remembers = good_now strong remembers (front_at remembers report.outcome by refl tells)

@@ -1,7 +1,11 @@
 -- What a command writes, and why it is refused, by what the files hold that it reads.
 use Rattle.std.specs.Prelude.{ℕ, ◌≡◌, ◌<◌, ◌⊎◌, Bool, true, false, List, [], ◌∷◌, ◌++◌, length, map, take, codes, if◌then◌else◌, Option, None, Some, Ok, Err}
 use Rattle.std.specs.Str.{bytes_eq}
+use Rattle.cedr_base.specs.declared.change.Change.{Change}
+use Rattle.cedr_base.specs.declared.change.Change.TheVariants.{Add}
 use Rattle.cedr_base.specs.declared.change.Message.{Message}
+use Rattle.cedr_base.specs.declared.row.Row.{Row}
+use Rattle.cedr_base.specs.Messages.{changes_of}
 use Rattle.cedr_text.specs.declared.event_line.Shape.{Shape}
 use Rattle.cedr_text.specs.declared.event_line.Shape.TheVariants.{AnyText}
 use Rattle.cedr_text.specs.Texts.{rows_text}
@@ -9,28 +13,31 @@ use Rattle.cedr_base.specs.Rows.{in_order}
 use Rattle.cedr_guard.specs.declared.refusal.Refusal.{Refusal}
 use Rattle.cedr_guard.specs.History.{history_of}
 use Rattle.cedr_guard.specs.Sources.{judged, messages_of}
-use Rattle.node_laws.specs.Lists.{Lists}
+use Rattle.node_laws.specs.Lists.{Lists, list_at}
+use Rattle.node_laws.specs.Surplus.{Ascend}
 use Rattle.plan_live.specs.Plays.{IsPlayed, IsPlayedSoFar}
 use Rattle.cedr_make.specs.BuiltIn.{built_in}
 use Rattle.cedr_make.specs.Generator.{made_text}
 use Rattle.cedr_make.specs.Summary.{summary_text}
 use Rattle.cedr_plan.specs.Drawn.{Drawn, node_of}
+use Rattle.cedr_plan.specs.Places.{output_place}
 use Rattle.cedr_plan.specs.Plans.{plan_of}
 use Rattle.cedr_plan.specs.CheckTexts.{check_text}
 use Rattle.cedr_plan.specs.declared.fault.PlanKind.{PlanKind}
 use Rattle.cedr_plan.specs.declared.plan.PlanNode.{PlanNode}
-use Rattle.cedr_query.specs.Queries.{output_place, query}
 use Rattle.plan_workers.specs.Wents.{AreRan}
 use Rattle.cedr_edge.specs.Ends.{Carried}
 use Rattle.plan_runs.specs.Runs.{IsPartialRun, IsPrefix, IsRun}
-use Rattle.plan_runs.specs.Without.{forgot_in}
+use Rattle.plan_runs.specs.Without.{Remembers, forgot_in}
 use Rattle.plan_answer.specs.Answers.{has_memory, answer_text, tail_text}
-use Rattle.plan_answer.specs.Queries.{source_nodes, AreAcceptedSources, IsAnswerText, IsStreamText, LeadsTo, given_text, rows_without}
-use Rattle.plan_edges.specs.Wires.{carried, ports_of}
+use Rattle.plan_answer.specs.Queries.{source_nodes, AreAcceptedSources, IsAnswerText, IsStreamText, LeadsTo, given_text, query_rows, rows_without, IsStrong}
+use Rattle.plan_edges.specs.Wires.{carried, froms, ports_of}
+use Rattle.plan_serial.specs.Rounds.{ByLine, CameByLine}
+use Rattle.plan_serial.specs.Sources.{AreReadByLine}
 use Rattle.cedr_worker.specs.declared.ran.Ran.{Ran}
 use Rattle.plan_answer.specs.Sources.{source_files, AreTold, AllHaveGiven, faulty_from, file_of}
 use Rattle.cedr_text.specs.Shapes.{ShapeHasTypes}
-use Rattle.cedr_table.specs.Operators.{Tables, table_at}
+use Rattle.cedr_table.specs.Operators.{Tables}
 use Rattle.cedr_run.specs.declared.command.Job.{Job}
 use Rattle.cedr_run.specs.declared.command.Job.TheVariants.{History, Check, Serial, Run, Stream, Audit, Live, Make}
 use Rattle.cedr_run.specs.Commands.{Command}
@@ -80,14 +87,24 @@ pub record AnswersQuery (always : Bool) (told : List ℕ → List ℕ) (nodes : 
   pub accepted : AreAcceptedSources told (source_nodes nodes) sources histories
   pub text_is : IsAnswerText always nodes sources histories text
 
--- The same of a run whose workers sent this over its edges. That is a run of the plan over the messages of the sources,
--- and the text lists what was forgotten in it. The turns of the workers did so much.
+-- The same, and what was forgotten is that of a run that came in rounds, in each of which each source gave its next line.
+pub record AnswersInTurns (always : Bool) (told : List ℕ → List ℕ) (nodes : List PlanNode) (text : List ℕ) : Type 0 where
+  pub query : AnswersQuery always told nodes text
+  pub lines : ByLine
+  pub read : AreReadByLine told nodes lines []
+  pub rounds : CameByLine nodes lines query.text_is.ports query.text_is.given
+
+-- The same of a run whose workers sent this over its edges, one for each port. That is a run of the plan over the messages of
+-- the sources, and the text lists what was forgotten in it. Where no memory is finite the rows are those of the query. The turns
+-- of the workers did so much.
 pub record AnswersRun (told : List ℕ → List ℕ) (nodes : List PlanNode) (edges : List Carried) (ran : List Ran) (text : List ℕ) : Type 0 where
   pub sources : Lists
   pub histories : Tables
   pub accepted : AreAcceptedSources told (source_nodes nodes) sources histories
   pub given : Lists
+  pub count : length edges ≡ length (froms nodes)
   pub run : IsRun nodes sources (ports_of nodes (carried edges)) given
+  pub remembers : Remembers nodes → rows_without nodes (ports_of nodes (carried edges)) histories ≡ query_rows nodes histories
   pub text_is : text ≡ answer_text (has_memory nodes) nodes (in_order (rows_without nodes (ports_of nodes (carried edges)) histories)) (forgot_in nodes (ports_of nodes (carried edges)))
   pub ran_is : AreRan nodes edges ran
 
@@ -100,12 +117,13 @@ pub record AnswersChanges (told : List ℕ → List ℕ) (nodes : List PlanNode)
   pub text_is : IsStreamText nodes sources text
   pub leads : LeadsTo nodes histories text_is.ports text_is.given
 
--- The same, of a run whose workers sent this over its edges, and did so much.
+-- The same, of a run whose workers sent this over its edges, one for each port, and did so much.
 pub record AnswersStream (told : List ℕ → List ℕ) (nodes : List PlanNode) (edges : List Carried) (ran : List Ran) (text : List ℕ) : Type 0 where
   pub sources : Lists
   pub histories : Tables
   pub accepted : AreAcceptedSources told (source_nodes nodes) sources histories
   pub given : Lists
+  pub count : length edges ≡ length (froms nodes)
   pub run : IsRun nodes sources (ports_of nodes (carried edges)) given
   pub text_is : text ≡ given_text nodes given ++ (if has_memory nodes then tail_text nodes (forgot_in nodes (ports_of nodes (carried edges))) else [])
   pub leads : LeadsTo nodes histories (ports_of nodes (carried edges)) given
@@ -126,13 +144,21 @@ AllHaveBegun told [] (l ∷ ls) = ⊥
 AllHaveBegun told (n ∷ nodes) [] = ⊥
 AllHaveBegun told (n ∷ nodes) (l ∷ ls) = HasBegun told n l × AllHaveBegun told nodes ls
 
--- the changes that the output gave in a partial run over the first messages of the sources
+-- the changes add rows in canonical order, and take nothing back
+pub record AddsInOrder (cs : List Change) : Type 0 where
+  pub rows : List Row
+  pub changes_are : cs ≡ map (λ (r : Row). Add r) rows
+  pub ascend : Ascend rows
+
+-- The changes that the output gave in a partial run over the first messages of the sources. Where the output is strong they
+-- add rows in canonical order, whatever the ports forgot.
 pub record StreamsSoFar (told : List ℕ → List ℕ) (nodes : List PlanNode) (text : List ℕ) : Type 0 where
   pub begun : Lists
   pub first : AllHaveBegun told (source_nodes nodes) begun
   pub ports : List Lists
   pub given : Lists
   pub run : IsPartialRun nodes begun ports given
+  pub ordered : IsStrong nodes → AddsInOrder (changes_of (list_at given (output_place nodes)))
   pub text_is : text ≡ given_text nodes given
 
 -- a front of such a text
@@ -145,7 +171,8 @@ pub record StreamsFront (told : List ℕ → List ℕ) (nodes : List PlanNode) (
 -- what a command gives of a plan of these nodes and its sources
 abbrev pub GivesPlan : Job → (List ℕ → List ℕ) → List PlanNode → List ℕ → Type 0
 GivesPlan Stream told nodes text = AnswersChanges told nodes text
-GivesPlan Audit told nodes text = AnswersQuery true told nodes text
+GivesPlan Audit told nodes text = AnswersInTurns true told nodes text
+GivesPlan Serial told nodes text = AnswersInTurns false told nodes text
 GivesPlan job told nodes text = AnswersQuery false told nodes text
 
 -- the texts of which a front is written where writing or memory fails
@@ -205,7 +232,7 @@ pub record GivesSummary (n : ℕ) (text : List ℕ) : Type 0 where
   pub sources : Lists
   pub histories : Tables
   pub accepted : AreAcceptedSources (made_file n) (source_nodes nodes) sources histories
-  pub text_is : text ≡ summary_text (in_order (table_at (query histories nodes) (output_place nodes)))
+  pub text_is : text ≡ summary_text (in_order (query_rows nodes histories))
 
 -- ---- each command
 

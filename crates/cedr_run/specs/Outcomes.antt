@@ -81,14 +81,15 @@ IsSilentAtRead command files out out' = Keeps out.written out'.written ⊎ ((com
 -- `Done`: nothing refused, and out gained what the command gives.
 -- `Events`: nothing refused, and some line that the command read isn't accepted, which is what is said.
 -- `BadPlan`: nothing refused or was written, and the file is no plan.
--- `Read` and `Write`: a count rose. At `Read` nothing was written, but for what `stream` had written by then.
+-- `Read` and `Write`: a count rose. At `Read` no write was refused, since `Write` comes before it; and nothing was written, but for
+-- what `stream` had written by then.
 -- At `Write` and at want of memory out gained nothing, or a front of what the command gives.
 abbrev pub CommandEnds : Command → FilesSeen → FilesSeen → SinkSeen → SinkSeen → Outcome → Type 0
 CommandEnds command files files' out out' outcome.Done = NoneRose files files' out out' × Wrote files command out out' (λ told text. Gives files.content told command text)
 CommandEnds command files files' out out' outcome.Usage = ⊥
 CommandEnds command files files' out out' (outcome.Events said) = NoneRose files files' out out' × IsSilent command out out' × Wrote files command out out' (λ told text. Refuses files.content told command text said.items)
 CommandEnds command files files' out out' (outcome.BadPlan kind node) = NoneRose files files' out out' × Keeps out.written out'.written × ((told : List ℕ → List ℕ) → AreTold files.content told (command.file ∷ []) → RefusesPlan told command kind node)
-CommandEnds command files files' out out' outcome.Read = (files.faults < files'.faults) × IsSilentAtRead command files out out'
+CommandEnds command files files' out out' outcome.Read = (files.faults < files'.faults) × (out'.faults ≡ out.faults) × IsSilentAtRead command files out out'
 CommandEnds command files files' out out' outcome.Write = (out.faults < out'.faults) × WroteFront files command out out' (λ told text. Begins files.content told command text)
 CommandEnds command files files' out out' outcome.OutOfMemory = Keeps out.written out'.written ⊎ WroteFront files command out out' (λ told text. Begins files.content told command text)
 

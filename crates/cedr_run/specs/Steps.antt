@@ -5,13 +5,14 @@ use Rattle.std.specs.List.{slice_get}
 use Rattle.std.specs.Io.KnownBytes.{Appends, Keeps}
 use Rattle.cedr_guard.specs.declared.refusal.Refusal.{Refusal}
 use Rattle.cedr_io.specs.Asked.{AppendsFront}
-use Rattle.node_laws.specs.Lists.{Lists}
 use Rattle.cedr_plan.specs.Drawn.{drawn}
 use Rattle.cedr_plan.specs.Plans.{plan_of}
 use Rattle.cedr_plan.specs.declared.plan.Plan.{Plan}
 use Rattle.cedr_plan.specs.declared.plan.PlanNode.{PlanNode}
-use Rattle.plan_answer.specs.Sources.{AreRead, AreTold, source_files}
-use Rattle.cedr_net.specs.declared.queue.Queue.{Queue}
+use Rattle.plan_answer.specs.Sources.{AreTold, source_files}
+use Rattle.plan_serial.specs.declared.entries.Entries.{Entries}
+use Rattle.plan_serial.specs.Rounds.{ByLine}
+use Rattle.plan_serial.specs.Sources.{AreReadByLine}
 use Rattle.plan_answer.specs.declared.faulty.FaultySource.{FaultySource}
 use Rattle.cedr_run.specs.declared.command.Job.{Job}
 use Rattle.cedr_run.specs.declared.command.Job.TheVariants.{Serial, Run, Stream, Audit}
@@ -89,8 +90,8 @@ StopsSources (Err outcome.Usage) = ⊥
 StopsSources (Err outcome.Write) = ⊥
 
 -- all messages of the sources, or what is said of those that aren't accepted
-abbrev pub OpensSources : Result (Vec Queue Global) Outcome → (List ℕ → List ℕ) → List PlanNode → Type 0
-OpensSources (Ok left) told nodes = AreRead told nodes left.items []
+abbrev pub OpensSources : Result (Vec Entries Global) Outcome → (List ℕ → List ℕ) → List PlanNode → Type 0
+OpensSources (Ok left) told nodes = AreReadByLine told nodes left.items []
 OpensSources (Err (outcome.Events said)) told nodes = RefusesSources told nodes said.items
 OpensSources (Err other) told nodes = Unit {0}
 
@@ -104,32 +105,32 @@ ReadsSources Audit = Unit {0}
 ReadsSources Stream = Unit {0}
 ReadsSources job = ⊥
 
--- a plan of these nodes was read from a file, and its sources have these messages left
-pub record AreOpened (files files' : FilesSeen) (file : List ℕ) (nodes : List PlanNode) (left : Lists) : Type 0 where
+-- a plan of these nodes was read from a file, and its sources have these lines left
+pub record AreOpened (files files' : FilesSeen) (file : List ℕ) (nodes : List PlanNode) (left : ByLine) : Type 0 where
   pub plan : (told : List ℕ → List ℕ) → AreTold files.content told (file ∷ []) → IsPlanOf (told file) nodes
-  pub sources : (told : List ℕ → List ℕ) → AreTold files.content told (source_files nodes) → AreRead told nodes left []
+  pub sources : (told : List ℕ → List ℕ) → AreTold files.content told (source_files nodes) → AreReadByLine told nodes left []
   pub faults : files'.faults ≡ files.faults
 
 -- what is written of a plan and its sources, by what the files of these hold
 abbrev pub Texts : Type 1
 Texts = (List ℕ → List ℕ) → List PlanNode → List ℕ → Type 0
 
--- What was written of a plan of these nodes and sources that have these messages left: such a text, if they are
+-- What was written of a plan of these nodes and sources that have these lines left: such a text, if they are
 -- accepted.
-pub record GaveText (texts : Texts) (nodes : List PlanNode) (left : Lists) (out out' : SinkSeen) : Type 0 where
+pub record GaveText (texts : Texts) (nodes : List PlanNode) (left : ByLine) (out out' : SinkSeen) : Type 0 where
   pub text : List ℕ
-  pub gives : (told : List ℕ → List ℕ) → AreRead told nodes left [] → texts told nodes text
+  pub gives : (told : List ℕ → List ℕ) → AreReadByLine told nodes left [] → texts told nodes text
   pub wrote : Appends out.written out'.written text
 
 -- the same of a front of such a text
-pub record BeganText (texts : Texts) (nodes : List PlanNode) (left : Lists) (out out' : SinkSeen) : Type 0 where
+pub record BeganText (texts : Texts) (nodes : List PlanNode) (left : ByLine) (out out' : SinkSeen) : Type 0 where
   pub text : List ℕ
-  pub begins : (told : List ℕ → List ℕ) → AreRead told nodes left [] → texts told nodes text
+  pub begins : (told : List ℕ → List ℕ) → AreReadByLine told nodes left [] → texts told nodes text
   pub wrote : AppendsFront out.written out'.written text
 
 -- such a text was written; or a write was refused, or memory ran out, and a front of one was written, or for
 -- want of memory perhaps nothing
-abbrev pub EndsWith : Texts → Texts → List PlanNode → Lists → SinkSeen → SinkSeen → Outcome → Type 0
+abbrev pub EndsWith : Texts → Texts → List PlanNode → ByLine → SinkSeen → SinkSeen → Outcome → Type 0
 EndsWith gives begins nodes left out out' outcome.Done = (out'.faults ≡ out.faults) × GaveText gives nodes left out out'
 EndsWith gives begins nodes left out out' outcome.Write = (out.faults < out'.faults) × BeganText begins nodes left out out'
 EndsWith gives begins nodes left out out' outcome.OutOfMemory = Keeps out.written out'.written ⊎ BeganText begins nodes left out out'
@@ -139,5 +140,5 @@ EndsWith gives begins nodes left out out' (outcome.BadPlan kind node) = ⊥
 EndsWith gives begins nodes left out out' outcome.Read = ⊥
 
 -- the same of what a command gives of a plan and its sources
-abbrev pub EndsSources : Job → List PlanNode → Lists → SinkSeen → SinkSeen → Outcome → Type 0
+abbrev pub EndsSources : Job → List PlanNode → ByLine → SinkSeen → SinkSeen → Outcome → Type 0
 EndsSources job nodes left out out' o = EndsWith (GivesPlan job) (BeginsPlan job) nodes left out out' o

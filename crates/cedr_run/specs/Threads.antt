@@ -15,7 +15,7 @@ use Rattle.cedr_io.specs.Asked.{AppendsFront}
 use Rattle.cedr_io.specs.Counts.{Rose, last_count}
 use Rattle.node_laws.specs.declared.forgotten.Forgotten.{Forgotten}
 use Rattle.cedr_plan.specs.declared.plan.PlanNode.{PlanNode}
-use Rattle.cedr_query.specs.Queries.{source_count}
+use Rattle.cedr_plan.specs.Places.{source_count}
 use Rattle.plan_answer.specs.Answers.{answer_text, has_memory, tail_text}
 use Rattle.plan_answer.specs.Queries.{changes_text}
 use Rattle.plan_answer.specs.Sources.{AreTold, source_files}
@@ -152,7 +152,7 @@ IsSilentBy job content nodes out out' = Keeps out.written out'.written ⊎ ((job
 abbrev pub RunEnds : Job → List PlanNode → FilesSeen → FilesSeen → SinkSeen → SinkSeen → List Carried → List Ran → Outcome → Type 0
 RunEnds job nodes files files' out out' edges ran outcome.Done = NoneRose files files' out out' × GaveRun job files.content nodes edges ran out out'
 RunEnds job nodes files files' out out' edges ran (outcome.Events said) = NoneRose files files' out out' × IsSilentBy job files.content nodes out out' × ((told : List ℕ → List ℕ) → AreTold files.content told (source_files nodes) → RefusesSources told nodes said.items)
-RunEnds job nodes files files' out out' edges ran outcome.Read = (files.faults < files'.faults) × IsSilentBy job files.content nodes out out'
+RunEnds job nodes files files' out out' edges ran outcome.Read = (files.faults < files'.faults) × (out'.faults ≡ out.faults) × IsSilentBy job files.content nodes out out'
 RunEnds job nodes files files' out out' edges ran outcome.Write = (out.faults < out'.faults) × BeganRun job files.content nodes edges ran out out'
 RunEnds job nodes files files' out out' edges ran outcome.OutOfMemory = Keeps out.written out'.written ⊎ BeganRun job files.content nodes edges ran out out'
 RunEnds job nodes files files' out out' edges ran outcome.Usage = ⊥

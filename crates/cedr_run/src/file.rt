@@ -1,4 +1,5 @@
 ghost use Rattle.std.specs.Prelude.{◌≡◌, ◌<◌, ◌≤◌, ◌+◌, length, ℕ, List, IfOk, IfSome};
+ghost use Rattle.std.specs.Io.KnownBytes.{Consumes};
 ghost use Rattle.cedr_io.specs.Counts.{Counts, last_count};
 ghost use Rattle.cedr_guard.specs.declared.refusal.TheConstants.{FILE_LIMIT};
 ghost use Rattle.cedr_run.specs.Files.{IsFileFront, AsksFile};
@@ -26,11 +27,11 @@ pub(crate) fn read_file<F: Files>(
     bytes
 }
 
-/// Reads a source to its end, or until the bytes pass the limit. Each turn takes a byte at least.
+/// Reads a source to its end, or until the bytes pass the limit. Each turn takes a byte at least, and a block at most.
 fn read_all<S: Source>(alloc: Global, limit: usize, source: &mut S) -> Result<Vec<u8>, OutsideFault>
     requires { limit ≤ FILE_LIMIT }
     ensures bytes { IfOk result (λ bytes. IfSome (S.rest source.old) (λ all. IsFileFront limit all bytes.items)) }
-    ensures bound { IfOk result (λ bytes. length bytes.items ≤ limit + 4096) }
+    ensures took { (bytes : List ℕ) × Consumes (S.rest source.old) (S.rest source.new) bytes × (length bytes ≤ limit + 4096) }
     ensures counted { Counts result (S.faults source.old) (S.faults source.new) }
 {
     let mut bytes = Vec::new(alloc);

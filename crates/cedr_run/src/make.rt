@@ -4,7 +4,7 @@ ghost use Rattle.cedr_make.specs.BuiltIn.{built_in};
 ghost use Rattle.cedr_make.specs.Generator.{made_text};
 ghost use Rattle.cedr_plan.specs.Drawn.{drawn};
 ghost use Rattle.plan_serial.specs.Feeding.{AreSources};
-ghost use Rattle.plan_answer.specs.Sources.{AreRead};
+ghost use Rattle.plan_serial.specs.Sources.{AreReadByLine};
 ghost use Rattle.cedr_run.specs.declared.command.Job.TheVariants.{Make};
 ghost use Rattle.cedr_run.specs.Answers.{GivesSummary, made_file};
 ghost use Rattle.cedr_run.specs.Commands.{Command};
@@ -16,10 +16,9 @@ use crate::saying::write_text;
 use cedr_base::OutOfMemory;
 use cedr_io::{Files, MemFiles, Sink};
 use cedr_make::{made_bytes, made_plan, made_sources, write_summary};
-use cedr_net::Queue;
 use cedr_plan::Plan;
 use plan_answer::accepted_sources;
-use plan_serial::{SourcesFault, answer_rows, read_sources};
+use plan_serial::{Entries, SourcesFault, answer_rows, read_sources};
 use std::alloc::Global;
 
 /// Writes the summary of the answer to a workload of so many events a source.
@@ -51,13 +50,13 @@ fn summary(alloc: Global, events: u64) -> Result<Vec<u8>, OutOfMemory>
     Ok(text)
 }
 
-/// All messages of the workload's sources, each of which is accepted.
-fn read_made(alloc: Global, events: u64, plan: &Plan) -> Result<Vec<Queue>, OutOfMemory>
+/// All messages of the workload's sources line by line, each of which is accepted.
+fn read_made(alloc: Global, events: u64, plan: &Plan) -> Result<Vec<Entries>, OutOfMemory>
     requires least { 0 < events }
     requires most { events ≤ 100000 }
     requires plan { drawn plan.now ≡ built_in }
     ensures sources { IfOk result (λ left. AreSources plan.now.nodes.items left.items) }
-    ensures read { IfOk result (λ left. AreRead (made_file events) plan.now.nodes.items left.items []) }
+    ensures read { IfOk result (λ left. AreReadByLine (made_file events) plan.now.nodes.items left.items []) }
 {
     made_sources();
     let mut files = made_files(alloc, events)?;

@@ -11,6 +11,8 @@ pub(crate) struct Quiet {
     count: usize,
     /// What its looks take, which is nothing.
     taken: Vec<Change>,
+    /// A look lacked memory.
+    lacked: bool,
 }
 
 impl Quiet {
@@ -20,6 +22,7 @@ impl Quiet {
         Quiet {
             count: 0,
             taken: Vec::new(alloc),
+            lacked: false,
         }
     }
 }
@@ -29,13 +32,19 @@ impl Watcher for Quiet {
 
     ghost stands = { λ _ w _ list. w.count ≡ length list };
 
+    ghost lacked = { λ w. w.lacked };
+
     fn look(&mut self, reader: &mut Reader, _out: &mut ()) -> Result<bool, OutOfMemory> {
-        match reader.read(self.count, 0, &mut self.taken)? {
-            Some(seen) => {
+        match reader.read(self.count, 0, &mut self.taken) {
+            Ok(Some(seen)) => {
                 self.count = seen.len;
                 Ok(true)
             }
-            None => Ok(false),
+            Ok(None) => Ok(false),
+            Err(OutOfMemory) => {
+                self.lacked = true;
+                Err(OutOfMemory)
+            }
         }
     }
 }

@@ -3,7 +3,7 @@ ghost use Rattle.cedr_io.specs.Counts.{last_count};
 ghost use Rattle.cedr_plan.specs.Rules.{IsPlan};
 ghost use Rattle.plan_serial.specs.Feeding.{AreSources};
 ghost use Rattle.plan_answer.specs.Sources.{AsksFirst, AreTold, source_files};
-ghost use Rattle.cedr_run.specs.Answers.{AnswersQuery};
+ghost use Rattle.cedr_run.specs.Answers.{AnswersInTurns};
 ghost use Rattle.cedr_run.specs.declared.command.Job.{Job};
 ghost use Rattle.cedr_run.specs.declared.command.Job.TheVariants.{Stream};
 ghost use Rattle.cedr_run.specs.Commands.{Command};
@@ -17,14 +17,17 @@ use crate::plan::open_plan;
 use crate::saying::{refuse_sources, write_text};
 use cedr_base::OutOfMemory;
 use cedr_io::{Files, Sink};
-use cedr_net::Queue;
 use cedr_plan::Plan;
 use plan_answer::accepted_sources;
-use plan_serial::{SourcesFault, answer_sources, read_sources};
+use plan_serial::{Entries, SourcesFault, answer_sources, read_sources};
 use std::alloc::Global;
 
-/// All messages of a plan's sources, or how the command ends without them.
-fn open_sources<F: Files>(alloc: Global, plan: &Plan, files: &mut F) -> Result<Vec<Queue>, Outcome>
+/// All messages of a plan's sources line by line, or how the command ends without them.
+fn open_sources<F: Files>(
+    alloc: Global,
+    plan: &Plan,
+    files: &mut F,
+) -> Result<Vec<Entries>, Outcome>
     requires { F.faults files.old < last_count }
     ensures sources { IfOk result (λ left. AreSources plan.now.nodes.items left.items) }
     ensures stops { StopsSources result }
@@ -42,8 +45,13 @@ fn open_sources<F: Files>(alloc: Global, plan: &Plan, files: &mut F) -> Result<V
     }
 }
 
-/// A plan and all messages of its sources, or how a command ends without them. No source is held whole beside its messages.
-fn open<F: Files>(alloc: Global, file: &[u8], files: &mut F) -> Result<(Plan, Vec<Queue>), Outcome>
+/// A plan and all messages of its sources line by line, or how a command ends without them. No source is held whole beside
+/// these.
+fn open<F: Files>(
+    alloc: Global,
+    file: &[u8],
+    files: &mut F,
+) -> Result<(Plan, Vec<Entries>), Outcome>
     requires { F.faults files.old < last_count }
     ensures plan { IfOk result (λ r. IsPlan r.0) }
     ensures sources { IfOk result (λ r. AreSources r.0.nodes.items r.1.items) }
@@ -69,13 +77,13 @@ fn answer<K: Sink>(
     alloc: Global,
     always: bool,
     plan: &Plan,
-    left: Vec<Queue>,
+    left: Vec<Entries>,
     out: &mut K,
 ) -> Outcome
     requires counts { K.faults out.old < last_count }
     requires plan { IsPlan plan.now }
     requires sources { AreSources plan.now.nodes.items left.items }
-    ensures { EndsWith (AnswersQuery always) (AnswersQuery always) plan.now.nodes.items left.items (seen_sink K.written K.faults out.old) (seen_sink K.written K.faults out.new) result }
+    ensures { EndsWith (AnswersInTurns always) (AnswersInTurns always) plan.now.nodes.items left.items (seen_sink K.written K.faults out.old) (seen_sink K.written K.faults out.new) result }
 {
     accepted_sources();
     match answer_sources(alloc, plan, always, left) {
@@ -85,7 +93,7 @@ fn answer<K: Sink>(
 }
 
 /// Writes what a command gives of a plan and its sources, where it waits for nobody.
-fn give<K: Sink>(alloc: Global, job: Job, plan: &Plan, left: Vec<Queue>, out: &mut K) -> Outcome
+fn give<K: Sink>(alloc: Global, job: Job, plan: &Plan, left: Vec<Entries>, out: &mut K) -> Outcome
     requires counts { K.faults out.old < last_count }
     requires job { ReadsSources job }
     requires alone { job ≢ Stream }

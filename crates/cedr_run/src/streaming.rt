@@ -64,6 +64,8 @@ pub(crate) struct Streamer<K: Sink> {
     /// How many changes it has read.
     count: usize,
     pub(crate) progress: Progress,
+    /// A look lacked memory.
+    lacked: bool,
     sink: PhantomData<K>,
 }
 
@@ -75,6 +77,7 @@ impl<K: Sink> Streamer<K> {
             alloc,
             count: 0,
             progress: Progress::Whole,
+            lacked: false,
             sink: PhantomData,
         }
     }
@@ -89,14 +92,22 @@ impl<K: Sink> Watcher for Streamer<K> {
 
     ghost stands = { λ start w out list. (w.count ≡ length list) × WroteList w.progress (seen_sink K.written K.faults start) (seen_sink K.written K.faults out) list };
 
+    ghost lacked = { λ w. w.lacked };
+
     fn look(&mut self, reader: &mut Reader, out: &mut K) -> Result<bool, OutOfMemory> {
         let mut changes = Vec::new(self.alloc);
-        let Some(seen) = reader.read(self.count, usize::MAX, &mut changes)? else {
-            return Ok(false);
+        let seen = match reader.read(self.count, usize::MAX, &mut changes) {
+            Ok(Some(seen)) => seen,
+            Ok(None) => return Ok(false),
+            Err(OutOfMemory) => {
+                self.lacked = true;
+                return Err(OutOfMemory);
+            }
         };
         self.count = seen.len;
         self.progress = write_more(self.alloc, self.progress, changes.as_slice(), out);
         if self.progress == Progress::Lacked {
+            self.lacked = true;
             return Err(OutOfMemory);
         }
         Ok(true)

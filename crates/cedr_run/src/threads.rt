@@ -4,13 +4,14 @@ ghost use Rattle.std.specs.List.{All};
 ghost use Rattle.plan_answer.specs.Finds.{AreFound};
 ghost use Rattle.cedr_io.specs.Counts.{last_count};
 ghost use Rattle.cedr_plan.specs.Rules.{IsPlan};
-ghost use Rattle.cedr_query.specs.Queries.{source_count};
+ghost use Rattle.cedr_plan.specs.Places.{source_count};
 ghost use Rattle.plan_answer.specs.Sources.{AsksFirst, source_files};
 ghost use Rattle.cedr_run.specs.declared.command.Job.TheVariants.{Run, Stream};
 ghost use Rattle.cedr_run.specs.declared.outcome.Outcome.TheVariants as outcome;
 ghost use Rattle.cedr_run.specs.Commands.{Command};
 ghost use Rattle.cedr_run.specs.Outcomes.{CommandEnds, AsksOnly};
 ghost use Rattle.cedr_run.specs.Seen.{SinkSeen, seen_files, seen_sink};
+ghost use Rattle.cedr_run.specs.Strong.{StreamsPlan, WroteStrong};
 ghost use Rattle.cedr_run.specs.Threads.{AreBare, IsReported, IsStreamed, IsThreaded, RunEnds, WroteRun};
 
 use crate::command::Job;
@@ -21,6 +22,7 @@ use crate::quiet::Quiet;
 use crate::streaming::Streamer;
 use crate::telling::{end_of, end_of_stream};
 use cedr_edge::EdgeRecord;
+use cedr_guard::message_laws;
 use cedr_io::{Files, Gate, OutsideFault, Sink};
 use cedr_plan::Plan;
 use cedr_worker::Ran;
@@ -106,11 +108,14 @@ where
     requires streamed { (start : SinkSeen) × IsStreamed F.Source.rest F.Source.faults (F.content files.old) plan.now.nodes.items report progress start (seen_sink K.written K.faults out.old) }
     ensures ends { (start : SinkSeen) → IsStreamed F.Source.rest F.Source.faults (F.content files.old) plan.now.nodes.items report progress start (seen_sink K.written K.faults out.old)
         → RunEnds Stream plan.now.nodes.items (seen_files F.content F.faults F.asked files.old) (seen_files F.content F.faults F.asked files.new) start (seen_sink K.written K.faults out.new) result.edges.items result.ran.items result.outcome }
+    ensures strong { (start : SinkSeen) → IsStreamed F.Source.rest F.Source.faults (F.content files.old) plan.now.nodes.items report progress start (seen_sink K.written K.faults out.old)
+        → WroteStrong (F.content files.old) plan.now.nodes.items start (seen_sink K.written K.faults out.new) }
     ensures asked { F.asked files.new ≡ F.asked files.old }
     ensures contents { (n : List ℕ) → F.content files.new n ≡ F.content files.old n }
 {
     accepted_sources();
     streamed_changes();
+    message_laws();
     let Report {
         outcome,
         forgotten,
@@ -192,6 +197,7 @@ where
     requires fresh { All (λ s. F.Source.faults s ≡ 0) sources.items }
     ensures ends { RunEnds Stream plan.now.nodes.items (seen_files F.content F.faults F.asked files.old) (seen_files F.content F.faults F.asked files.new)
         (seen_sink K.written K.faults out.old) (seen_sink K.written K.faults out.new) result.edges.items result.ran.items result.outcome }
+    ensures strong { WroteStrong (F.content files.old) plan.now.nodes.items (seen_sink K.written K.faults out.old) (seen_sink K.written K.faults out.new) }
     ensures asked { F.asked files.new ≡ F.asked files.old }
     ensures contents { (n : List ℕ) → F.content files.new n ≡ F.content files.old n }
 {
@@ -229,6 +235,7 @@ where
     requires job { IsThreaded job }
     ensures ends { RunEnds job plan.now.nodes.items (seen_files F.content F.faults F.asked files.old) (seen_files F.content F.faults F.asked files.new)
         (seen_sink K.written K.faults out.old) (seen_sink K.written K.faults out.new) result.edges.items result.ran.items result.outcome }
+    ensures strong { job ≡ Stream → WroteStrong (F.content files.old) plan.now.nodes.items (seen_sink K.written K.faults out.old) (seen_sink K.written K.faults out.new) }
     ensures asked { AsksFirst (F.asked files.old) (F.asked files.new) (source_files plan.now.nodes.items) }
     ensures contents { (n : List ℕ) → F.content files.new n ≡ F.content files.old n }
 {
@@ -266,6 +273,7 @@ where
     ensures ends { (script : List ℕ) → CommandEnds (record { job = job; file = file.now; script = script })
         (seen_files F.content F.faults F.asked files.old) (seen_files F.content F.faults F.asked files.new)
         (seen_sink K.written K.faults out.old) (seen_sink K.written K.faults out.new) result.outcome }
+    ensures strong { job ≡ Stream → StreamsPlan (seen_files F.content F.faults F.asked files.old) file.now (seen_sink K.written K.faults out.old) (seen_sink K.written K.faults out.new) }
     ensures asked { (script : List ℕ) → AsksOnly (record { job = job; file = file.now; script = script })
         (seen_files F.content F.faults F.asked files.old) (seen_files F.content F.faults F.asked files.new) }
     ensures contents { (n : List ℕ) → F.content files.new n ≡ F.content files.old n }

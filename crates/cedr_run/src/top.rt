@@ -5,6 +5,7 @@ ghost use Rattle.cedr_run.specs.declared.command.Job.TheVariants.{Stream};
 ghost use Rattle.cedr_run.specs.Commands.{Command, command_of, IsAlone, IsMakeable};
 ghost use Rattle.cedr_run.specs.Seen.{seen_files, seen_sink};
 ghost use Rattle.cedr_run.specs.Ending.{Ends};
+ghost use Rattle.cedr_run.specs.Strong.{StreamsPlan, StreamsStrong};
 ghost use Rattle.cedr_run.specs.Threads.{AreBare, HasRun, IsThreaded};
 
 use crate::carry_out::carry_out;
@@ -48,6 +49,9 @@ where
         (seen_files F.content F.faults F.asked files.old)
         (seen_sink K.written K.faults out.old) (seen_sink K.written K.faults out.new)
         result.status result.edges.items result.ran.items }
+    ensures strong { StreamsStrong (command_of (map string_bytes words.now))
+        (seen_files F.content F.faults F.asked files.old)
+        (seen_sink K.written K.faults out.old) (seen_sink K.written K.faults out.new) }
 {
     match command(words) {
         Some((Job::Run, file, _)) => {
@@ -111,6 +115,7 @@ where
         (seen_files F.content F.faults F.asked files.old)
         (seen_sink K.written K.faults out.old) (seen_sink K.written K.faults out.new)
         result.status result.edges.items result.ran.items }
+    ensures strong { job ≡ Stream → StreamsPlan (seen_files F.content F.faults F.asked files.old) file.now (seen_sink K.written K.faults out.old) (seen_sink K.written K.faults out.new) }
 {
     let Threaded {
         outcome,

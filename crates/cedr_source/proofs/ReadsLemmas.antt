@@ -102,7 +102,7 @@ next_number : (number now count : ℕ) → now ≡ min (number + 1) (2 ^ 64 - 1)
 next_number number now count is was few = omega arith
 
 -- an accepted line was taken, and its message given if it has one
-accepted_line : (old new : SourceLines) (line : List ℕ) (message : Option Message) (shape : Shape) (bytes : List ℕ) (given : List Message) → Takes old new line
+pub accepted_line : (old new : SourceLines) (line : List ℕ) (message : Option Message) (shape : Shape) (bytes : List ℕ) (given : List Message) → Takes old new line
     → ((before : List EventLine) → Guards old.guard before → JudgesLine (Ok message) new.guard before (with_reading before (reading old.shape line)))
     → ReadsSource old shape bytes given → ReadsSource new shape bytes (given ++ message_list message)
 accepted_line old new line message shape bytes given takes judges reads =
@@ -123,6 +123,13 @@ accepted_line old new line message shape bytes given takes judges reads =
       over = takes.over ∙ reads.over;
       ended = λ ended. reads.ended (sym takes.finished ∙ ended);
     }
+
+-- with the lines that the guard stands for then
+pub accepted_good : (old new : SourceLines) (line : List ℕ) (message : Option Message) (shape : Shape) (bytes : List ℕ) (given : List Message) (takes : Takes old new line)
+    (judges : (before : List EventLine) → Guards old.guard before → JudgesLine (Ok message) new.guard before (with_reading before (reading old.shape line)))
+    (reads : ReadsSource old shape bytes given) → (accepted_line old new line message shape bytes given takes judges reads).good ≡ (judges reads.good reads.guards).0
+unfolding accepted_line
+accepted_good old new line message shape bytes given takes judges reads = refl
 
 -- ---- a source is refused
 
@@ -229,15 +236,20 @@ waits source shape bytes given unended none few within reads =
       all = reads.messages ∙ ap (λ (file : Judged). messages_behind [] file.good) (sym judged);
     }
 
--- no byte is left at the end
-is_closed : (source : SourceLines) (shape : Shape) (bytes : List ℕ) (given : List Message) → source.lines.finished ≡ true → source.lines.kept ≡ [] → ReadsSource source shape bytes given → IsClosedSource source shape bytes given
-is_closed source shape bytes given ended nothing reads =
+-- no byte is left at the end, so all lines were accepted
+pub all_accepted : (source : SourceLines) (shape : Shape) (bytes : List ℕ) (given : List Message) → source.lines.finished ≡ true → source.lines.kept ≡ [] → (reads : ReadsSource source shape bytes given) → judged shape bytes ≡ record { good = reads.good; fault = None }
+all_accepted source shape bytes given ended nothing reads =
     let count = length reads.taken in
     let file : judged shape (bytes ++ []) ≡ record { good = reads.good; fault = None } =
     holds_behind (λ file. file ≡ record { good = reads.good; fault = None }) source.lines shape bytes [] reads.taken reads.good (stands source shape bytes given reads) (λ end. refl)
     (λ short. ap (λ kept. judged_behind shape count reads.good (raw_lines (kept ++ []))) nothing)
     (λ unended. absurd (false≢true (sym unended ∙ ended))) in
-    let all : judged shape bytes ≡ record { good = reads.good; fault = None } = ap (judged shape) (sym (append-nil bytes)) ∙ file in
+    ap (judged shape) (sym (append-nil bytes)) ∙ file
+
+-- and their messages were given
+is_closed : (source : SourceLines) (shape : Shape) (bytes : List ℕ) (given : List Message) → source.lines.finished ≡ true → source.lines.kept ≡ [] → ReadsSource source shape bytes given → IsClosedSource source shape bytes given
+is_closed source shape bytes given ended nothing reads =
+    let all = all_accepted source shape bytes given ended nothing reads in
     record {
       ended = ended;
       faultless = ap (λ (file : Judged). file.fault) all;
@@ -299,6 +311,12 @@ none_read source shape lines guards same number room over =
       ended = λ ended. absurd (false≢true (sym (ap (λ (fed : Fed). fed.finished) lines) ∙ ended));
     }
 
+-- and no line was accepted
+pub none_good : (source : SourceLines) (shape : Shape) (lines : source.lines ≡ record { kept = []; finished = false }) (guards : Guards source.guard []) (same : source.shape ≡ shape) (number : source.number ≡ 1) (room : source.room ≡ FILE_LIMIT) (over : source.over_limit ≡ false)
+    → (none_read source shape lines guards same number room over).good ≡ []
+unfolding none_read
+none_good source shape lines guards same number room over = refl
+
 -- a piece was fed: the bytes that are missing to the limit were kept
 pub record Feeds (old new : SourceLines) (piece : List ℕ) : Type 0 where
   pub unended : old.lines.finished ≡ false
@@ -346,6 +364,11 @@ more_read old new piece shape bytes given feeds reads =
       ended = λ ended. absurd (false≢true (sym (ap (λ (fed : Fed). fed.finished) feeds.lines) ∙ ended));
     }
 
+-- and the accepted lines are the same
+pub more_good : (old new : SourceLines) (piece : List ℕ) (shape : Shape) (bytes : List ℕ) (given : List Message) (feeds : Feeds old new piece) (reads : ReadsSource old shape bytes given) → (more_read old new piece shape bytes given feeds reads).good ≡ reads.good
+unfolding more_read
+more_good old new piece shape bytes given feeds reads = refl
+
 -- ---- a line after accepted ones
 
 -- a guard's answer for an event is that for its line
@@ -371,7 +394,7 @@ pub record Stays (old new : SourceLines) : Type 0 where
   pub over : new.over_limit ≡ old.over_limit
 
 -- where no line was taken, the same was read
-still_reads : (old new : SourceLines) (shape : Shape) (bytes : List ℕ) (given : List Message) → Stays old new → ReadsSource old shape bytes given → ReadsSource new shape bytes given
+pub still_reads : (old new : SourceLines) (shape : Shape) (bytes : List ℕ) (given : List Message) → Stays old new → ReadsSource old shape bytes given → ReadsSource new shape bytes given
 still_reads old new shape bytes given stays reads =
     record {
       same_shape = stays.shape ∙ reads.same_shape;
@@ -386,6 +409,11 @@ still_reads old new shape bytes given stays reads =
       over = stays.over ∙ reads.over;
       ended = λ ended. reads.ended (ap (λ (fed : Fed). fed.finished) (sym stays.lines) ∙ ended);
     }
+
+-- and the accepted lines are the same
+pub still_good : (old new : SourceLines) (shape : Shape) (bytes : List ℕ) (given : List Message) (stays : Stays old new) (reads : ReadsSource old shape bytes given) → (still_reads old new shape bytes given stays reads).good ≡ reads.good
+unfolding still_reads
+still_good old new shape bytes given stays reads = refl
 
 -- the answer is that the next line is too long
 pub long_told : (old new : SourceLines) (said : SourceStep) → said ≡ refused_at old.number LineTooLong → Stays old new → IsTooLong old.lines

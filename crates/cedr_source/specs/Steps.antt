@@ -16,12 +16,12 @@ use Rattle.cedr_guard.specs.declared.guard.Guard.{Guard}
 use Rattle.cedr_guard.specs.declared.refusal.Refusal.{Refusal}
 use Rattle.cedr_guard.specs.declared.refusal.TheConstants.{FILE_LIMIT}
 use Rattle.cedr_guard.specs.Messages.{messages_behind}
-use Rattle.cedr_guard.specs.Sources.{judged, judged_lines, messages_of, whole_lines, unfinished_line}
+use Rattle.cedr_guard.specs.Sources.{judged, judged_lines, messages_of, messages_by_line, whole_lines, unfinished_line}
 use Rattle.cedr_guard.specs.Standing.{Guards, message_list}
 use Rattle.cedr_source.specs.declared.lines.SourceLines.{SourceLines}
 use Rattle.cedr_source.specs.declared.step.SourceStep.{SourceStep}
 use Rattle.cedr_source.specs.declared.step.SourceStep.TheVariants as step
-use Rattle.cedr_source.specs.Reads.{MayStillCome, is_ended, ReadsSource}
+use Rattle.cedr_source.specs.Reads.{MayStillCome, is_ended, ReadsSource, ReadsByLine}
 
 -- these are a front of some messages
 pub record IsFrontOf (front all : List Message) : Type 0 where
@@ -73,6 +73,19 @@ TakesLine (step.Refused refusal) left now = Unit {0}
 abbrev pub TellsLine : Option SourceStep → SourceLines → Shape → List ℕ → List Message → Type 0
 TellsLine None source shape bytes given = ReadsSource source shape bytes given
 TellsLine (Some said) source shape bytes given = AnswersStep said source shape bytes given
+
+-- the entry of a line that was taken: an empty line is none
+abbrev pub line_entry : List ℕ → Option Message → List (Option Message)
+line_entry [] message = []
+line_entry (b ∷ bytes) message = message ∷ []
+
+-- the same line by line: the line that was taken, and its message if it has one
+abbrev pub TellsEntry : Option SourceStep → SourceLines → Shape → List ℕ → List (Option Message) → Type 0
+TellsEntry None source shape bytes given = ReadsByLine source shape bytes (given ++ line_entry source.line.items None)
+TellsEntry (Some (step.Message m)) source shape bytes given = ReadsByLine source shape bytes (given ++ Some m ∷ [])
+TellsEntry (Some step.NotYet) source shape bytes given = ReadsByLine source shape bytes given
+TellsEntry (Some step.Closed) source shape bytes given = ReadsByLine source shape bytes given × (given ++ Some message.End ∷ [] ≡ messages_by_line shape bytes)
+TellsEntry (Some (step.Refused refusal)) source shape bytes given = Unit {0}
 
 -- the same for one line: a line that has no message is taken too
 abbrev pub TakesOne : Option SourceStep → ℕ → ℕ → Type 0

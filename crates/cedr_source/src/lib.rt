@@ -3,7 +3,7 @@
 //!
 //! `SourceLines` answers the messages of bytes that are fed to it. `specs/Reads.antt` says what it has read and
 //! given so far, and `specs/Steps.antt` what each of its answers says of all bytes that may still come.
-//! `read_laws` says that what was given is the front of what all bytes give.
+//! `read_by_line` reads a whole source, and `read_laws` says that what was given is the front of what all bytes give.
 #![tactic(auto)]
 
 mod fault;
@@ -15,5 +15,5 @@ mod step;
 pub use fault::Unread;
 pub use law::read_laws;
 pub use lines::{SourceLines, judge_line};
-pub use read::read_messages;
+pub use read::read_by_line;
 pub use step::SourceStep;

@@ -1,4 +1,4 @@
-ghost use Rattle.std.specs.Prelude.{◌≡◌, ◌≤◌, ◌++◌, [], List, ℕ, true, false, length, IfOk, OnOk, OnErr};
+ghost use Rattle.std.specs.Prelude.{◌≡◌, ◌==◌, ◌≤◌, ◌++◌, [], List, ℕ, true, false, length, Option, IfOk, OnOk, OnErr};
 ghost use Rattle.cedr_base.specs.declared.change.Message.{Message};
 ghost use Rattle.cedr_text.specs.declared.event_line.EventLine.{EventLine};
 ghost use Rattle.cedr_text.specs.declared.event_line.Shape.{Shape};
@@ -6,8 +6,8 @@ ghost use Rattle.cedr_text.specs.Reading.{reading};
 ghost use Rattle.cedr_guard.specs.declared.refusal.TheConstants.{FILE_LIMIT};
 ghost use Rattle.cedr_guard.specs.Sources.{with_reading};
 ghost use Rattle.cedr_guard.specs.Standing.{Guards};
-ghost use Rattle.cedr_source.specs.Reads.{ReadsSource, is_ended, lines_left};
-ghost use Rattle.cedr_source.specs.Steps.{AnswersStep, TellsLine, TakesLine, TakesOne, JudgesLine, AnswersLine, refused_at};
+ghost use Rattle.cedr_source.specs.Reads.{ReadsSource, ReadsByLine, is_ended, lines_left};
+ghost use Rattle.cedr_source.specs.Steps.{AnswersStep, TellsLine, TellsEntry, TakesLine, TakesOne, JudgesLine, AnswersLine, refused_at};
 
 use crate::step::SourceStep;
 use cedr_base::{Message, OutOfMemory};
@@ -40,6 +40,7 @@ impl SourceLines {
     /// Nothing was fed or given. It takes no memory.
     pub fn new(alloc: Global, shape: Shape) -> SourceLines
         ensures reads { ReadsSource result shape [] [] }
+        ensures by_line { ReadsByLine result shape [] [] }
         ensures goes_on { is_ended result ≡ false }
     {
         SourceLines {
@@ -57,6 +58,7 @@ impl SourceLines {
     pub fn feed(&mut self, piece: &[u8]) -> Result<(), OutOfMemory>
         requires { is_ended self.old ≡ false }
         ensures reads { OnOk result ((shape : Shape) (bytes : List ℕ) (given : List Message) → ReadsSource self.old shape bytes given → ReadsSource self.new shape (bytes ++ piece.now) given) }
+        ensures by_line { OnOk result ((shape : Shape) (bytes : List ℕ) (given : List (Option Message)) → ReadsByLine self.old shape bytes given → ReadsByLine self.new shape (bytes ++ piece.now) given) }
         ensures err { OnErr result (self.new ≡ self.old) }
         ensures goes_on { is_ended self.new ≡ false }
     {
@@ -72,6 +74,7 @@ impl SourceLines {
     /// Says that no more bytes come. It takes no memory.
     pub fn finish(&mut self)
         ensures reads { (shape : Shape) (bytes : List ℕ) (given : List Message) → ReadsSource self.old shape bytes given → ReadsSource self.new shape bytes given }
+        ensures by_line { (shape : Shape) (bytes : List ℕ) (given : List (Option Message)) → ReadsByLine self.old shape bytes given → ReadsByLine self.new shape bytes given }
         ensures finished { (shape : Shape) (bytes : List ℕ) (given : List Message) → ReadsSource self.old shape bytes given → length bytes ≤ FILE_LIMIT → is_ended self.new ≡ true }
     {
         if !self.over_limit {
@@ -96,9 +99,11 @@ impl SourceLines {
         }
     }
 
-    /// The same of the next line alone: it answers nothing where that line has no message.
+    /// The same of the next line alone: it answers nothing where that line has no message. Whether it is an empty line
+    /// then, [`SourceLines::was_empty`] says.
     pub fn take_line(&mut self) -> Result<Option<SourceStep>, OutOfMemory>
         ensures said { IfOk result (λ said. (shape : Shape) (bytes : List ℕ) (given : List Message) → ReadsSource self.old shape bytes given → TellsLine said self.new shape bytes given) }
+        ensures by_line { IfOk result (λ said. (shape : Shape) (bytes : List ℕ) (given : List (Option Message)) → ReadsByLine self.old shape bytes given → TellsEntry said self.new shape bytes given) }
         ensures falls { IfOk result (λ said. TakesOne said (lines_left self.old) (lines_left self.new)) }
         ensures finished { is_ended self.new ≡ is_ended self.old }
     {
@@ -118,6 +123,13 @@ impl SourceLines {
             LineStep::NotYet => Ok(Some(SourceStep::NotYet)),
             LineStep::Finished => Ok(Some(SourceStep::Closed)),
         }
+    }
+
+    /// Whether the line that was taken last is an empty one.
+    pub(crate) fn was_empty(&self) -> bool
+        ensures { result ≡ (length self.now.line.items == 0) }
+    {
+        self.line.is_empty()
     }
 }
 

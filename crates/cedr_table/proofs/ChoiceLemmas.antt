@@ -26,7 +26,8 @@ sum_by-each : {X Y : Type 0} (w : Y → ℕ) (f : X → List Y) (xs : List X) �
 sum_by-each w f [] = refl
 sum_by-each w f (x ∷ xs) = omega (arith, sum_by-append w (f x) (flat_map f xs), sum_by-cons (λ x. sum_by w (f x)) x xs, sum_by-each w f xs)
 
-sum_by-like : {X : Type 0} (f g : X → ℕ) (xs : List X) → ((x : X) → f x ≡ g x) → sum_by f xs ≡ sum_by g xs
+-- equal weights have the same sum
+pub sum_by-like : {X : Type 0} (f g : X → ℕ) (xs : List X) → ((x : X) → f x ≡ g x) → sum_by f xs ≡ sum_by g xs
 sum_by-like f g [] h = refl
 sum_by-like f g (x ∷ xs) h = omega (arith, sum_by-cons f x xs, sum_by-cons g x xs, sum_by-like f g xs h, h x)
 

@@ -6,3 +6,6 @@ pub mod ChoiceLemmas
 pub mod RowsLemmas
 pub mod FilterLemmas
 pub mod Changing
+pub mod RowWiseAgree
+pub mod PortsAgree
+pub mod ChoicesAgree

@@ -7,7 +7,7 @@ use Rattle.cedr_base.specs.declared.change.Message.TheVariants as message
 use Rattle.cedr_edge.specs.Ends.{InEnd, OutEnd}
 use Rattle.node_laws.specs.Lists.{Lists}
 use Rattle.node_laws.specs.Lawful.{is_over, all_over, any_broken, has_broken}
-use Rattle.node_laws.proofs.Ends.{over_grows, over_open}
+use Rattle.node_laws.proofs.Ends.{over_grows, over_open, unbroken_front}
 use Rattle.node_laws.proofs.Giving.{lawful_opened, lawful_unbroken}
 use Rattle.cedr_node.specs.declared.node.Node.{Node}
 use Rattle.cedr_node.specs.Nodes.{made_of, port_count, NodeStands}
@@ -34,14 +34,6 @@ works_new node inputs os stands count none nothing = record {
   lost = λ e. absurd (true≢false (sym e));
   whole = λ e. refl;
 }
-
--- the first messages of a list that isn't broken aren't
-pub unbroken_front : (xs ys : List Message) → has_broken (xs ++ ys) ≡ false → has_broken xs ≡ false
-unbroken_front [] ys h = refl
-unbroken_front (message.Change c ∷ xs) ys h = unbroken_front xs ys h
-unbroken_front (message.Mark t ∷ xs) ys h = unbroken_front xs ys h
-unbroken_front (message.End ∷ xs) ys h = unbroken_front xs ys h
-unbroken_front (message.Broken ∷ xs) ys h = h
 
 -- where memory was found and no list that was taken is broken, no Broken was sent
 pub none_broken : (node : Node) (lists : Lists) (os : List Outgoing) (lacked broke : Bool) → NodeWorks node lists os lacked broke → lacked ≡ false → any_broken lists ≡ false → NoneBroken os

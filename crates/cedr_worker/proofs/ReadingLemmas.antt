@@ -1,5 +1,5 @@
 -- What a step of a source's worker answers.
-use Rattle.std.proofs.Common.{◌≡◌, ◌≢◌, ℕ, ◌<◌, ◌≤◌, ◌⊎◌, inl, inr, Bool, true, false, true≢false, List, [], ◌∷◌, ◌++◌, length, Option, None, Some, Result, Ok, Err, refl, sym, ap, ◌∙◌, subst, append_assoc, append-nil, arith}
+use Rattle.std.proofs.Common.{◌≡◌, ◌≢◌, ℕ, ◌+◌, ◌<◌, ◌≤◌, ◌⊎◌, inl, inr, Bool, true, false, true≢false, List, [], ◌∷◌, ◌++◌, length, Option, None, Some, Result, Ok, Err, refl, sym, ap, ◌∙◌, subst, append_assoc, append-nil, arith}
 use Rattle.std.specs.Prelude.{nat_lt, IfOk, if◌then◌else◌}
 use Rattle.std.specs.Io.KnownBytes.{Consumes, Keeps, IsAtEnd}
 use Rattle.std.proofs.KnownBytes.{Consumes-nil, Consumes-kept}
@@ -89,11 +89,20 @@ closed_as lines shape bytes given is = record { at_end = is.ended; faultless = i
 refused_as : (lines : SourceLines) (shape : Shape) (bytes : List ℕ) (given : List Message) (refusal : Refusal) → IsRefused lines shape bytes given refusal → StoppedAs (stop.Refused refusal.line refusal.fault) shape bytes given (is_ended lines)
 refused_as lines shape bytes given refusal is = record { first = is.fault; all = is.all }
 
+-- where no byte more was read, no more were read than before
+no_more : (bytes : List ℕ) → length bytes ≤ FILE_LIMIT + BLOCK → length (bytes ++ []) ≤ FILE_LIMIT + BLOCK
+no_more bytes few = subst (λ (all : List ℕ). length all ≤ FILE_LIMIT + BLOCK) (sym (append-nil bytes)) few
+
+-- where no more were read than a source may have, a block more is at most one block over that
+block_more : (bytes piece : List ℕ) → length bytes ≤ FILE_LIMIT → length piece ≤ BLOCK → length (bytes ++ piece) ≤ FILE_LIMIT + BLOCK
+block_more bytes piece within few = omega (arith, within, few, length-append bytes piece)
+
 module _ (old new : SourceLines) (rest : Option (List ℕ)) (count : ℕ) (shape : Shape) (bytes : List ℕ) (given : List Message) (reads : ReadsSource old shape bytes given) (same : is_ended new ≡ is_ended old) where
   -- a step that reads no byte
   no_byte : (answer : Result (Option Message) SourceStop) → CountedSo (stop_of answer) count count → TellsStep answer new shape (bytes ++ []) given → TookStep answer old new rest rest count count shape bytes given
   no_byte answer counted tells = record {
     piece = [];
+    few = no_more bytes;
     read = Consumes-nil rest;
     at_end = λ at ended. at (sym same ∙ ended);
     counted = counted;
@@ -130,6 +139,7 @@ pub read_failed : (lines : SourceLines) (rest left : Option (List ℕ)) (count n
     → TookStep (Err stop.ReadFault) lines lines rest left count now shape bytes given
 read_failed lines rest left count now shape bytes given reads goes_on keeps counted = record {
   piece = [];
+  few = no_more bytes;
   read = Consumes-kept rest rest left [] (Consumes-nil rest) keeps;
   at_end = λ at ended. absurd (true≢false (sym ended ∙ goes_on));
   counted = counted;
@@ -142,6 +152,7 @@ pub end_met : (old new : SourceLines) (rest left : Option (List ℕ)) (count now
     → TookStep (Ok None) old new rest left count now shape bytes given
 end_met old new rest left count now shape bytes given reads ended consumed at counted = record {
   piece = [];
+  few = no_more bytes;
   read = consumed;
   at_end = λ _ _. at;
   counted = counted;
@@ -164,10 +175,11 @@ room_falls old new shape bytes piece given reads more within some true over = in
 room_falls old new shape bytes piece given reads more within some false over = inl (omega (arith, reads.room, more.room, some, ltb-false FILE_LIMIT (length (bytes ++ piece)) over, length-append bytes piece))
 
 -- a block that was fed
-pub block_read : (old new : SourceLines) (rest left : Option (List ℕ)) (count now : ℕ) (shape : Shape) (bytes piece : List ℕ) (given : List Message) → ReadsSource new shape (bytes ++ piece) given → is_ended new ≡ false → Consumes rest left piece → now ≡ count
+pub block_read : (old new : SourceLines) (rest left : Option (List ℕ)) (count now : ℕ) (shape : Shape) (bytes piece : List ℕ) (given : List Message) → ReadsSource new shape (bytes ++ piece) given → is_ended new ≡ false → length bytes ≤ FILE_LIMIT → length piece ≤ BLOCK → Consumes rest left piece → now ≡ count
     → TookStep (Ok None) old new rest left count now shape bytes given
-block_read old new rest left count now shape bytes piece given more goes_on consumed counted = record {
+block_read old new rest left count now shape bytes piece given more goes_on within few consumed counted = record {
   piece = piece;
+  few = λ _. block_more bytes piece within few;
   read = consumed;
   at_end = λ at ended. absurd (true≢false (sym ended ∙ goes_on));
   counted = counted;
@@ -182,10 +194,11 @@ block_came old new rest left shape bytes piece given reads more within some few 
     inl (record { piece = piece; some = some_piece piece some; few = few; read = consumed; room = room_falls old new shape bytes piece given reads more within some (nat_lt FILE_LIMIT (length (bytes ++ piece))) refl })
 
 -- a block for which memory lacked
-pub block_lost : (old new : SourceLines) (rest left : Option (List ℕ)) (count now : ℕ) (shape : Shape) (bytes piece : List ℕ) (given : List Message) → ReadsSource old shape bytes given → is_ended old ≡ false → is_ended new ≡ false → Consumes rest left piece → now ≡ count
+pub block_lost : (old new : SourceLines) (rest left : Option (List ℕ)) (count now : ℕ) (shape : Shape) (bytes piece : List ℕ) (given : List Message) → ReadsSource old shape bytes given → is_ended old ≡ false → is_ended new ≡ false → length bytes ≤ FILE_LIMIT → length piece ≤ BLOCK → Consumes rest left piece → now ≡ count
     → TookStep (Err stop.OutOfMemory) old new rest left count now shape bytes given
-block_lost old new rest left count now shape bytes piece given reads went_on goes_on consumed counted = record {
+block_lost old new rest left count now shape bytes piece given reads went_on goes_on within few consumed counted = record {
   piece = piece;
+  few = λ _. block_more bytes piece within few;
   read = consumed;
   at_end = λ at ended. absurd (true≢false (sym ended ∙ goes_on));
   counted = counted;
@@ -200,6 +213,7 @@ pub step_behind : (answer : Result (Option Message) SourceStop) (old mid new : S
     → TookStep answer mid new rest left count now shape bytes given → TookStep answer old new rest left count now shape bytes given
 step_behind answer old mid new rest left count now shape bytes given same took = record {
   piece = took.piece;
+  few = took.few;
   read = took.read;
   at_end = λ at ended. took.at_end (λ e. at (sym same ∙ e)) ended;
   counted = took.counted;

@@ -1,11 +1,12 @@
 -- A worker that reads a source keeps its record.
-use Rattle.std.proofs.Common.{◌≡◌, ℕ, ◌<◌, ◌⊎◌, inl, inr, Bool, true, false, true≢false, not, ◌&&◌, ◌||◌, List, [], ◌∷◌, ◌++◌, length, map, get_or, Option, None, Some, Result, Ok, Err, refl, sym, ap, ◌∙◌, subst, arith}
+use Rattle.std.proofs.Common.{◌≡◌, ℕ, ◌+◌, ◌<◌, ◌≤◌, ◌⊎◌, inl, inr, Bool, true, false, true≢false, not, ◌&&◌, ◌||◌, List, [], ◌∷◌, ◌++◌, length, map, get_or, Option, None, Some, Result, Ok, Err, refl, sym, ap, ◌∙◌, subst, arith}
 use Rattle.std.specs.Prelude.{IfOk, IsSome, is_none, is_some}
 use Rattle.std.specs.Io.KnownBytes.{Consumes, IsAtEnd}
 use Rattle.std.proofs.KnownBytes.{Consumes-nil, Consumes-trans}
 use Rattle.cedr_base.specs.declared.change.Message.{Message}
 use Rattle.cedr_base.specs.declared.change.Message.TheVariants as message
 use Rattle.cedr_text.specs.declared.event_line.Shape.{Shape}
+use Rattle.cedr_guard.specs.declared.refusal.TheConstants.{FILE_LIMIT}
 use Rattle.node_laws.specs.Lawful.{is_over, has_broken}
 use Rattle.node_laws.specs.Pass.{has_end}
 use Rattle.node_laws.proofs.Ends.{broken-append}
@@ -63,6 +64,7 @@ module _ {S : Type 0} (rest : S → Option (List ℕ)) (faults : S → ℕ) (sha
   pub put_works : (old : SourceWorker S) (new : List Outgoing) (moved : Bool) → PutSoFar old.outlets new moved (length old.outlets) → SourceWorks rest faults shape content count old → SourceWorks rest faults shape content count (record old { outlets = new })
   put_works old new moved puts works = record {
     bytes = works.bytes;
+    few = works.few;
     given = works.given;
     read = works.read;
     at_end = works.at_end;
@@ -76,11 +78,12 @@ module _ {S : Type 0} (rest : S → Option (List ℕ)) (faults : S → ℕ) (sha
   }
 
   -- the record of a worker whose stop is known
-  stands : (now : SourceWorker S) (s : Option SourceStop) (bytes : List ℕ) (given : List Message) → now.stop ≡ s → Consumes content (rest now.source) bytes → (is_ended now.lines ≡ true → IsAtEnd (rest now.source)) → IsGiven shape bytes given (is_ended now.lines)
+  stands : (now : SourceWorker S) (s : Option SourceStop) (bytes : List ℕ) (given : List Message) → length bytes ≤ FILE_LIMIT + BLOCK → now.stop ≡ s → Consumes content (rest now.source) bytes → (is_ended now.lines ≡ true → IsAtEnd (rest now.source)) → IsGiven shape bytes given (is_ended now.lines)
       → (s ≡ None → ReadsSource now.lines shape bytes given × AllStaged [] now.outlets) → AllTotal (meant given s) now.outlets → StoppedSo s shape bytes given (is_ended now.lines) → CountedSo s count (faults now.source) → 0 < length now.outlets → length now.block.items ≡ BLOCK
       → SourceWorks rest faults shape content count now
-  stands now s bytes given is read at is_given goes total stopped counted some room = record {
+  stands now s bytes given few is read at is_given goes total stopped counted some room = record {
     bytes = bytes;
+    few = few;
     given = given;
     read = read;
     at_end = at;
@@ -97,7 +100,7 @@ module _ {S : Type 0} (rest : S → Option (List ℕ)) (faults : S → ℕ) (sha
   pub new_works : (now : SourceWorker S) → now.stop ≡ None → content ≡ rest now.source → count ≡ faults now.source → ReadsSource now.lines shape [] [] → is_ended now.lines ≡ false → AllTotal [] now.outlets → AllStaged [] now.outlets → 0 < length now.outlets → length now.block.items ≡ BLOCK
       → SourceWorks rest faults shape content count now
   new_works now none same counted reads goes_on total clean some room =
-      stands now None [] [] none (subst (λ (c : Option (List ℕ)). Consumes c (rest now.source) []) (sym same) (Consumes-nil (rest now.source))) (λ ended. absurd (true≢false (sym ended ∙ goes_on))) (reads_given now.lines shape [] [] reads)
+      stands now None [] [] (omega arith) none (subst (λ (c : Option (List ℕ)). Consumes c (rest now.source) []) (sym same) (Consumes-nil (rest now.source))) (λ ended. absurd (true≢false (sym ended ∙ goes_on))) (reads_given now.lines shape [] [] reads)
       (λ _. (reads, clean)) total tt (sym counted) some room
 
   module _ (old now : SourceWorker S) (none : old.stop ≡ None) (works : SourceWorks rest faults shape content count old) where
@@ -112,21 +115,21 @@ module _ {S : Type 0} (rest : S → Option (List ℕ)) (faults : S → ℕ) (sha
         → Passed answer now.stop works.given now.outlets → 0 < length now.outlets → length now.block.items ≡ BLOCK → SourceWorks rest faults shape content count now
     step_stands (Ok None) took passed some room =
         let bytes = works.bytes ++ took.piece in
-        stands now None bytes works.given passed.0 (Consumes-trans _ _ _ works.bytes took.piece works.read took.read) (took.at_end works.at_end) took.is_given
+        stands now None bytes works.given (took.few works.few) passed.0 (Consumes-trans _ _ _ works.bytes took.piece works.read took.read) (took.at_end works.at_end) took.is_given
         (λ _. (took.tells, passed.2)) passed.1 tt (took.counted ∙ going_count) some room
     step_stands (Ok (Some m)) took (inl passed) some room =
         let bytes = works.bytes ++ took.piece in
-        stands now None bytes (works.given ++ m ∷ []) passed.0 (Consumes-trans _ _ _ works.bytes took.piece works.read took.read) (took.at_end works.at_end) (reads_given now.lines shape bytes (works.given ++ m ∷ []) took.tells.0)
+        stands now None bytes (works.given ++ m ∷ []) (took.few works.few) passed.0 (Consumes-trans _ _ _ works.bytes took.piece works.read took.read) (took.at_end works.at_end) (reads_given now.lines shape bytes (works.given ++ m ∷ []) took.tells.0)
         (λ _. (took.tells.0, passed.2)) passed.1 tt (took.counted ∙ going_count) some room
     step_stands (Ok (Some m)) took (inr passed) some room =
         let bytes = works.bytes ++ took.piece in
-        stands now (Some stop.OutOfMemory) bytes works.given passed.0 (Consumes-trans _ _ _ works.bytes took.piece works.read took.read) (took.at_end works.at_end) took.is_given
+        stands now (Some stop.OutOfMemory) bytes works.given (took.few works.few) passed.0 (Consumes-trans _ _ _ works.bytes took.piece works.read took.read) (took.at_end works.at_end) took.is_given
         (λ e. absurd (some_none e)) passed.1 tt (took.counted ∙ going_count) some room where
           some_none : Some stop.OutOfMemory ≡ None → ⊥
           some_none e = cc
     step_stands (Err s) took passed some room =
         let bytes = works.bytes ++ took.piece in
-        stands now (Some s) bytes works.given passed.0 (Consumes-trans _ _ _ works.bytes took.piece works.read took.read) (took.at_end works.at_end) took.is_given
+        stands now (Some s) bytes works.given (took.few works.few) passed.0 (Consumes-trans _ _ _ works.bytes took.piece works.read took.read) (took.at_end works.at_end) took.is_given
         (λ e. absurd (some_none e)) passed.1 took.tells (subst (λ (c : ℕ). CountedSo (Some s) c (faults now.source)) going_count took.counted) some room where
           some_none : Some s ≡ None → ⊥
           some_none e = cc
@@ -269,6 +272,7 @@ pub works_end : {S : Type 0} (rest : S → Option (List ℕ)) (faults : S → �
     → end.source ≡ worker.source → worker.stop ≡ Some end.stop → map end_sent end.outputs.items ≡ map total_of worker.outlets → SourceEnds rest faults shape content count end
 works_end rest faults shape content count worker end works over source stops sent = record {
   bytes = works.bytes;
+  few = works.few;
   given = works.given;
   ended = is_ended worker.lines;
   read = subst (λ s. Consumes content (rest s) works.bytes) (sym source) works.read;

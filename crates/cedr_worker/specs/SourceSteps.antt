@@ -1,10 +1,11 @@
 -- A step of a source's worker: the next line of what was read, or the next block.
-use Rattle.std.specs.Prelude.{ℕ, ◌≡◌, ◌≢◌, ◌<◌, ◌≤◌, ◌⊎◌, length, true, false, List, [], ◌∷◌, ◌++◌, Option, None, Some, Result, Ok, Err}
+use Rattle.std.specs.Prelude.{ℕ, ◌≡◌, ◌≢◌, ◌<◌, ◌≤◌, ◌+◌, ◌⊎◌, length, true, false, List, [], ◌∷◌, ◌++◌, Option, None, Some, Result, Ok, Err}
 use Rattle.std.specs.Io.KnownBytes.{Consumes, IsAtEnd}
 use Rattle.cedr_base.specs.declared.change.Message.{Message}
 use Rattle.cedr_base.specs.declared.change.Message.TheVariants as message
 use Rattle.cedr_base.specs.Messages.{IsLegal}
 use Rattle.cedr_text.specs.declared.event_line.Shape.{Shape}
+use Rattle.cedr_guard.specs.declared.refusal.TheConstants.{FILE_LIMIT}
 use Rattle.worker_outlets.specs.Outgoing.{Outgoing, last_message}
 use Rattle.worker_outlets.specs.Outlets.{AllTotal, AllStaged}
 use Rattle.cedr_source.specs.declared.lines.SourceLines.{SourceLines}
@@ -54,9 +55,11 @@ TellsStep (Ok None) lines shape bytes given = ReadsSource lines shape bytes give
 TellsStep (Err s) lines shape bytes given = StoppedAs s shape bytes given (is_ended lines)
 
 -- What a step did, where these bytes were read and these messages given before it: from what was left of the source to
--- what is left, and from the count of its faults to what that is now.
+-- what is left, and from the count of its faults to what that is now. Where at most a block more was read than a source may have, that
+-- is so still.
 pub record TookStep (answer : Result (Option Message) SourceStop) (old new : SourceLines) (rest left : Option (List ℕ)) (faults count : ℕ) (shape : Shape) (bytes : List ℕ) (given : List Message) : Type 0 where
   pub piece : List ℕ
+  pub few : length bytes ≤ FILE_LIMIT + BLOCK → length (bytes ++ piece) ≤ FILE_LIMIT + BLOCK
   pub read : Consumes rest left piece
   pub at_end : (is_ended old ≡ true → IsAtEnd rest) → is_ended new ≡ true → IsAtEnd left
   pub counted : CountedSo (stop_of answer) faults count

@@ -22,8 +22,8 @@ use Rattle.change_laws.proofs.Moves.{remnant_some, remnant_none, may_is, puts_ar
 use Rattle.change_laws.proofs.RepairLemmas.{AllChanges, takes-append, puts-append}
 use Rattle.change_laws.proofs.Legal.{changes-append, mark-append, legal_rest}
 
--- what a row adds to a count before a time
-abbrev share : ℕ → Row → Row → ℕ
+-- what a row adds to the count of a row before a time
+abbrev pub share : ℕ → Row → Row → ℕ
 share t r x = count_of r (row_up_to t x)
 
 -- a row that begins at a time or later is nothing before it

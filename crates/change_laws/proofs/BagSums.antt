@@ -45,6 +45,12 @@ sum_by-same w (x ∷ xs) ys h =
     let rest : SameRows xs (without x ys) = record { each = λ r. omega (arith, h.each r, count_of-cons r x xs, sum_by-without (one_if_same r) x ys there) } in
     omega (arith, sum_by-same w xs (without x ys) rest, sum_by-without w x ys there, sum_by-cons w x xs)
 
+-- weights that are equal at each row that is there have the same sum
+pub sum_by-alike_there : (f g : Row → ℕ) (xs : List Row) → ((x : Row) → 0 < count_of x xs → f x ≡ g x) → sum_by f xs ≡ sum_by g xs
+sum_by-alike_there f g [] h = refl
+sum_by-alike_there f g (x ∷ xs) h =
+    omega (arith, sum_by-cons f x xs, sum_by-cons g x xs, h x (count_of-itself x xs), sum_by-alike_there f g xs (λ y there. h y (omega (arith, count_of-cons y x xs))))
+
 -- a sum over joined lists
 pub sum_by-flat_map : {X : Type 0} (w : Row → ℕ) (f : X → List Row) (xs : List X) → sum_by w (flat_map f xs) ≡ sum_by (λ x. sum_by w (f x)) xs
 sum_by-flat_map w f [] = refl

@@ -64,6 +64,11 @@ pub sum_one : (w : Row → ℕ) (x : Row) (b : Bool) → sum_by w (cond b (x ∷
 sum_one w x true = omega arith
 sum_one w x false = refl
 
+-- a number, or 0 in its place, is 0 where the number is
+pub none_either : (b : Bool) (n : ℕ) → n ≡ 0 → cond b n 0 ≡ 0
+none_either true n h = h
+none_either false n h = refl
+
 remnant_is_row : (a r : Row) (e : ℕ) (b : Bool) → nat_lt a.begin e ≡ b → IsRow a → e < a.end → 0 < count_of r (cond b (record a { end = e } ∷ []) []) → IsRow r
 remnant_is_row a r e true h ra shorter there =
     let is : r ≡ record a { end = e } = one_if_same_exact r (record a { end = e }) (omega arith) in

@@ -14,8 +14,9 @@
 //! - `source SHAPE ASKS LAST PIECE..`: a source is fed with the pieces. It is asked so often after each piece, and so often
 //!   after the end, which doesn't come where that is 0. Each time it gives all messages that there are, and then `?`
 //!   where more is needed, `closed`, or the line and the fault. `\*COUNT*PIECE` is a piece that comes so often.
-//! - `memory SHAPE BYTES`: a source in memory is read whole. `file SHAPE PIECE REFUSED BYTES` has reads of at most so many
-//!   bytes, of which the one of this number is refused.
+//! - `memory SHAPE BYTES`: a source in memory is read whole, and gives the message of each line that isn't empty, or an
+//!   underscore where that line has none. `file SHAPE PIECE REFUSED BYTES` has reads of at most so many bytes, of which the
+//!   one of this number is refused.
 //! - `rows FRONT ROW..`: the rows are written behind these bytes. `changes FRONT CHANGE..` does so with changes, and
 //!   `forgotten FRONT NAME PORT CAUSE HIGH CHANGE` with a change that a port left out.
 //! - `sorted FRONT ROW..`: the same with rows whose payload may stand in a line, which are sorted first.

@@ -7,7 +7,7 @@ use anyhow::{Result, bail};
 use cedr_base::{Message, OutOfMemory};
 use cedr_guard::Refusal;
 use cedr_io::{Files, MemFiles, MemSource, Source};
-use cedr_source::{SourceLines, SourceStep, Unread, read_messages};
+use cedr_source::{SourceLines, SourceStep, Unread, read_by_line};
 use cedr_text::{write_change, write_number, write_time};
 use std::alloc::Global;
 
@@ -147,17 +147,17 @@ pub(crate) fn file(
     read_whole(rt, alloc, shape, &mut source)
 }
 
-/// Reads a source to its end, and writes its messages, or why there are none.
+/// Reads a source to its end, and writes its messages line by line, or why there are none.
 fn read_whole<S: Source>(
     rt: &impl Print,
     alloc: Global,
     shape: &str,
     source: &mut S,
 ) -> Result<()> {
-    match read_messages(alloc, shape_of(alloc, shape)?, source) {
-        Ok(messages) => {
+    match read_by_line(alloc, shape_of(alloc, shape)?, source) {
+        Ok(entries) => {
             let mut text = Vec::new(alloc);
-            put_messages(messages.as_slice(), &mut text)?;
+            put_entries(entries.as_slice(), &mut text)?;
             tell(rt, alloc, text.as_slice())
         }
         Err(Unread::Refused(refusal)) => tell_refusal(rt, &refusal),
@@ -169,9 +169,13 @@ fn read_whole<S: Source>(
     }
 }
 
-fn put_messages(messages: &[Message], text: &mut Vec<u8>) -> Result<(), OutOfMemory> {
-    for message in messages {
-        put_message(message, text)?;
+/// Appends the message of each line, and an underscore for a line that has none.
+fn put_entries(entries: &[Option<Message>], text: &mut Vec<u8>) -> Result<(), OutOfMemory> {
+    for entry in entries {
+        match entry {
+            Some(message) => put_message(message, text)?,
+            None => text.push(b'_')?,
+        }
     }
     Ok(())
 }

@@ -10,8 +10,7 @@ use crate::shown::{Moment, write_changes, write_forgotten, write_rows};
 use anyhow::{Result, bail};
 use cedr_base::{Message, OutOfMemory};
 use cedr_net::SerialNet;
-use cedr_plan::{Plan, PlanNode};
-use op_node::is_source;
+use cedr_plan::{Plan, PlanNode, is_source};
 use std::alloc::Global;
 use test_feeding::{Came, message_of};
 

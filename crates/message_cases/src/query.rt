@@ -1,17 +1,16 @@
 ghost use Rattle.std.specs.Prelude.{◌≡◌, true, IfOk, OnOk, length};
 ghost use Rattle.cedr_base.specs.Rows.{IsRow, AreRows};
 ghost use Rattle.cedr_plan.specs.Rules.{IsPlan};
-ghost use Rattle.cedr_query.specs.Queries.{source_count};
+ghost use Rattle.cedr_plan.specs.Places.{source_count};
 ghost use Rattle.cedr_table.specs.Operators.{AreTimes, HaveRows};
 
 use crate::line::{row, time};
 use crate::shown::{Moment, write_rows};
 use anyhow::{Result, bail};
 use cedr_base::{Row, Time};
-use cedr_plan::{Plan, PlanNode};
+use cedr_plan::{Plan, count_sources};
 use cedr_query::{evaluate, reach};
 use cedr_table::Table;
-use op_node::is_source;
 use std::alloc::Global;
 use test_feeding::no_tables;
 
@@ -24,19 +23,6 @@ pub(crate) fn play(rt: &impl Print, alloc: Global, plan: &Plan, lines: &[String]
         step(rt, alloc, plan, &mut tables, line.as_str())?;
     }
     Ok(())
-}
-
-/// How many of the nodes are sources.
-fn count_sources(nodes: &[PlanNode]) -> usize
-    ensures { result ≡ source_count nodes.now }
-{
-    let mut count = 0;
-    for node in nodes {
-        if is_source(&node.kind) {
-            count += 1;
-        }
-    }
-    count
 }
 
 /// One line: `row SOURCE BEGIN END FIELD..`, `rows` or `reach MARK..`.

@@ -33,6 +33,14 @@ broken-append (message.Mark t ∷ xs) ys h = broken-append xs ys h
 broken-append (message.End ∷ xs) ys h = broken-append xs ys h
 broken-append (message.Broken ∷ xs) ys h = cc
 
+-- the first messages of a list that isn't broken aren't
+pub unbroken_front : (xs ys : List Message) → has_broken (xs ++ ys) ≡ false → has_broken xs ≡ false
+unbroken_front [] ys h = refl
+unbroken_front (message.Change c ∷ xs) ys h = unbroken_front xs ys h
+unbroken_front (message.Mark t ∷ xs) ys h = unbroken_front xs ys h
+unbroken_front (message.End ∷ xs) ys h = unbroken_front xs ys h
+unbroken_front (message.Broken ∷ xs) ys h = h
+
 -- a list to which Broken is added is broken
 pub broken-pushed : (xs : List Message) → has_broken (xs ++ message.Broken ∷ []) ≡ true
 broken-pushed [] = refl

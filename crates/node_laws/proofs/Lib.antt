@@ -13,3 +13,8 @@ pub mod Giving
 pub mod Parts
 pub mod Middle
 pub mod ListLemmas
+pub mod Additions
+pub mod FirstApproach
+pub mod PortApproach
+pub mod NodeApproach
+pub mod FirstAdditions

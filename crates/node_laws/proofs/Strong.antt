@@ -49,12 +49,12 @@ no_cut_adds : (rows : List Row) → HasNoCut (adds rows)
 no_cut_adds [] = tt
 no_cut_adds (r ∷ rows) = no_cut_adds rows
 
--- a row that ends earlier comes earlier
 after_at : (a b : Row) (t : Bool) → t ≡ true → is_gt (ordering_then (cond t Less (nat_cmp a.end b.end)) (ordering_then (nat_cmp a.begin b.begin) (payload_cmp a.payload b.payload))) ≡ false
 after_at a b true h = refl
 after_at a b false h = cc
 
-ends_first : (a b : Row) → a.end < b.end → is_after a b ≡ false
+-- a row that ends earlier comes earlier
+pub ends_first : (a b : Row) → a.end < b.end → is_after a b ≡ false
 ends_first a b h = let e = lt-ltb a.end b.end h in rw e refl
 
 -- a mark, where there is one, is no change
@@ -84,6 +84,11 @@ changes_answer level ms m =
 -- the rows that the passed table gains besides ascend
 pub gained_ascends : (level : Level) (ms : List Message) (m : Message) → Ascend (gained level ms m)
 gained_ascends level ms m = ascend-in_order (less (passed_table level (ms ++ m ∷ [])) (less (passed_table level ms ++ all_puts (itself level ms m)) (all_takes (itself level ms m))))
+
+-- what counts for something is kept
+pub cond_false : (b : Bool) (n : ℕ) → 0 < cond b 0 n → b ≡ false
+cond_false true n h = absurd (omega arith)
+cond_false false n h = refl
 
 module _ (level : Level) (strong : level.block ≡ None) where
   strong_cut : (ms : List Message) (c : Change) → IsOpen ms → IsKept level ms c → cuts_passed level ms c ≡ []
@@ -115,10 +120,6 @@ module _ (level : Level) (strong : level.block ≡ None) where
     pub no_cut : HasNoCut (changes_of (pass level ms))
     pub ascend : Ascend (added (changes_of (pass level ms)))
     pub below : IsOpen ms → (r : Row) → 0 < count_of r (added (changes_of (pass level ms))) → r.end < mark_of ms
-
-  cond_false : (b : Bool) (n : ℕ) → 0 < cond b 0 n → b ≡ false
-  cond_false true n h = absurd (omega arith)
-  cond_false false n h = refl
 
   goes_on : (ms : List Message) (m : Message) → MayCome ms m → Stands level ms → Goes ms → passed_of level ms m ≡ answer level ms m → Goes (ms ++ m ∷ [])
   goes_on ms m may s g is =

@@ -4,3 +4,4 @@ pub mod Lists
 pub mod Kept
 pub mod Pass
 pub mod Lawful
+pub mod Approaching

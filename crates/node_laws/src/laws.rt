@@ -2,16 +2,19 @@ ghost use Rattle.std.specs.Prelude.{ℕ, ◌≡◌, ◌++◌, List, [], ◌∷�
 ghost use Rattle.cedr_base.specs.declared.time.TheConstants.{FOREVER};
 ghost use Rattle.cedr_base.specs.declared.level.Level.{Level};
 ghost use Rattle.cedr_base.specs.declared.change.Message.{Message};
-ghost use Rattle.cedr_base.specs.Rows.{SameRows};
+ghost use Rattle.cedr_base.specs.declared.row.Row.{Row};
+ghost use Rattle.cedr_base.specs.Rows.{AreRows, SameRows};
 ghost use Rattle.cedr_base.specs.Changes.{all_puts, all_takes};
 ghost use Rattle.cedr_base.specs.Messages.{changes_of, mark_of, IsTableOf, IsOpen, IsLegal};
 ghost use Rattle.change_laws.specs.Agreeing.{AgreeUpTo};
-ghost use Rattle.cedr_table.specs.Operators.{Meaning};
+ghost use Rattle.cedr_table.specs.Operators.{Tables, Meaning, HaveRows, SameTables};
+ghost use Rattle.cedr_table.specs.Agreements.{KeepsAgreement};
 ghost use Rattle.node_laws.specs.Surplus.{Ascend};
 ghost use Rattle.node_laws.specs.Kept.{kept, kept_table, forgot, changes_in, AreOld, AgreeOnRecent};
 ghost use Rattle.node_laws.specs.Pass.{has_end, held, passed_table, front, pass, added, HasNoCut};
 ghost use Rattle.node_laws.specs.Lists.{Lists, list_at};
 ghost use Rattle.node_laws.specs.Lawful.{passes_of, has_broken, any_broken, all_over, any_came, Fits, EndsBroken, IsLawful};
+ghost use Rattle.node_laws.specs.Approaching.{Approaches, AllApproach, RememberAll, AddsFirst};
 
 /// The law of passing on: what a port passes on of a legal list is legal, its table is the passed table, and its mark
 /// is the front. The passed table agrees with the kept one up to the front. After the end it is the kept one, and the
@@ -67,4 +70,15 @@ pub fn lawful_giving()
     ensures opened { (meaning : Meaning) (levels : List Level) (lists : Lists) (given : List Message) → IsLawful meaning levels lists given → ((port : ℕ) → IsLegal (list_at lists port)) → all_over lists ≡ false → IsOpen given }
     ensures once { (meaning : Meaning) (levels : List Level) (lists : Lists) (given : List Message) → IsLawful meaning levels lists given → ((port : ℕ) → IsLegal (list_at lists port)) → has_broken given ≡ true → EndsBroken given }
     ensures echo { (meaning : Meaning) (levels : List Level) (lists : Lists) (given : List Message) → IsLawful meaning levels lists given → ((port : ℕ) → IsLegal (list_at lists port)) → meaning.echoes ≡ true → length levels ≡ 1 → passes_of levels lists ≡ given ∷ [] }
+{}
+
+/// The law of lists that are on the way to a table. A legal list that isn't broken is on the way to its own table, and its
+/// first messages are too. Where no port has a limit on its memory, what a node gave of such lists is on the way to its
+/// result at their tables. What a port whose block is without limit passed on of one adds the first of the table's rows in
+/// canonical order.
+pub fn approaching()
+    ensures itself { (ms : List Message) (rows : List Row) → IsLegal ms → has_broken ms ≡ false → IsTableOf ms rows → Approaches ms rows }
+    ensures begins { (ms more : List Message) (rows : List Row) → Approaches (ms ++ more) rows → Approaches ms rows }
+    ensures node { (meaning : Meaning) (levels : List Level) (lists : Lists) (given : List Message) (tables : Tables) → KeepsAgreement meaning → ((some : Tables) → HaveRows some → AreRows (meaning.result some)) → ((some others : Tables) → SameTables some others → SameRows (meaning.result some) (meaning.result others)) → RememberAll levels → length lists ≡ length levels → AllApproach lists tables → Fits meaning levels lists given → Approaches given (meaning.result tables) }
+    ensures strong { (level : Level) (ms : List Message) (rows : List Row) → level.block ≡ None → level.memory ≡ None → Approaches ms rows → AddsFirst (changes_of (pass level ms)) rows }
 {}

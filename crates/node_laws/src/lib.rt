@@ -8,4 +8,4 @@ mod forgotten;
 mod laws;
 
 pub use forgotten::{Cause, Forgotten};
-pub use laws::{forgetting, lawful_giving, middle_passing, passing, strong_passing};
+pub use laws::{approaching, forgetting, lawful_giving, middle_passing, passing, strong_passing};

@@ -101,14 +101,15 @@ other_shows g key c old new mark from cuts other moved shows = from_alike g.sums
 segments_asked : (g : Grouping) (key : List Field) (rows : List Row) → segments (grouping_asked g.counted g.sums) key rows ≡ segments g key rows
 segments_asked g key rows = segments_are (grouping_asked g.counted g.sums) key rows ∙ sym (segments_are g key rows)
 
--- a row of a result is there once, and is a row
+-- a row of a result is there once
 one_made : (g : Grouping) (rows : List Row) (r : Row) → count_of r (grouped g rows) ≤ 1
 one_made g rows r = elim (cases_lt 0 (count_of r (grouped g rows))) [
   | inl there ↦ omega (arith, there_from_made g rows r (made_from_there g rows r there))
   | inr none ↦ omega arith
 ]
 
-made_is_row : (g : Grouping) (rows : List Row) (r : Row) → AreRows rows → IsGroupRow g rows r → IsRow r
+-- and is a row
+pub made_is_row : (g : Grouping) (rows : List Row) (r : Row) → AreRows rows → IsGroupRow g rows r → IsRow r
 made_is_row g rows r are made =
     let order = made.order in
     let time = edges_are_times (rows_of g (key_in g r) rows) r.end (rows_of_are g (key_in g r) rows are) made.ends in

@@ -15,3 +15,5 @@ pub mod Answered
 pub mod BoundLemmas
 pub mod HeldLemmas
 pub mod Standing
+pub mod AgreeLemmas
+pub mod RowsMade

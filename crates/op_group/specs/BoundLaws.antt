@@ -14,7 +14,7 @@ use Rattle.cedr_base.specs.Changes.{IsChange, sync_of, puts, takes}
 use Rattle.cedr_base.proofs.Bags.{count_of-cons, one_if_same_exact}
 use Rattle.change_laws.specs.Repairs.{IsMoved}
 use Rattle.change_laws.proofs.BagSums.{count_of-itself, same_back}
-use Rattle.change_laws.proofs.Moves.{sum_by-moved, remnant_some, remnant_none}
+use Rattle.change_laws.proofs.Moves.{sum_by-moved, remnant_some, remnant_none, none_either}
 use Rattle.op_group.specs.Groups.{Grouping, column_number, key_of, same_payload, rows_of, grouped, cut_points, least_from, is_open, open_from, lives_at}
 use Rattle.op_group.specs.Measures.{edge_at, part_at, edges_of, living_of, sums_of, among, row_from, Fits, is_cut_of, key_in, IsGroupRow}
 use Rattle.op_group.specs.TimeLaws.{below_test, above_test, one_elsewhere, false_not_true}
@@ -108,11 +108,6 @@ untouched_sums w (Cut a e) h = elim (cases_lt a.begin e) [
   | inl lives ↦ omega (arith, ap (sum_by w) (remnant_some a e lives), h.0 lives)
   | inr gone ↦ omega (arith, ap (sum_by w) (remnant_none a e gone), h.1 gone)
 ]
-
--- a number, or 0 in its place, is 0 where the number is
-pub none_either : (b : Bool) (n : ℕ) → n ≡ 0 → cond b n 0 ≡ 0
-none_either true n h = h
-none_either false n h = refl
 
 keyed_untouched : (g : Grouping) (key : List Field) (w : Row → ℕ) (c : Change) → Untouched w c → Untouched (keyed g key w) c
 keyed_untouched g key w (Add a) h = none_either (same_payload key (key_of g a)) (w a) h
@@ -224,27 +219,36 @@ begins_row g key rows p mark lives cut none =
           ];
         }
 
--- where a row of the new result is open at a mark before which nothing changed, a row with the same begin was
--- open before
-pub was_open : (g : Grouping) (c : Change) (old new : List Row) (mark : ℕ) (r : Row) → IsChange c → IsMoved c old new → mark ≤ sync_of c → IsGroupRow g new r → r.begin < mark → mark ≤ r.end → IsBegun g old r.begin mark
-was_open g c old new mark r is moved from made less within =
-    let same = same_outside g (key_in g r) c old new r.begin is moved (inl (omega arith)) in
-    begins_row g (key_in g r) old r.begin mark
+-- where a row of one result is open at a mark before which each group is the same in two tables, a row with the same begin is
+-- open in the other result
+pub open_alike : (g : Grouping) (xs ys : List Row) (mark : ℕ) (r : Row) → ((key : List Field) (u : ℕ) → u < mark → SameAt g key xs ys u) → IsGroupRow g ys r → r.begin < mark → mark ≤ r.end → IsBegun g xs r.begin mark
+open_alike g xs ys mark r alike made less within =
+    let same = alike (key_in g r) r.begin less in
+    begins_row g (key_in g r) xs r.begin mark
     (let some = made.lives in let e = same.living in omega arith)
     (ap (nat_lt 0) same.edges ∙ made.starts)
-    (λ u over under. ap (nat_lt 0) (same_outside g (key_in g r) c old new u is moved (inl (omega arith))).edges ∙ made.apart u over (omega arith))
+    (λ u over under. ap (nat_lt 0) (alike (key_in g r) u under).edges ∙ made.apart u over (omega arith))
 
--- a legal change doesn't lower the bound
-pub open_stays : (g : Grouping) (c : Change) (old new : List Row) (mark : ℕ) → IsChange c → IsMoved c old new → mark ≤ sync_of c → open_from mark (grouped g old) ≤ open_from mark (grouped g new)
-open_stays g c old new mark is moved from = elim (open_is mark (grouped g new)) [
-  | inl top ↦ omega (arith, top, open_below mark (grouped g old))
+-- and the bound of the one isn't above that of the other
+pub bound_within : (g : Grouping) (xs ys : List Row) (mark : ℕ) → ((key : List Field) (u : ℕ) → u < mark → SameAt g key xs ys u) → open_from mark (grouped g xs) ≤ open_from mark (grouped g ys)
+bound_within g xs ys mark alike = elim (open_is mark (grouped g ys)) [
+  | inl top ↦ omega (arith, top, open_below mark (grouped g xs))
   | inr open_row ↦
-      let was = was_open g c old new mark open_row.row is moved from (made_from_there g new open_row.row open_row.there) open_row.less open_row.within in
+      let was = open_alike g xs ys mark open_row.row alike (made_from_there g ys open_row.row open_row.there) open_row.less open_row.within in
       let begins = was.begins in
       let less = open_row.less in
       let e = open_row.is in
-      omega (arith, open_at mark (grouped g old) was.row was.there (test_open mark was.row (omega arith) was.within))
+      omega (arith, open_at mark (grouped g xs) was.row was.there (test_open mark was.row (omega arith) was.within))
 ]
+
+-- where a row of the new result is open at a mark before which nothing changed, a row with the same begin was
+-- open before
+pub was_open : (g : Grouping) (c : Change) (old new : List Row) (mark : ℕ) (r : Row) → IsChange c → IsMoved c old new → mark ≤ sync_of c → IsGroupRow g new r → r.begin < mark → mark ≤ r.end → IsBegun g old r.begin mark
+was_open g c old new mark r is moved from = open_alike g old new mark r (λ key u early. same_outside g key c old new u is moved (inl (omega arith)))
+
+-- a legal change doesn't lower the bound
+pub open_stays : (g : Grouping) (c : Change) (old new : List Row) (mark : ℕ) → IsChange c → IsMoved c old new → mark ≤ sync_of c → open_from mark (grouped g old) ≤ open_from mark (grouped g new)
+open_stays g c old new mark is moved from = bound_within g old new mark (λ key u early. same_outside g key c old new u is moved (inl (omega arith)))
 
 -- a row of the result that begins below a mark is open at it exactly where it begins at its group's greatest cut point
 -- below the mark

@@ -8,3 +8,5 @@ pub mod SpanLemmas
 pub mod JoinLemmas
 pub mod KeepLemmas
 pub mod PortLemmas
+pub mod AgreeLemmas
+pub mod RowsMade

@@ -1,8 +1,9 @@
 -- What holds of what a plan's node means, whatever operator works it out and whatever that keeps.
 use Rattle.std.specs.Prelude.{ℕ, ◌≡◌, ◌<◌, ◌≤◌, List, [], ◌∷◌, length, replicate, true}
 use Rattle.cedr_base.specs.declared.time.TheConstants.{FOREVER}
-use Rattle.cedr_base.specs.Rows.{SameRows}
-use Rattle.cedr_table.specs.Operators.{Tables, Meaning, SameTables, AllRise, AreTimes}
+use Rattle.cedr_base.specs.Rows.{AreRows, SameRows}
+use Rattle.cedr_table.specs.Agreements.{KeepsAgreement}
+use Rattle.cedr_table.specs.Operators.{Tables, Meaning, HaveRows, SameTables, AllRise, AreTimes}
 
 -- Laws of a meaning with so many ports.
 -- ports: these are its ports, and there is one at least.
@@ -13,6 +14,8 @@ use Rattle.cedr_table.specs.Operators.{Tables, Meaning, SameTables, AllRise, Are
 -- nothing: nothing comes of empty tables.
 -- first_bound: and nothing is promised at marks of 0.
 -- echo: what echoes has one port, and its bound is that port's mark.
+-- agrees: the results of tables that agree up to the marks of their ports agree up to the bound.
+-- rows: of tables that have rows only, so has the result.
 pub record MeaningLaws (meaning : Meaning) (count : ℕ) : Type 0 where
   pub ports : (meaning.ports ≡ count) × (0 < count)
   pub same_result : (tables others : Tables) → SameTables tables others → SameRows (meaning.result tables) (meaning.result others)
@@ -22,3 +25,5 @@ pub record MeaningLaws (meaning : Meaning) (count : ℕ) : Type 0 where
   pub nothing : SameRows (meaning.result (replicate count [])) []
   pub first_bound : meaning.bound (replicate count []) (replicate count 0) ≡ 0
   pub echo : meaning.echoes ≡ true → (count ≡ 1) × ((tables : Tables) (mark : ℕ) → meaning.bound tables (mark ∷ []) ≡ mark)
+  pub agrees : KeepsAgreement meaning
+  pub rows : (tables : Tables) → HaveRows tables → AreRows (meaning.result tables)

@@ -1,13 +1,8 @@
 -- What a node's operator asks of the node, as an accepted plan has it.
-use Rattle.std.specs.Prelude.{ℕ, ◌≡◌, ◌≤◌, Bool, true, false}
+use Rattle.std.specs.Prelude.{ℕ, ◌≡◌, ◌≤◌}
 use Rattle.cedr_plan.specs.declared.plan.NodeKind.{NodeKind}
 use Rattle.cedr_plan.specs.declared.plan.NodeKind.TheVariants as kind
 use Rattle.change_laws.specs.Times.{IsWhile}
-
--- the node is a source
-abbrev pub is_source : NodeKind → Bool
-is_source (kind.Source file) = true
-is_source other = false
 
 -- the node is no source, has as many ports as its operator, and its numbers are whiles
 abbrev pub IsReady : NodeKind → ℕ → Type 0

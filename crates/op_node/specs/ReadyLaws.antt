@@ -8,7 +8,8 @@ use Rattle.cedr_plan.specs.declared.plan.PlanNode.{PlanNode}
 use Rattle.cedr_plan.specs.Drawn.{Node, node_of}
 use Rattle.cedr_plan.specs.Operators.{operator_row}
 use Rattle.cedr_plan.specs.Rules.{operator_of_kind, numbers_of, IsNumber, IsNode}
-use Rattle.op_node.specs.Ready.{is_source, IsReady}
+use Rattle.op_node.specs.Ready.{IsReady}
+use Rattle.cedr_plan.specs.Places.{is_source}
 
 ready_from : (k : NodeKind) (ports : ℕ) → is_source k ≡ false → (operator_row (operator_of_kind k)).least ≤ ports → ports ≤ (operator_row (operator_of_kind k)).most → All IsNumber (numbers_of k) → IsReady k ports
 ready_from (kind.Source file) ports isnt least most numbers = cc

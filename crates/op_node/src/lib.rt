@@ -4,12 +4,10 @@
 //! the operator of any kind, and hands each call to the operator of its own.
 #![tactic(auto)]
 
-mod kind;
 mod law;
 mod operator;
 mod output;
 
-pub use kind::is_source;
 pub use law::node_meanings;
 pub use operator::{NodeOperator, node_operator};
 pub use output::Output;

@@ -5,3 +5,5 @@ pub mod RepairLemmas
 pub mod ReachLemmas
 pub mod PairLemmas
 pub mod KeptLemmas
+pub mod AgreeLemmas
+pub mod RowsMade

@@ -1,2 +1,4 @@
 pub mod ScanLemmas
 pub mod RepairLemmas
+pub mod AgreeLemmas
+pub mod RowsMade

@@ -15,12 +15,11 @@ use Rattle.node_laws.specs.Lawful.{has_broken}
 use Rattle.node_laws.proofs.Ends.{open_unbroken, broken-append}
 use Rattle.node_laws.proofs.Grows.{end-pushed}
 use Rattle.cedr_plan.specs.declared.plan.PlanNode.{PlanNode}
-use Rattle.cedr_query.specs.Queries.{source_count}
+use Rattle.cedr_plan.specs.Places.{is_source, source_count}
 use Rattle.plan_runs.specs.Runs.{IsWhole, AllWhole, sources_in}
 use Rattle.change_laws.proofs.Legal.{may_come_in}
 use Rattle.cedr_table.specs.Operators.{Tables}
 use Rattle.cedr_text.specs.declared.event_line.Shape.{Shape}
-use Rattle.op_node.specs.Ready.{is_source}
 use Rattle.plan_answer.specs.Queries.{source_nodes, AreAcceptedSources}
 use Rattle.plan_answer.specs.Sources.{HasGiven, AllHaveGiven, file_of, faulty_from}
 

@@ -8,11 +8,10 @@ use Rattle.cedr_io.specs.Counts.{Counts, count_sum, last_count}
 use Rattle.cedr_io.specs.declared.fault.OutsideFault.{OutsideFault}
 use Rattle.cedr_io.specs.declared.fault.OutsideFault.TheVariants as outside
 use Rattle.cedr_plan.specs.declared.plan.PlanNode.{PlanNode}
-use Rattle.cedr_query.specs.Queries.{source_count}
+use Rattle.cedr_plan.specs.Places.{is_source, source_count}
 use Rattle.plan_answer.specs.Sources.{AsksFirst, file_of, files_of, source_files}
 use Rattle.plan_answer.proofs.SourceLemmas.{asks_on, files_more}
 use Rattle.cedr_source.specs.declared.fault.Unread.TheVariants as unread
-use Rattle.op_node.specs.Ready.{is_source}
 use Rattle.plan_answer.specs.Finds.{AreFound, count_with}
 
 -- a list around one of its elements
@@ -27,7 +26,7 @@ split_at (x ∷ xs) (suc k) d within = ap (λ ys. x ∷ ys) (split_at xs k d (om
 pub asks_more : (first now after : List (List ℕ)) (nodes : List PlanNode) (k : ℕ) (n : PlanNode) → k < length nodes → get_or nodes k n ≡ n → now ≡ first ++ source_files (take k nodes) → AsksFirst now after (files_of n) → AsksFirst first after (source_files nodes)
 asks_more first now after nodes k n within here asked more =
     subst (λ (ns : List PlanNode). AsksFirst first after (source_files ns)) (ap (λ (m : PlanNode). take k nodes ++ m ∷ drop (suc k) nodes) (sym here) ∙ sym (split_at nodes k n within))
-    (asks_on first now after (take k nodes) (drop (suc k) nodes) n (Err unread.OutOfMemory) asked more)
+    (asks_on {T = Unit {0}} first now after (take k nodes) (drop (suc k) nodes) n (Err unread.OutOfMemory) asked more)
 
 -- ---- contents
 

@@ -1,10 +1,8 @@
 -- The files of a plan's sources, one node after the other.
 use Rattle.std.proofs.Common.{◌≡◌, ℕ, zero, suc, ◌+◌, ◌<◌, List, [], ◌∷◌, ◌++◌, length, get_or, take, refl, ap, sym, ◌∙◌, arith, append_assoc}
-use Rattle.std.specs.Prelude.{Result, Ok, Err, Vec}
-use Rattle.std.specs.Global.{Global}
+use Rattle.std.specs.Prelude.{Result, Ok, Err}
 use Rattle.std.proofs.lemmas.List.{append-nil, take_more}
 use Rattle.std.proofs.Math.Seq.{take-length}
-use Rattle.cedr_base.specs.declared.change.Message.{Message}
 use Rattle.cedr_plan.specs.declared.plan.PlanNode.{PlanNode}
 use Rattle.cedr_source.specs.declared.fault.Unread.{Unread}
 use Rattle.cedr_source.specs.declared.fault.Unread.TheVariants as unread
@@ -20,7 +18,7 @@ files_more nodes place n within here =
     ap source_files (take_more nodes place n within ∙ ap (λ (m : PlanNode). take place nodes ++ m ∷ []) here)
     ∙ (files_append (take place nodes) (n ∷ []) ∙ ap (λ (ns : List (List ℕ)). source_files (take place nodes) ++ ns) (append-nil (files_of n)))
 
-asks_front : (read : Result (Vec Message Global) Unread) (before after names : List (List ℕ)) → AsksSource read before after names → AsksFirst before after names
+asks_front : {T : Type 0} (read : Result T Unread) (before after names : List (List ℕ)) → AsksSource read before after names → AsksFirst before after names
 asks_front (Ok messages) before after names e = record { count = length names; added = e ∙ ap (λ (ns : List (List ℕ)). before ++ ns) (sym (take-length names)) }
 asks_front (Err (unread.Refused refusal)) before after names e = record { count = length names; added = e ∙ ap (λ (ns : List (List ℕ)). before ++ ns) (sym (take-length names)) }
 asks_front (Err unread.Failed) before after names e = record { count = length names; added = e ∙ ap (λ (ns : List (List ℕ)). before ++ ns) (sym (take-length names)) }
@@ -40,7 +38,7 @@ take_front (x ∷ xs) k ys zs n e =
     ap (λ (j : ℕ). take j (x ∷ (xs ++ (ys ++ zs)))) here ∙ ap (λ ws. x ∷ ws) (take_front xs k ys zs (length xs + length (take k ys)) refl)
 
 -- the first names were asked for, and some of one node more
-pub asks_on : (first now after : List (List ℕ)) (before rest : List PlanNode) (n : PlanNode) (read : Result (Vec Message Global) Unread) → now ≡ first ++ source_files before → AsksSource read now after (files_of n) → AsksFirst first after (source_files (before ++ n ∷ rest))
+pub asks_on : {T : Type 0} (first now after : List (List ℕ)) (before rest : List PlanNode) (n : PlanNode) (read : Result T Unread) → now ≡ first ++ source_files before → AsksSource read now after (files_of n) → AsksFirst first after (source_files (before ++ n ∷ rest))
 asks_on first now after before rest n read there asked =
     let a = asks_front read now after (files_of n) asked in
     record {

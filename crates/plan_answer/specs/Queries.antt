@@ -10,13 +10,13 @@ use Rattle.cedr_base.specs.Rows.{in_order}
 use Rattle.cedr_guard.specs.Sources.{judged, messages_of, history_of_bytes}
 use Rattle.node_laws.specs.Lists.{Lists, list_at}
 use Rattle.cedr_plan.specs.declared.plan.PlanNode.{PlanNode}
-use Rattle.cedr_query.specs.Queries.{output_place}
+use Rattle.cedr_plan.specs.Places.{is_source, output_place}
 use Rattle.plan_runs.specs.Runs.{IsRun}
-use Rattle.plan_runs.specs.Without.{query_without, forgot_in}
+use Rattle.cedr_query.specs.Queries.{query}
+use Rattle.plan_runs.specs.Without.{Remembers, query_without, forgot_in}
 use Rattle.cedr_table.specs.Operators.{Tables, table_at}
 use Rattle.cedr_text.specs.declared.event_line.Shape.{Shape}
 use Rattle.cedr_text.specs.Texts.{change_text}
-use Rattle.op_node.specs.Ready.{is_source}
 use Rattle.plan_answer.specs.Answers.{has_memory, tail_text, answer_text}
 use Rattle.plan_answer.specs.Sources.{file_of}
 use Rattle.cedr_text.specs.Shapes.{ShapeHasTypes}
@@ -46,17 +46,22 @@ AreAcceptedSources told (n ∷ nodes) (l ∷ ls) (t ∷ ts) = IsAcceptedSource t
 
 -- ---- the answer
 
--- the rows of the query over the canonical histories, with what each port forgot left out
+-- the rows of the query over the canonical histories
+abbrev pub query_rows : List PlanNode → Tables → List Row
+query_rows nodes histories = table_at (query histories nodes) (output_place nodes)
+
+-- and with what each port forgot left out
 abbrev pub rows_without : List PlanNode → List Lists → Tables → List Row
 rows_without nodes ports histories = table_at (query_without (forgot_in nodes ports) histories nodes) (output_place nodes)
 
--- The rows of the query over the canonical histories, with what each port forgot left out, in canonical order; and
--- after them what was forgotten, where some port has a finite memory or it is asked for. What was forgotten is that of
+-- The rows of the query over the canonical histories, with what each port forgot left out, in canonical order: where no memory
+-- is finite those of the query. After them what was forgotten, where some port has a finite memory or it is asked for. What was forgotten is that of
 -- a run of the plan over the messages of the sources.
 pub record IsAnswerText (always : Bool) (nodes : List PlanNode) (sources : Lists) (histories : Tables) (text : List ℕ) : Type 0 where
   pub ports : List Lists
   pub given : Lists
   pub run : IsRun nodes sources ports given
+  pub remembers : Remembers nodes → rows_without nodes ports histories ≡ query_rows nodes histories
   pub text_is : text ≡ answer_text (always || has_memory nodes) nodes (in_order (rows_without nodes ports histories)) (forgot_in nodes ports)
 
 -- ---- the changes
@@ -81,8 +86,10 @@ pub record IsStreamText (nodes : List PlanNode) (sources : Lists) (text : List �
 abbrev pub IsStrong : List PlanNode → Type 0
 IsStrong nodes = (before after : List PlanNode) (output : PlanNode) → nodes ≡ before ++ output ∷ after → length before ≡ output_place nodes → output.level.block ≡ None
 
--- What the output's changes come to: the sum of their deltas is the rows of the answer. Where the output is strong they are
+-- What the output's changes come to: the sum of their deltas is the rows of the answer, which are those of the query where no
+-- memory is finite. Where the output is strong they are
 -- one addition for each of these rows, in canonical order, and no retraction.
 pub record LeadsTo (nodes : List PlanNode) (histories : Tables) (ports : List Lists) (given : Lists) : Type 0 where
   pub table : IsTableOf (list_at given (output_place nodes)) (rows_without nodes ports histories)
+  pub remembers : Remembers nodes → rows_without nodes ports histories ≡ query_rows nodes histories
   pub additions : IsStrong nodes → changes_of (list_at given (output_place nodes)) ≡ map (λ (r : Row). Add r) (in_order (rows_without nodes ports histories))

@@ -11,7 +11,7 @@ use Rattle.cedr_source.specs.declared.fault.Unread.{Unread}
 use Rattle.cedr_source.specs.declared.fault.Unread.TheVariants as unread
 use Rattle.cedr_text.specs.declared.event_line.Shape.{Shape}
 use Rattle.cedr_text.specs.Shapes.{ShapeHasTypes}
-use Rattle.op_node.specs.Ready.{is_source}
+use Rattle.cedr_plan.specs.Places.{is_source}
 use Rattle.plan_answer.specs.declared.faulty.FaultySource.{FaultySource}
 
 -- ---- names

@@ -2,7 +2,7 @@ ghost use Rattle.std.specs.Prelude.{ℕ, ◌≡◌, ◌+◌, ◌<◌, ◌≤◌,
 ghost use Rattle.std.specs.List.{All};
 ghost use Rattle.std.specs.Vec.{vec_capacity};
 ghost use Rattle.cedr_io.specs.Counts.{Counts, last_count};
-ghost use Rattle.cedr_query.specs.Queries.{source_count};
+ghost use Rattle.cedr_plan.specs.Places.{source_count};
 ghost use Rattle.plan_answer.specs.Sources.{files_of, source_files};
 ghost use Rattle.plan_answer.specs.Finds.{AreFound, AsksSources, count_with};
 

@@ -1,9 +1,8 @@
 ghost use Rattle.std.specs.Prelude.{ℕ, ◌≡◌, [], List};
 ghost use Rattle.node_laws.specs.Lists.{Lists, AreTables};
-ghost use Rattle.cedr_plan.specs.declared.plan.Plan.{Plan};
 ghost use Rattle.cedr_plan.specs.declared.plan.PlanNode.{PlanNode};
-ghost use Rattle.cedr_plan.specs.Rules.{IsPlan};
-ghost use Rattle.cedr_query.specs.Queries.{source_count};
+ghost use Rattle.cedr_plan.specs.Rules.{ArePlanned};
+ghost use Rattle.cedr_plan.specs.Places.{source_count};
 ghost use Rattle.cedr_table.specs.Operators.{Tables};
 ghost use Rattle.plan_runs.specs.Runs.{AllWhole, IsRun, sources_in};
 ghost use Rattle.plan_answer.specs.Queries.{AreAcceptedSources, LeadsTo, source_nodes};
@@ -23,7 +22,7 @@ pub fn accepted_sources()
 /// The law of changes: where the sources of a plan are whole, the sum of the deltas of the output's changes in a run is the
 /// rows of the answer, and a strong output gives one addition for each of them, in canonical order.
 pub fn streamed_changes()
-    ensures { (plan : Plan) (sources : Lists) (histories : Tables) (ports : List Lists) (given : Lists) → IsPlan plan → IsRun plan.nodes.items sources ports given → AllWhole (source_count plan.nodes.items) sources → AreTables sources histories → LeadsTo plan.nodes.items histories ports given }
+    ensures { (nodes : List PlanNode) (sources : Lists) (histories : Tables) (ports : List Lists) (given : Lists) → ArePlanned nodes → IsRun nodes sources ports given → AllWhole (source_count nodes) sources → AreTables sources histories → LeadsTo nodes histories ports given }
 {
     strong_passing();
 }

@@ -51,8 +51,8 @@ fed_none nodes net given place s within = record {
 }
 
 -- one that was fed a message and settled
-pub fed_settled : (nodes : List PlanNode) (net : SerialNet) (given : Lists) (place : ℕ) (m : Message) → length given ≡ length nodes → place < length nodes → HasSettled nodes net (with_more given place (m ∷ [])) → IsFedOn nodes net given place (m ∷ [])
-fed_settled nodes net given place m count within s = record {
+pub fed_settled : (nodes : List PlanNode) (net : SerialNet) (taken : List Lists) (given : Lists) (place : ℕ) (m : Message) → length given ≡ length nodes → place < length nodes → HasSettled nodes net taken (with_more given place (m ∷ [])) → IsFedOn nodes net given place (m ∷ [])
+fed_settled nodes net taken given place m count within s = record {
   given' = s.given';
   settled = record { ports = s.ports; stands = s.stands; empty = s.empty };
   sources = s.sources;

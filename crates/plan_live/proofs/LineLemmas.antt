@@ -16,7 +16,7 @@ use Rattle.cedr_base.specs.Bytes.{comma}
 use Rattle.cedr_text.specs.Reading.{reading}
 use Rattle.cedr_text.specs.declared.event_line.Shape.{Shape}
 use Rattle.cedr_text.specs.declared.event_line.Shape.TheVariants.{AnyText, Fields}
-use Rattle.op_node.specs.Ready.{is_source}
+use Rattle.cedr_plan.specs.Places.{is_source}
 use Rattle.plan_live.specs.Scripts.{Accepted, ShapesHaveTypes, with_byte, cut_at_comma, named_from, lines_at, with_lines, with_event_line, with_cut, with_line}
 use Rattle.plan_live.specs.Playing.{is_source_named}
 

@@ -16,7 +16,6 @@ use Rattle.cedr_net.proofs.SettleLemmas.{grow_none}
 use Rattle.cedr_plan.specs.declared.plan.PlanNode.{PlanNode}
 use Rattle.plan_runs.specs.Runs.{sources_in, IsRun}
 use Rattle.plan_runs.proofs.SourceLists.{same_sources}
-use Rattle.op_node.specs.Ready.{is_source}
 use Rattle.plan_live.specs.declared.player.Player.{Player}
 use Rattle.plan_live.specs.Scripts.{Accepted, lines_at, messages_so_far}
 use Rattle.plan_live.specs.Shown.{IsShown}

@@ -19,12 +19,12 @@ use Rattle.node_laws.proofs.Grows.{end-append}
 use Rattle.plan_runs.proofs.PlanNodes.{split, place_within}
 use Rattle.plan_runs.proofs.Output.{output_kind, input, output_mark, output_table}
 use Rattle.cedr_plan.specs.declared.plan.NodeKind.TheVariants as kind
-use Rattle.cedr_plan.specs.declared.plan.Plan.{Plan}
 use Rattle.cedr_plan.specs.declared.plan.PlanNode.{PlanNode}
-use Rattle.cedr_plan.specs.Rules.{IsPlan}
-use Rattle.cedr_query.specs.Queries.{output_place, source_count, query, reaches}
-use Rattle.cedr_query.proofs.PlaceLemmas.{output_stands}
-use Rattle.cedr_query.proofs.PlaceLemmas as places
+use Rattle.cedr_plan.specs.Drawn.{node_of}
+use Rattle.cedr_plan.specs.Rules.{AreNodes, ArePlanned}
+use Rattle.cedr_query.specs.Queries.{query, reaches}
+use Rattle.cedr_plan.specs.Places.{is_source, output_place, source_count}
+use Rattle.cedr_plan.proofs.PlaceLemmas.{output_among, place_among, planned_nodes}
 use Rattle.plan_runs.specs.Middle.{IsGoing, AllGoing, AreMiddle, AreMarks}
 use Rattle.plan_runs.specs.Runs.{lists_at, sources_in, IsRun}
 use Rattle.plan_runs.proofs.Going.{going_table}
@@ -41,7 +41,6 @@ use Rattle.cedr_base.specs.Bytes.{line_feed}
 use Rattle.cedr_text.specs.Parts.{parts_of}
 use Rattle.cedr_text.specs.Reading.{reading}
 use Rattle.cedr_text.specs.Texts.{rows_text}
-use Rattle.op_node.specs.Ready.{is_source}
 use Rattle.plan_live.specs.Scripts.{Accepted, cut_at_comma, named_from, lines_at, no_lines, with_lines, with_event_line, with_named, with_cut, with_line, Played, asked, stopped, play_on, is_question, played_behind, played_lines, played_front, played, messages_so_far}
 use Rattle.plan_live.specs.Shown.{reach_text, IsShown}
 use Rattle.plan_live.specs.SoFar.{AreLines, AllAreLines, source_lines, histories_so_far, guarantees_so_far, rows_so_far, reach_so_far, ending_before, text_so_far}
@@ -87,7 +86,8 @@ line_goes before (Insert id row) = (refl, refl)
 line_goes before (Retract id end) = cut_goes (event_with id before) end
 line_goes before (Promise time) = mark_goes (nat_lt (guarantee_of before) time) time
 
-lines_go : (before lines : List EventLine) → (has_end (messages_behind before lines) ≡ false) × (has_broken (messages_behind before lines) ≡ false)
+-- no lines do
+pub lines_go : (before lines : List EventLine) → (has_end (messages_behind before lines) ≡ false) × (has_broken (messages_behind before lines) ≡ false)
 lines_go before [] = (refl, refl)
 lines_go before (line ∷ lines) =
     let one = line_goes before line in
@@ -113,10 +113,10 @@ marks_so_far count (l ∷ lines) are (suc k) within = marks_so_far count lines (
 
 -- ---- the output
 
-module _ (plan : Plan) (before : Lists) (lines : Accepted) (given : Lists) (text : List ℕ) (is : IsPlan plan) (are : AreLines lines) (shown : IsShown plan.nodes.items before lines given text)
-    (front after : List PlanNode) (output : PlanNode) (whole : plan.nodes.items ≡ front ++ output ∷ after) (here : length front ≡ output_place plan.nodes.items) (middle : AreMiddle (length front) plan.nodes.items) where
-  abbrev nodes : List PlanNode
-  nodes = plan.nodes.items
+module _ (nodes : List PlanNode) (before : Lists) (lines : Accepted) (given : Lists) (text : List ℕ) (is : ArePlanned nodes) (are : AreLines lines) (shown : IsShown nodes before lines given text)
+    (front after : List PlanNode) (output : PlanNode) (whole : nodes ≡ front ++ output ∷ after) (here : length front ≡ output_place nodes) (middle : AreMiddle (length front) nodes) where
+  are_nodes : AreNodes [] (map node_of nodes)
+  are_nodes = planned_nodes nodes is
 
   abbrev place : ℕ
   place = output_place nodes
@@ -146,10 +146,10 @@ module _ (plan : Plan) (before : Lists) (lines : Accepted) (given : Lists) (text
   are_marks = marks_so_far (source_count nodes) (source_lines nodes lines) are_source
 
   out : output.kind ≡ kind.Output
-  out = output_kind output.kind (output_stands plan front after output is whole here)
+  out = output_kind output.kind (output_among nodes front after output is whole here)
 
   abbrev read : (i : ℕ) × (output.inputs.items ≡ i ∷ [])
-  read = input nodes sources tables marks shown.ports given is.nodes run going are_tables are_marks front after output whole middle out
+  read = input nodes are_nodes front after output whole out
 
   -- what came to the output is what the node gave that it reads
   port_list : list_at (lists_at shown.ports place) 0 ≡ list_at given read.0
@@ -160,7 +160,7 @@ module _ (plan : Plan) (before : Lists) (lines : Accepted) (given : Lists) (text
   reach_is : mark_of (list_at (lists_at shown.ports place) 0) ≡ reach_so_far nodes lines
   reach_is =
       ap mark_of port_list
-      ∙ (output_mark nodes sources tables marks shown.ports given is.nodes run going are_tables are_marks front after output whole middle out
+      ∙ (output_mark nodes sources tables marks shown.ports given are_nodes run going are_tables are_marks front after output whole middle out
       ∙ ap (λ (k : ℕ). mark_at (reaches tables marks nodes) k) here)
 
   -- the text of another table of what the output gave
@@ -173,25 +173,24 @@ module _ (plan : Plan) (before : Lists) (lines : Accepted) (given : Lists) (text
   pub strong_text : output.level.block ≡ None → output.level.memory ≡ None → text ≡ text_so_far (ending_before (reach_so_far nodes lines) (rows_so_far nodes lines)) (reach_so_far nodes lines)
   strong_text block memory = text_of (ending_before (reach_so_far nodes lines) (rows_so_far nodes lines))
       (subst (λ (k : ℕ). IsTableOf (list_at given k) (ending_before (mark_at (reaches tables marks nodes) k) (table_at (query tables nodes) k))) here
-      (output_table nodes sources tables marks shown.ports given is.nodes run going are_tables are_marks front after output whole middle out block memory))
+      (output_table nodes sources tables marks shown.ports given are_nodes run going are_tables are_marks front after output whole middle out block memory))
 
 -- where all nodes are middle, what is shown at a `?` is the rows of the query over the histories so far, and
 -- how far it reaches
-pub middle_text : (plan : Plan) (before : Lists) (lines : Accepted) (given : Lists) (text : List ℕ) → IsPlan plan → AreMiddle (length plan.nodes.items) plan.nodes.items → AreLines lines → IsShown plan.nodes.items before lines given text
-    → text ≡ text_so_far (rows_so_far plan.nodes.items lines) (reach_so_far plan.nodes.items lines)
-middle_text plan before lines given text is all are shown =
-    let nodes = plan.nodes.items in
+pub middle_text : (nodes : List PlanNode) (before : Lists) (lines : Accepted) (given : Lists) (text : List ℕ) → ArePlanned nodes → AreMiddle (length nodes) nodes → AreLines lines → IsShown nodes before lines given text
+    → text ≡ text_so_far (rows_so_far nodes lines) (reach_so_far nodes lines)
+middle_text nodes before lines given text is all are shown =
     let place = output_place nodes in
-    let within : place < length nodes = places.place_within plan is in
+    let within : place < length nodes = place_among nodes is in
     let s = split nodes place within in
     let inside : length s.before < length nodes = place_within nodes s.before s.after s.node s.whole in
     let middle : AreMiddle (length s.before) nodes = λ before after n whole low. all before after n whole (omega (arith, low, inside)) in
-    let run = run plan before lines given text is are shown s.before s.after s.node s.whole s.place middle in
-    let going = going plan before lines given text is are shown s.before s.after s.node s.whole s.place middle in
-    let tables = are_tables plan before lines given text is are shown s.before s.after s.node s.whole s.place middle in
-    let marks = are_marks plan before lines given text is are shown s.before s.after s.node s.whole s.place middle in
-    text_of plan before lines given text is are shown s.before s.after s.node s.whole s.place middle (rows_so_far nodes lines)
-    (going_table nodes (length nodes) (messages_so_far (source_lines nodes lines)) (histories_so_far nodes lines) (guarantees_so_far nodes lines) shown.ports given is.nodes run going tables marks all place within within)
+    let run = run nodes before lines given text is are shown s.before s.after s.node s.whole s.place middle in
+    let going = going nodes before lines given text is are shown s.before s.after s.node s.whole s.place middle in
+    let tables = are_tables nodes before lines given text is are shown s.before s.after s.node s.whole s.place middle in
+    let marks = are_marks nodes before lines given text is are shown s.before s.after s.node s.whole s.place middle in
+    text_of nodes before lines given text is are shown s.before s.after s.node s.whole s.place middle (rows_so_far nodes lines)
+    (going_table nodes (length nodes) (messages_so_far (source_lines nodes lines)) (histories_so_far nodes lines) (guarantees_so_far nodes lines) shown.ports given (planned_nodes nodes is) run going tables marks all place within within)
 
 -- ---- the lines that a `?` follows
 

@@ -21,7 +21,7 @@ use Rattle.cedr_net.specs.Edges.{NothingWaits}
 use Rattle.cedr_net.specs.Flows.{IsSourceAt}
 use Rattle.cedr_net.specs.Networks.{NetStands, AllGrow, waiting_at}
 use Rattle.cedr_plan.specs.declared.plan.PlanNode.{PlanNode}
-use Rattle.cedr_query.specs.Queries.{output_place}
+use Rattle.cedr_plan.specs.Places.{is_source, output_place}
 use Rattle.plan_runs.specs.Runs.{lists_at}
 use Rattle.cedr_source.specs.Steps.{JudgesLine}
 use Rattle.cedr_text.specs.declared.event_line.EventLine.{EventLine}
@@ -31,7 +31,6 @@ use Rattle.cedr_text.specs.declared.fault.LineFault.TheVariants.{LineTooLong}
 use Rattle.cedr_text.specs.declared.lines.TheConstants.{LINE_LIMIT}
 use Rattle.cedr_text.specs.Lines.{without_return}
 use Rattle.cedr_text.specs.Texts.{rows_text}
-use Rattle.op_node.specs.Ready.{is_source}
 use Rattle.plan_live.specs.declared.player.Player.{Player}
 use Rattle.plan_live.specs.Scripts.{Accepted, lines_at, with_line, is_question, Played, played_behind}
 use Rattle.plan_live.specs.Shown.{reach_text, IsShown, AreShown, AreShownFirst}

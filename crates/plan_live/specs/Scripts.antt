@@ -19,7 +19,7 @@ use Rattle.node_laws.specs.Lists.{Lists}
 use Rattle.cedr_guard.specs.Messages.{messages_behind}
 use Rattle.cedr_plan.specs.declared.plan.PlanNode.{PlanNode}
 use Rattle.cedr_text.specs.Shapes.{ShapeHasTypes}
-use Rattle.op_node.specs.Ready.{is_source}
+use Rattle.cedr_plan.specs.Places.{is_source}
 
 -- ---- the parts of a line
 

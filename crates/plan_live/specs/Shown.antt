@@ -6,7 +6,7 @@ use Rattle.cedr_base.specs.Rows.{in_order}
 use Rattle.node_laws.specs.Lists.{Lists, list_at}
 use Rattle.cedr_net.specs.Networks.{AllGrow}
 use Rattle.cedr_plan.specs.declared.plan.PlanNode.{PlanNode}
-use Rattle.cedr_query.specs.Queries.{output_place}
+use Rattle.cedr_plan.specs.Places.{output_place}
 use Rattle.plan_runs.specs.Runs.{lists_at, sources_in, IsRun}
 use Rattle.cedr_base.specs.Bytes.{line_feed}
 use Rattle.cedr_text.specs.Texts.{rows_text, time_text}

@@ -5,10 +5,10 @@ use Rattle.cedr_base.specs.Rows.{in_order}
 use Rattle.cedr_guard.specs.History.{history_of}
 use Rattle.cedr_guard.specs.Judging.{guarantee_of, AreAccepted}
 use Rattle.cedr_plan.specs.declared.plan.PlanNode.{PlanNode}
-use Rattle.cedr_query.specs.Queries.{output_place, query, reaches}
+use Rattle.cedr_query.specs.Queries.{query, reaches}
+use Rattle.cedr_plan.specs.Places.{is_source, output_place}
 use Rattle.cedr_table.specs.Operators.{Tables, table_at, mark_at}
 use Rattle.cedr_text.specs.Texts.{rows_text}
-use Rattle.op_node.specs.Ready.{is_source}
 use Rattle.plan_live.specs.Scripts.{Accepted, lines_at}
 use Rattle.plan_live.specs.Shown.{reach_text}
 

@@ -1,9 +1,8 @@
 ghost use Rattle.std.specs.Prelude.{ℕ, ◌≡◌, ◌++◌, ◌∷◌, List, None, length};
 ghost use Rattle.node_laws.specs.Lists.{Lists};
-ghost use Rattle.cedr_plan.specs.Rules.{IsPlan};
-ghost use Rattle.cedr_plan.specs.declared.plan.Plan.{Plan};
+ghost use Rattle.cedr_plan.specs.Rules.{ArePlanned};
 ghost use Rattle.cedr_plan.specs.declared.plan.PlanNode.{PlanNode};
-ghost use Rattle.cedr_query.specs.Queries.{output_place};
+ghost use Rattle.cedr_plan.specs.Places.{output_place};
 ghost use Rattle.plan_runs.specs.Middle.{AreMiddle};
 ghost use Rattle.cedr_text.specs.declared.event_line.Shape.{Shape};
 ghost use Rattle.plan_live.specs.Scripts.{Accepted, played};
@@ -17,8 +16,8 @@ use cedr_text::reading_law;
 /// After middle nodes a strong output shows those of these rows that end before the reach.
 pub fn shown_rows()
     ensures accepted { (nodes : List PlanNode) (shapes : List Shape) (script : List ℕ) → AllAreLines (played nodes shapes script).asks }
-    ensures middle { (plan : Plan) (before : Lists) (lines : Accepted) (given : Lists) (text : List ℕ) → IsPlan plan → AreMiddle (length plan.nodes.items) plan.nodes.items → AreLines lines → IsShown plan.nodes.items before lines given text → text ≡ text_so_far (rows_so_far plan.nodes.items lines) (reach_so_far plan.nodes.items lines) }
-    ensures strong { (plan : Plan) (front after : List PlanNode) (output : PlanNode) (before : Lists) (lines : Accepted) (given : Lists) (text : List ℕ) → IsPlan plan → plan.nodes.items ≡ front ++ output ∷ after → length front ≡ output_place plan.nodes.items → AreMiddle (length front) plan.nodes.items → output.level.block ≡ None → output.level.memory ≡ None → AreLines lines → IsShown plan.nodes.items before lines given text → text ≡ text_so_far (ending_before (reach_so_far plan.nodes.items lines) (rows_so_far plan.nodes.items lines)) (reach_so_far plan.nodes.items lines) }
+    ensures middle { (nodes : List PlanNode) (before : Lists) (lines : Accepted) (given : Lists) (text : List ℕ) → ArePlanned nodes → AreMiddle (length nodes) nodes → AreLines lines → IsShown nodes before lines given text → text ≡ text_so_far (rows_so_far nodes lines) (reach_so_far nodes lines) }
+    ensures strong { (nodes front after : List PlanNode) (output : PlanNode) (before : Lists) (lines : Accepted) (given : Lists) (text : List ℕ) → ArePlanned nodes → nodes ≡ front ++ output ∷ after → length front ≡ output_place nodes → AreMiddle (length front) nodes → output.level.block ≡ None → output.level.memory ≡ None → AreLines lines → IsShown nodes before lines given text → text ≡ text_so_far (ending_before (reach_so_far nodes lines) (rows_so_far nodes lines)) (reach_so_far nodes lines) }
 {
     reading_law();
 }

@@ -4,9 +4,8 @@ ghost use Rattle.cedr_plan.specs.declared.plan.PlanNode.{PlanNode};
 ghost use Rattle.plan_live.specs.Scripts.{cut_at_comma, is_question};
 ghost use Rattle.plan_live.specs.Playing.{is_source_named};
 
-use cedr_plan::PlanNode;
+use cedr_plan::{PlanNode, is_source};
 use memchr::memchr;
-use op_node::is_source;
 
 /// Whether a line asks for the rows.
 pub(crate) fn is_question(line: &[u8]) -> bool

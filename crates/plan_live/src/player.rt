@@ -64,7 +64,7 @@ fn judge_at(
 
 fn settle(alloc: Global, net: &mut SerialNet) -> Result<(), OutOfMemory>
     requires { (nodes : List PlanNode) × (ports : List Lists) × (given : Lists) × NetStands nodes net.old ports given }
-    ensures { OnOk result ((nodes : List PlanNode) (ports : List Lists) (given : Lists) → NetStands nodes net.old ports given → HasSettled nodes net.new given) }
+    ensures { OnOk result ((nodes : List PlanNode) (ports : List Lists) (given : Lists) → NetStands nodes net.old ports given → HasSettled nodes net.new ports given) }
 {
     match net.settle(alloc) {
         Ok(()) => Ok(()),

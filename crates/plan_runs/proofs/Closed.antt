@@ -16,11 +16,10 @@ use Rattle.node_laws.specs.Kept.{forgot}
 use Rattle.node_laws.specs.Lists.{Lists, list_at, AreTables}
 use Rattle.node_laws.specs.Lawful.{tables_of}
 use Rattle.node_laws.proofs.Passes.{table_alike}
-use Rattle.cedr_query.specs.Queries.{source_count, input_tables}
-use Rattle.cedr_query.proofs.NodeLemmas.{inputs_are}
-use Rattle.cedr_query.proofs.PlaceLemmas.{sources_behind}
+use Rattle.cedr_query.specs.Queries.{input_tables}
+use Rattle.cedr_plan.specs.Places.{is_source, source_count}
+use Rattle.cedr_plan.proofs.PlaceLemmas.{inputs_are, sources_behind}
 use Rattle.op_node.specs.Meanings.{meaning_of, port_levels}
-use Rattle.op_node.specs.Ready.{is_source}
 use Rattle.plan_runs.specs.Runs.{lists_at, input_lists, IsRun, IsWhole, AllWhole}
 use Rattle.plan_runs.specs.Without.{all_left_out, listed_at, node_table_without, query_without, forgot_on, forgot_in}
 use Rattle.plan_runs.proofs.EachNode.{by_nodes}

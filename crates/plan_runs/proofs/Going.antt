@@ -20,11 +20,10 @@ use Rattle.node_laws.proofs.Holds.{count-passed}
 use Rattle.cedr_base.specs.Rows.{count_of, SameRows}
 use Rattle.node_laws.specs.Lawful.{tables_of, fronts_of, all_end, Fits}
 use Rattle.node_laws.proofs.Passes.{table_alike}
-use Rattle.cedr_query.specs.Queries.{source_count, input_tables, input_marks, node_table, node_mark, query, reaches}
-use Rattle.cedr_query.proofs.NodeLemmas.{inputs_are}
-use Rattle.cedr_query.proofs.PlaceLemmas.{sources_behind}
+use Rattle.cedr_query.specs.Queries.{input_tables, input_marks, node_table, node_mark, query, reaches}
+use Rattle.cedr_plan.specs.Places.{is_source, source_count}
+use Rattle.cedr_plan.proofs.PlaceLemmas.{inputs_are, sources_behind}
 use Rattle.op_node.specs.Meanings.{meaning_of, port_levels}
-use Rattle.op_node.specs.Ready.{is_source}
 use Rattle.plan_runs.specs.Middle.{IsMiddle, IsGoing, AllGoing, AreMiddle, AreMarks}
 use Rattle.plan_runs.specs.Runs.{input_lists, IsRun}
 use Rattle.plan_runs.proofs.Closed.{tables_at}

@@ -9,3 +9,5 @@ pub mod Going
 pub mod Output
 pub mod Partial
 pub mod SourceLists
+pub mod PartialApproach
+pub mod PartialOutput

@@ -10,7 +10,7 @@ use Rattle.node_laws.specs.Lists.{Lists, list_at}
 use Rattle.node_laws.specs.Pass.{has_end}
 use Rattle.node_laws.specs.Lawful.{has_broken, any_broken, all_end, Fits}
 use Rattle.op_node.specs.Meanings.{meaning_of, port_levels}
-use Rattle.op_node.specs.Ready.{is_source}
+use Rattle.cedr_plan.specs.Places.{is_source}
 use Rattle.op_node.specs.ReadyLaws.{node_ready}
 use Rattle.plan_runs.specs.Runs.{lists_at, input_lists, IsRun}
 use Rattle.op_node.specs.MeaningLaws.{MeaningLaws}

@@ -1,11 +1,13 @@
--- What is made of the output, where all nodes before it are middle.
-use Rattle.std.proofs.Common.{◌≡◌, ℕ, ◌+◌, ◌<◌, List, [], ◌∷◌, ◌++◌, Bool, true, false, cond, length, replicate, get_or, refl, ap, subst, sym, ◌∙◌, arith, append_assoc}
+-- What the output reads and gives, and what is made of it where all nodes before it are middle.
+use Rattle.std.proofs.Common.{◌≡◌, ℕ, zero, suc, ◌+◌, ◌<◌, List, [], ◌∷◌, ◌++◌, Bool, true, false, cond, length, replicate, get_or, refl, ap, subst, sym, ◌∙◌, arith, append_assoc}
 use Rattle.std.specs.Prelude.{map, All, None, nat_lt}
 use Rattle.std.specs.List.{filter}
 use Rattle.std.proofs.lemmas.List.{append-nil, length-append, get_or_append_left}
 use Rattle.std.proofs.lemmas.List.Elements.{All-head}
 use Rattle.cedr_base.specs.declared.row.Row.{Row}
-use Rattle.cedr_base.specs.Messages.{IsTableOf, mark_of}
+use Rattle.cedr_base.specs.declared.level.Level.{Level}
+use Rattle.cedr_base.specs.declared.change.Message.{Message}
+use Rattle.cedr_base.specs.Messages.{IsTableOf, IsLegal, mark_of}
 use Rattle.change_laws.proofs.BagSums.{same_back}
 use Rattle.cedr_table.specs.Operators.{Tables, Meaning, table_at, mark_at}
 use Rattle.cedr_plan.specs.declared.plan.NodeKind.{NodeKind}
@@ -14,14 +16,16 @@ use Rattle.cedr_plan.specs.declared.plan.PlanNode.{PlanNode}
 use Rattle.cedr_plan.specs.Drawn.{node_of}
 use Rattle.cedr_plan.specs.Rules.{AreNodes}
 use Rattle.node_laws.specs.Lists.{Lists, list_at, AreTables}
-use Rattle.node_laws.specs.Pass.{passed_table}
-use Rattle.node_laws.specs.Lawful.{tables_of}
+use Rattle.node_laws.specs.Pass.{pass, passed_table}
+use Rattle.node_laws.specs.Lawful.{tables_of, IsLawful}
+use Rattle.node_laws.proofs.Giving.{lawful_echo}
 use Rattle.node_laws.proofs.Passes.{table_alike}
-use Rattle.cedr_query.specs.Queries.{is_output, source_count, each_node, node_table, node_mark, query, reaches}
-use Rattle.cedr_query.proofs.NodeLemmas.{inputs_are}
+use Rattle.cedr_query.specs.Queries.{each_node, node_table, node_mark, query, reaches}
+use Rattle.cedr_plan.specs.Places.{is_output, is_source, source_count}
+use Rattle.cedr_plan.proofs.PlaceLemmas.{inputs_are}
 use Rattle.op_node.specs.Meanings.{node_meaning, meaning_of, port_levels}
 use Rattle.op_node.specs.Outputs.{handed_on}
-use Rattle.op_node.specs.Ready.{is_source, IsReady}
+use Rattle.op_node.specs.Ready.{IsReady}
 use Rattle.op_node.specs.ReadyLaws.{node_ready}
 use Rattle.plan_runs.specs.Middle.{IsGoing, AllGoing, AreMiddle, AreMarks}
 use Rattle.plan_runs.specs.Runs.{input_lists, IsRun}
@@ -77,61 +81,89 @@ not_source : {X : Type 0} (b : Bool) (x y : X) → b ≡ false → cond b x y �
 not_source true x y e = cc
 not_source false x y e = refl
 
-module _ (nodes : List PlanNode) (sources : Lists) (tables : Tables) (marks : List ℕ) (ports : List Lists) (given : Lists) (are : AreNodes [] (map node_of nodes)) (run : IsRun nodes sources ports given)
-    (all_going : AllGoing (source_count nodes) sources) (are_tables : AreTables sources tables) (are_marks : AreMarks (source_count nodes) sources marks)
-    (before after : List PlanNode) (n : PlanNode) (whole : nodes ≡ before ++ n ∷ after) (middle : AreMiddle (length before) nodes) (out : n.kind ≡ kind.Output) where
-  isnt : is_source n.kind ≡ false
-  isnt = ap is_source out
+first_is : (a b : List Message) → a ∷ [] ≡ b ∷ [] → a ≡ b
+first_is a b e = ap (λ (ls : Lists). list_at ls 0) e
 
-  pub input : (i : ℕ) × (n.inputs.items ≡ i ∷ [])
-  input = one_input n.inputs.items (subst (λ (k : NodeKind). IsReady k (length n.inputs.items)) out (node_ready (map node_of before) n (node_stands nodes before after n are whole) isnt))
+each_legal : (l : List Message) → IsLegal l → (port : ℕ) → IsLegal (list_at (l ∷ []) port)
+each_legal l legal zero = legal
+each_legal l legal (suc port) = tt
+
+module _ (nodes : List PlanNode) (are : AreNodes [] (map node_of nodes)) (before after : List PlanNode) (n : PlanNode) (whole : nodes ≡ before ++ n ∷ after) (out : n.kind ≡ kind.Output) where
+  -- an output is no source
+  pub isnt : is_source n.kind ≡ false
+  isnt = ap is_source out
 
   meaning_is : meaning_of n ≡ handed_on
   meaning_is = ap (λ (k : NodeKind). node_meaning k (length n.inputs.items)) out
 
-  earlier : input.0 < length before
+  -- it reads one node
+  pub input : (i : ℕ) × (n.inputs.items ≡ i ∷ [])
+  input = one_input n.inputs.items (subst (λ (k : NodeKind). IsReady k (length n.inputs.items)) out (node_ready (map node_of before) n (node_stands nodes before after n are whole) isnt))
+
+  -- which stands before it
+  pub earlier : input.0 < length before
   earlier = All-head (λ (place : ℕ). place < length before) input.0 [] (subst (All (λ (place : ℕ). place < length before)) input.1 (inputs_are before n (node_stands nodes before after n are whole)))
 
-  inside : input.0 < length nodes
+  pub inside : input.0 < length nodes
   inside = let e = earlier in let w = place_within nodes before after n whole in omega arith
 
   -- the output's query is that of the node that it reads
-  query_same : table_at (query tables nodes) (length before) ≡ table_at (query tables nodes) input.0
-  query_same =
-      let done = query tables before in
+  pub query_same : (tables : Tables) → table_at (query tables nodes) (length before) ≡ table_at (query tables nodes) input.0
+  query_same tables =
       each_at (node_table tables) [] nodes before after n whole
       ∙ (not_source (is_source n.kind) (table_at tables (source_count before)) ((meaning_of n).result (map (table_at (query tables before)) n.inputs.items)) isnt
       ∙ (ap (λ (m : Meaning). m.result (map (table_at (query tables before)) n.inputs.items)) meaning_is
       ∙ (ap (λ (xs : List ℕ). table_at (map (table_at (query tables before)) xs) 0) input.1
       ∙ sym (each_before (node_table tables) [] nodes before after n input.0 whole earlier))))
 
-  -- and so is its reach
-  reach_same : mark_at (reaches tables marks nodes) (length before) ≡ mark_at (reaches tables marks nodes) input.0
+  -- what it gave is what its port passed on of the list there
+  pub passed_on : (lists : Lists) (l given : List Message) → lists ≡ l ∷ [] → IsLegal l → IsLawful (meaning_of n) (port_levels n) lists given → pass n.level l ≡ given
+  passed_on lists l given alone legal lawful =
+      let echoes : (meaning_of n).echoes ≡ true = ap (λ (m : Meaning). m.echoes) meaning_is in
+      let levels : port_levels n ≡ n.level ∷ [] = ap (λ (xs : List ℕ). replicate (length xs) n.level) input.1 in
+      first_is (pass n.level l) given
+      (lawful_echo (meaning_of n) echoes (n.level ∷ []) (l ∷ []) given
+      (subst (λ (vs : List Level). IsLawful (meaning_of n) vs (l ∷ []) given) levels (subst (λ (ls : Lists). IsLawful (meaning_of n) (port_levels n) ls given) alone lawful)) (each_legal l legal) refl)
+
+module _ (nodes : List PlanNode) (sources : Lists) (tables : Tables) (marks : List ℕ) (ports : List Lists) (given : Lists) (are : AreNodes [] (map node_of nodes)) (run : IsRun nodes sources ports given)
+    (all_going : AllGoing (source_count nodes) sources) (are_tables : AreTables sources tables) (are_marks : AreMarks (source_count nodes) sources marks)
+    (before after : List PlanNode) (n : PlanNode) (whole : nodes ≡ before ++ n ∷ after) (middle : AreMiddle (length before) nodes) (out : n.kind ≡ kind.Output) where
+  abbrev read : ℕ
+  read = (input nodes are before after n whole out).0
+
+  within : read < length nodes
+  within = inside nodes are before after n whole out
+
+  before_it : read < length before
+  before_it = earlier nodes are before after n whole out
+
+  -- the output's reach is that of the node that it reads
+  reach_same : mark_at (reaches tables marks nodes) (length before) ≡ mark_at (reaches tables marks nodes) read
   reach_same =
       let make = node_mark (query tables nodes) marks in
       each_at make 0 nodes before after n whole
-      ∙ (not_source (is_source n.kind) (mark_at marks (source_count before)) ((meaning_of n).bound (map (table_at (query tables nodes)) n.inputs.items) (map (mark_at (each_node make [] [] before)) n.inputs.items)) isnt
-      ∙ (ap (λ (m : Meaning). m.bound (map (table_at (query tables nodes)) n.inputs.items) (map (mark_at (each_node make [] [] before)) n.inputs.items)) meaning_is
-      ∙ (ap (λ (xs : List ℕ). mark_at (map (mark_at (each_node make [] [] before)) xs) 0) input.1
-      ∙ sym (each_before make 0 nodes before after n input.0 whole earlier))))
+      ∙ (not_source (is_source n.kind) (mark_at marks (source_count before)) ((meaning_of n).bound (map (table_at (query tables nodes)) n.inputs.items) (map (mark_at (each_node make [] [] before)) n.inputs.items)) (isnt nodes are before after n whole out)
+      ∙ (ap (λ (m : Meaning). m.bound (map (table_at (query tables nodes)) n.inputs.items) (map (mark_at (each_node make [] [] before)) n.inputs.items)) (meaning_is nodes are before after n whole out)
+      ∙ (ap (λ (xs : List ℕ). mark_at (map (mark_at (each_node make [] [] before)) xs) 0) (input nodes are before after n whole out).1
+      ∙ sym (each_before make 0 nodes before after n read whole before_it))))
 
-  going : IsGoing (list_at given input.0)
-  going = going_list nodes (length before) sources tables marks ports given are run all_going are_tables are_marks middle input.0 inside earlier
+  going : IsGoing (list_at given read)
+  going = going_list nodes (length before) sources tables marks ports given are run all_going are_tables are_marks middle read within before_it
 
   -- the mark that came on its port is its reach
-  pub output_mark : mark_of (list_at given input.0) ≡ mark_at (reaches tables marks nodes) (length before)
-  output_mark = going_mark nodes (length before) sources tables marks ports given are run all_going are_tables are_marks middle input.0 inside earlier ∙ sym reach_same
+  pub output_mark : mark_of (list_at given read) ≡ mark_at (reaches tables marks nodes) (length before)
+  output_mark = going_mark nodes (length before) sources tables marks ports given are run all_going are_tables are_marks middle read within before_it ∙ sym reach_same
 
   -- and where its port is strong, what it gave has the rows of its query that end before that
   pub output_table : n.level.block ≡ None → n.level.memory ≡ None → IsTableOf (list_at given (length before)) (filter (λ (r : Row). nat_lt r.end (mark_at (reaches tables marks nodes) (length before))) (table_at (query tables nodes) (length before)))
   output_table block memory =
       let is = node_stands nodes before after n are whole in
-      let fits = node_fits nodes sources ports given run before after n whole is isnt (all_unbroken (length before) given (λ k h. (going_list nodes (length before) sources tables marks ports given are run all_going are_tables are_marks middle k (let w = place_within nodes before after n whole in omega arith) h).unbroken) n.inputs.items (inputs_are before n is)) in
-      let l = list_at given input.0 in
-      let made : (meaning_of n).result (tables_of (port_levels n) (input_lists given n)) ≡ passed_table n.level (list_at given input.0) =
-      ap (λ (m : Meaning). m.result (tables_of (port_levels n) (input_lists given n))) meaning_is ∙ ap (λ (xs : List ℕ). table_at (tables_of (replicate (length xs) n.level) (map (list_at given) xs)) 0) input.1 in
-      let table = going_table nodes (length before) sources tables marks ports given are run all_going are_tables are_marks middle input.0 inside earlier in
-      let strong = strong_passed n.level l (table_at (query tables nodes) input.0) block memory going table in
+      let fits = node_fits nodes sources ports given run before after n whole is (isnt nodes are before after n whole out) (all_unbroken (length before) given (λ k h. (going_list nodes (length before) sources tables marks ports given are run all_going are_tables are_marks middle k (let w = place_within nodes before after n whole in omega arith) h).unbroken) n.inputs.items (inputs_are before n is)) in
+      let l = list_at given read in
+      let made : (meaning_of n).result (tables_of (port_levels n) (input_lists given n)) ≡ passed_table n.level (list_at given read) =
+      ap (λ (m : Meaning). m.result (tables_of (port_levels n) (input_lists given n))) (meaning_is nodes are before after n whole out) ∙ ap (λ (xs : List ℕ). table_at (tables_of (replicate (length xs) n.level) (map (list_at given) xs)) 0) (input nodes are before after n whole out).1 in
+      let table = going_table nodes (length before) sources tables marks ports given are run all_going are_tables are_marks middle read within before_it in
+      let strong = strong_passed n.level l (table_at (query tables nodes) read) block memory going table in
       subst (λ (t : ℕ). IsTableOf (list_at given (length before)) (filter (λ (r : Row). nat_lt r.end t) (table_at (query tables nodes) (length before)))) output_mark
-      (subst (λ (rows : List Row). IsTableOf (list_at given (length before)) (filter (λ (r : Row). nat_lt r.end (mark_of (list_at given input.0))) rows)) (sym query_same)
+      (subst (λ (rows : List Row). IsTableOf (list_at given (length before)) (filter (λ (r : Row). nat_lt r.end (mark_of (list_at given read))) rows)) (sym (query_same nodes are before after n whole out tables))
       (table_alike (list_at given (length before)) (passed_table n.level l) _ (same_back _ _ strong) (subst (λ (rows : List Row). IsTableOf (list_at given (length before)) rows) made fits.table)))

@@ -5,8 +5,7 @@ use Rattle.std.proofs.lemmas.List.Sums.{sum_by-cons}
 use Rattle.cedr_base.specs.declared.change.Message.{Message}
 use Rattle.cedr_plan.specs.declared.plan.PlanNode.{PlanNode}
 use Rattle.node_laws.specs.Lists.{Lists, list_at}
-use Rattle.cedr_query.specs.Queries.{source_count}
-use Rattle.op_node.specs.Ready.{is_source}
+use Rattle.cedr_plan.specs.Places.{is_source, source_count}
 use Rattle.plan_runs.specs.Runs.{lists_at, ArePrefixes, IsRun, IsPartialRun, sources_in}
 
 -- each list is the first messages of itself

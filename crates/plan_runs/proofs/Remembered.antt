@@ -11,10 +11,10 @@ use Rattle.cedr_plan.specs.Drawn.{node_of}
 use Rattle.cedr_plan.specs.Rules.{AreNodes}
 use Rattle.node_laws.specs.Kept.{forgot}
 use Rattle.node_laws.specs.Lists.{Lists, list_at}
-use Rattle.cedr_query.specs.Queries.{source_count, input_tables, each_node, node_table, query}
-use Rattle.cedr_query.proofs.NodeLemmas.{inputs_are}
+use Rattle.cedr_query.specs.Queries.{input_tables, each_node, node_table, query}
+use Rattle.cedr_plan.specs.Places.{is_source, source_count}
+use Rattle.cedr_plan.proofs.PlaceLemmas.{inputs_are}
 use Rattle.op_node.specs.Meanings.{meaning_of}
-use Rattle.op_node.specs.Ready.{is_source}
 use Rattle.plan_runs.specs.Runs.{lists_at, input_lists}
 use Rattle.plan_runs.specs.Without.{all_left_out, listed_at, node_table_without, query_without, forgot_on, forgot_in, Remembers}
 use Rattle.plan_runs.proofs.Closed.{listed_is}
@@ -29,7 +29,8 @@ all_left_none n given done level e legal (i ∷ inputs) within =
     let b = all_left_none n given done level e legal inputs (All-tail (λ (place : ℕ). place < n) i inputs within) in
     cc
 
-remembers_at : (before after : List PlanNode) (n : PlanNode) → Remembers (before ++ n ∷ after) → n.level.memory ≡ None
+-- where no node forgets, a node doesn't
+pub remembers_at : (before after : List PlanNode) (n : PlanNode) → Remembers (before ++ n ∷ after) → n.level.memory ≡ None
 remembers_at [] after n h = h.0
 remembers_at (b ∷ before) after n h = remembers_at before after n h.1
 

@@ -6,9 +6,8 @@ use Rattle.cedr_plan.specs.declared.plan.PlanNode.{PlanNode}
 use Rattle.node_laws.specs.Lists.{Lists, list_at}
 use Rattle.node_laws.specs.Pass.{has_end}
 use Rattle.node_laws.specs.Lawful.{has_broken, IsLawful}
-use Rattle.cedr_query.specs.Queries.{source_count}
+use Rattle.cedr_plan.specs.Places.{is_source, source_count}
 use Rattle.op_node.specs.Meanings.{meaning_of, port_levels}
-use Rattle.op_node.specs.Ready.{is_source}
 
 -- the lists on the ports of the node at a place
 abbrev pub lists_at : List Lists → ℕ → Lists

@@ -8,9 +8,9 @@ use Rattle.node_laws.specs.declared.forgotten.Forgotten.{Forgotten}
 use Rattle.node_laws.specs.Surplus.{less}
 use Rattle.node_laws.specs.Lists.{Lists}
 use Rattle.node_laws.specs.Kept.{forgot, changes_in}
-use Rattle.cedr_query.specs.Queries.{source_count, input_tables, each_node}
+use Rattle.cedr_query.specs.Queries.{input_tables, each_node}
+use Rattle.cedr_plan.specs.Places.{is_source, source_count}
 use Rattle.op_node.specs.Meanings.{meaning_of}
-use Rattle.op_node.specs.Ready.{is_source}
 
 -- a table less the deltas of the changes that were forgotten
 abbrev pub left_out : List Row → List Forgotten → List Row

@@ -1,20 +1,23 @@
 ghost use Rattle.cedr_plan.specs.declared.plan.NodeKind.TheVariants as kind;
 ghost use Rattle.std.specs.Prelude.{ℕ, ◌≡◌, ◌<◌, List, [], ◌∷◌, ◌++◌, length, map, None, nat_lt, true};
-ghost use Rattle.cedr_base.specs.Messages.{IsTableOf, mark_of};
+ghost use Rattle.cedr_base.specs.Messages.{IsLegal, IsTableOf, changes_of, mark_of};
 ghost use Rattle.cedr_base.specs.declared.change.Message.{Message};
 ghost use Rattle.cedr_plan.specs.Drawn.{node_of};
 ghost use Rattle.cedr_plan.specs.Rules.{AreNodes};
 ghost use Rattle.cedr_plan.specs.declared.plan.PlanNode.{PlanNode};
 ghost use Rattle.node_laws.specs.Lists.{Lists, list_at, AreTables};
-ghost use Rattle.cedr_query.specs.Queries.{source_count, query, reaches};
+ghost use Rattle.cedr_query.specs.Queries.{query, reaches};
 ghost use Rattle.std.specs.List.{filter};
 ghost use Rattle.cedr_base.specs.declared.level.Level.{Level};
 ghost use Rattle.cedr_base.specs.declared.row.Row.{Row};
 ghost use Rattle.cedr_base.specs.Rows.{SameRows};
-ghost use Rattle.node_laws.specs.Pass.{passed_table};
-ghost use Rattle.op_node.specs.Ready.{is_source};
+ghost use Rattle.node_laws.specs.Pass.{passed_table, added, HasNoCut};
+ghost use Rattle.node_laws.specs.Approaching.{AddsFirst, Approaches};
+ghost use Rattle.node_laws.specs.Surplus.{Ascend};
+ghost use Rattle.cedr_plan.specs.Places.{is_source, source_count};
 ghost use Rattle.plan_runs.specs.Middle.{IsGoing, AllGoing, AreMiddle, AreMarks};
 ghost use Rattle.cedr_table.specs.Operators.{Tables, table_at, mark_at};
+ghost use Rattle.plan_runs.specs.Partials.{AllBeginTables};
 ghost use Rattle.plan_runs.specs.Runs.{IsRun, IsPartialRun, AllWhole, sources_in};
 ghost use Rattle.plan_runs.specs.Without.{query_without, forgot_in, Remembers};
 
@@ -40,4 +43,14 @@ pub fn going_runs()
 pub fn partial_runs()
     ensures whole { (nodes : List PlanNode) (sources : Lists) (ports : List Lists) (given : Lists) → IsRun nodes sources ports given → IsPartialRun nodes sources ports given }
     ensures sources { (before after : List PlanNode) (n : PlanNode) (given : Lists) → is_source n.kind ≡ true → list_at (sources_in (before ++ n ∷ after) given) (source_count before) ≡ list_at given (length before) }
+{}
+
+/// The law of partial runs over the first messages of whole lists. Where no memory is finite, the table of what a node gave
+/// agrees up to its mark with the node's table in the query over the tables of the whole lists, and an output whose block is
+/// without limit has added the first of the query's rows in canonical order. Where some memory is finite, it has still added
+/// rows in that order, and taken nothing back.
+pub fn partial_agreement()
+    ensures agrees { (nodes : List PlanNode) (sources : Lists) (tables : Tables) (ports : List Lists) (given : Lists) → AreNodes [] (map node_of nodes) → IsPartialRun nodes sources ports given → Remembers nodes → AllBeginTables (source_count nodes) sources tables → (place : ℕ) → place < length nodes → Approaches (list_at given place) (table_at (query tables nodes) place) }
+    ensures strong { (nodes : List PlanNode) (sources : Lists) (tables : Tables) (ports : List Lists) (given : Lists) → AreNodes [] (map node_of nodes) → IsPartialRun nodes sources ports given → Remembers nodes → AllBeginTables (source_count nodes) sources tables → (before after : List PlanNode) (n : PlanNode) → nodes ≡ before ++ n ∷ after → n.kind ≡ kind.Output → n.level.block ≡ None → AddsFirst (changes_of (list_at given (length before))) (table_at (query tables nodes) (length before)) }
+    ensures ascends { (nodes : List PlanNode) (sources : Lists) (ports : List Lists) (given : Lists) → AreNodes [] (map node_of nodes) → IsPartialRun nodes sources ports given → ((k : ℕ) → k < source_count nodes → IsLegal (list_at sources k)) → (before after : List PlanNode) (n : PlanNode) → nodes ≡ before ++ n ∷ after → n.kind ≡ kind.Output → n.level.block ≡ None → HasNoCut (changes_of (list_at given (length before))) × Ascend (added (changes_of (list_at given (length before)))) }
 {}

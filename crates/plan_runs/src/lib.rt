@@ -5,4 +5,4 @@
 
 mod laws;
 
-pub use laws::{closed_runs, going_runs, partial_runs};
+pub use laws::{closed_runs, going_runs, partial_agreement, partial_runs};

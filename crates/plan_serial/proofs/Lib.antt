@@ -1,4 +1,5 @@
 pub mod FeedLemmas
+pub mod RoundLemmas
 pub mod RunLemmas
 pub mod SourceLemmas
 pub mod QueryLemmas

@@ -1,35 +1,59 @@
 -- All sources of a plan, read from files as a whole.
-use Rattle.std.specs.Prelude.{ℕ, ◌≡◌, ◌<◌, length, List, [], ◌∷◌, ◌++◌, None, Some, Result, Ok, Err, Vec}
+use Rattle.std.specs.Prelude.{ℕ, ◌≡◌, ◌<◌, length, List, [], ◌∷◌, ◌++◌, true, false, Option, None, Some, Result, Ok, Err, Vec}
 use Rattle.std.specs.Global.{Global}
 use Rattle.cedr_base.specs.declared.change.Message.{Message}
 use Rattle.cedr_base.specs.declared.field.FieldType.{FieldType}
-use Rattle.cedr_guard.specs.Sources.{judged, messages_of}
+use Rattle.cedr_guard.specs.declared.refusal.Refusal.{Refusal}
+use Rattle.cedr_guard.specs.Sources.{judged, messages_by_line}
 use Rattle.cedr_io.specs.Counts.{Rose}
-use Rattle.node_laws.specs.Lists.{Lists}
+use Rattle.cedr_plan.specs.Places.{is_source}
 use Rattle.cedr_plan.specs.declared.plan.PlanNode.{PlanNode}
 use Rattle.cedr_source.specs.declared.fault.Unread.{Unread}
 use Rattle.cedr_source.specs.declared.fault.Unread.TheVariants as unread
 use Rattle.cedr_text.specs.declared.event_line.Shape.{Shape}
 use Rattle.cedr_text.specs.Shapes.{ShapeHasTypes}
-use Rattle.plan_answer.specs.Sources.{AreRead}
-use Rattle.cedr_net.specs.declared.queue.Queue.{Queue}
+use Rattle.plan_answer.specs.declared.faulty.FaultySource.{FaultySource}
+use Rattle.plan_answer.specs.Sources.{faulty_from, file_of}
+use Rattle.plan_serial.specs.declared.entries.Entries.{Entries}
+use Rattle.plan_serial.specs.Rounds.{ByLine}
 use Rattle.plan_serial.specs.declared.sources.ReadSoFar.{ReadSoFar}
 use Rattle.plan_serial.specs.declared.sources.SourcesFault.{SourcesFault}
 use Rattle.plan_serial.specs.declared.sources.SourcesFault.TheVariants as sources_fault
 
 -- ---- what was read
 
--- a file of these types: all messages of its bytes, or their first fault
-abbrev pub AnswersFile : Result (Vec Message Global) Unread → List FieldType → List ℕ → Type 0
-AnswersFile (Ok messages) types all = (shape : Shape) × ShapeHasTypes shape types × ((judged shape all).fault ≡ None) × (messages.items ≡ messages_of shape all)
+-- What was read of a node line by line: of a source its first fault, or without one all its messages; of any other node
+-- nothing.
+pub record HasLines (told : List ℕ → List ℕ) (node : PlanNode) (entries : List (Option Message)) (fault : Option Refusal) : Type 0 where
+  pub source : is_source node.kind ≡ true → (shape : Shape) × ShapeHasTypes shape node.types.items × ((judged shape (told (file_of node.kind))).fault ≡ fault) × (fault ≡ None → entries ≡ messages_by_line shape (told (file_of node.kind)))
+  pub other : is_source node.kind ≡ false → (entries ≡ []) × (fault ≡ None)
+
+-- the same of each of some nodes, in order
+abbrev pub AllHaveLines : (List ℕ → List ℕ) → List PlanNode → ByLine → List (Option Refusal) → Type 0
+AllHaveLines told [] [] [] = Unit {0}
+AllHaveLines told [] (l ∷ ls) faults = ⊥
+AllHaveLines told [] [] (f ∷ faults) = ⊥
+AllHaveLines told (n ∷ nodes) [] faults = ⊥
+AllHaveLines told (n ∷ nodes) (l ∷ ls) [] = ⊥
+AllHaveLines told (n ∷ nodes) (l ∷ ls) (f ∷ faults) = HasLines told n l f × AllHaveLines told nodes ls faults
+
+-- what was read of the nodes line by line, and which sources are faulty
+pub record AreReadByLine (told : List ℕ → List ℕ) (nodes : List PlanNode) (lines : ByLine) (faulty : List FaultySource) : Type 0 where
+  pub faults : List (Option Refusal)
+  pub given : AllHaveLines told nodes lines faults
+  pub faulty_are : faulty ≡ faulty_from 0 faults
+
+-- a file of these types: all messages of its bytes line by line, or their first fault
+abbrev pub AnswersFile : Result (Vec (Option Message) Global) Unread → List FieldType → List ℕ → Type 0
+AnswersFile (Ok entries) types all = (shape : Shape) × ShapeHasTypes shape types × ((judged shape all).fault ≡ None) × (entries.items ≡ messages_by_line shape all)
 AnswersFile (Err (unread.Refused refusal)) types all = (shape : Shape) × ShapeHasTypes shape types × ((judged shape all).fault ≡ Some refusal)
 AnswersFile (Err unread.Failed) types all = Unit {0}
 AnswersFile (Err unread.OutOfMemory) types all = Unit {0}
 
--- all sources are accepted and give their messages, or these are faulty
-abbrev pub AnswersSources : Result (Vec Queue Global) SourcesFault → (List ℕ → List ℕ) → List PlanNode → Type 0
-AnswersSources (Ok left) told nodes = AreRead told nodes left.items []
-AnswersSources (Err (sources_fault.Events faulty)) told nodes = (left : Lists) × AreRead told nodes left faulty.items × (0 < length faulty.items)
+-- all sources are accepted and give their messages line by line, or these are faulty
+abbrev pub AnswersSources : Result (Vec Entries Global) SourcesFault → (List ℕ → List ℕ) → List PlanNode → Type 0
+AnswersSources (Ok left) told nodes = AreReadByLine told nodes left.items []
+AnswersSources (Err (sources_fault.Events faulty)) told nodes = (lines : ByLine) × AreReadByLine told nodes lines faulty.items × (0 < length faulty.items)
 AnswersSources (Err sources_fault.Read) told nodes = Unit {0}
 AnswersSources (Err sources_fault.OutOfMemory) told nodes = Unit {0}
 
@@ -43,19 +67,19 @@ CountsSources (Err sources_fault.OutOfMemory) old new = new ≡ old
 -- ---- node by node
 
 -- what is no source gives nothing
-abbrev pub IsNothing : Result (Vec Message Global) Unread → Type 0
-IsNothing (Ok messages) = messages.items ≡ []
+abbrev pub IsNothing : Result (Vec (Option Message) Global) Unread → Type 0
+IsNothing (Ok entries) = entries.items ≡ []
 IsNothing (Err fault) = ⊥
 
--- the messages or the fault of one node more are noted
-abbrev pub Notes : Result (Vec Message Global) Unread → ReadSoFar → ReadSoFar → ℕ → Type 0
-Notes (Ok messages) old new place = (new.left.items ≡ old.left.items ++ messages.items ∷ []) × (new.faulty.items ≡ old.faulty.items)
+-- the entries or the fault of one node more are noted
+abbrev pub Notes : Result (Vec (Option Message) Global) Unread → ReadSoFar → ReadSoFar → ℕ → Type 0
+Notes (Ok entries) old new place = (new.left.items ≡ old.left.items ++ entries.items ∷ []) × (new.faulty.items ≡ old.faulty.items)
 Notes (Err (unread.Refused refusal)) old new place = (new.left.items ≡ old.left.items ++ [] ∷ []) × (new.faulty.items ≡ old.faulty.items ++ record { place = place; refusal = refusal } ∷ [])
 Notes (Err unread.Failed) old new place = ⊥
 Notes (Err unread.OutOfMemory) old new place = ⊥
 
 -- a read that failed is answered, and anything else is want of memory
-abbrev pub PassesOn : Result (Unit {0}) SourcesFault → Result (Vec Message Global) Unread → Type 0
+abbrev pub PassesOn : Result (Unit {0}) SourcesFault → Result (Vec (Option Message) Global) Unread → Type 0
 PassesOn (Ok done) read = Unit {0}
 PassesOn (Err (sources_fault.Events faulty)) read = ⊥
 PassesOn (Err sources_fault.Read) read = read ≡ Err unread.Failed

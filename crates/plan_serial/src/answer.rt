@@ -5,7 +5,7 @@ ghost use Rattle.cedr_base.specs.Rows.{in_order};
 ghost use Rattle.node_laws.specs.Lists.{Lists, list_at};
 ghost use Rattle.cedr_net.specs.Networks.{NetStands};
 ghost use Rattle.cedr_plan.specs.declared.plan.PlanNode.{PlanNode};
-ghost use Rattle.cedr_query.specs.Queries.{output_place};
+ghost use Rattle.cedr_plan.specs.Places.{output_place};
 ghost use Rattle.plan_runs.specs.Runs.{lists_at};
 ghost use Rattle.plan_runs.specs.Without.{forgot_in, forgot_on};
 ghost use Rattle.plan_answer.specs.Answers.{ports_text, tail_text, answer_text};

@@ -1,44 +1,49 @@
-ghost use Rattle.std.specs.Prelude.{ℕ, ◌≡◌, ◌<◌, [], List, true, false, OnOk, IfOk, length, map, slice_set};
-ghost use Rattle.node_laws.specs.Lists.{Lists, list_at};
+ghost use Rattle.std.specs.Prelude.{ℕ, ◌≡◌, ◌<◌, ◌+◌, [], List, true, false, OnOk, IfOk, length, map, slice_set};
+ghost use Rattle.node_laws.specs.Lists.{Lists};
 ghost use Rattle.cedr_plan.specs.declared.plan.PlanNode.{PlanNode};
-ghost use Rattle.plan_serial.specs.Feeding.{FeedStands, FeedsOn, IsSettledAt, behind_first, left_count};
+ghost use Rattle.cedr_net.specs.Networks.{NetStands};
+ghost use Rattle.plan_serial.specs.Rounds.{ByLine, entries_at};
+ghost use Rattle.plan_serial.specs.Feeding.{MayBeFed, FeedsOne, FeedsEach, StandsAfterRounds, IsSettledAt, behind_first, left_count};
 
+use crate::entries::{Entries, pop_at};
 use cedr_base::OutOfMemory;
-use cedr_net::{Queue, SerialNet, pop_at};
+use cedr_net::SerialNet;
 use std::alloc::Global;
 
-/// Feeds the next message of the node at a place, where it has one. Whether it had one.
+/// Feeds the next line of the node at a place, where it has one: the line's message, if it has one. Whether there was a
+/// line.
 fn feed_one(
     alloc: Global,
     net: &mut SerialNet,
-    remaining: &mut Vec<Queue>,
+    remaining: &mut Vec<Entries>,
     place: usize,
 ) -> Result<bool, OutOfMemory>
-    requires { (nodes : List PlanNode) × (whole : Lists) × FeedStands nodes net.old remaining.old.items whole × (place < length nodes) }
-    ensures stands { OnOk result ((nodes : List PlanNode) (whole : Lists) (f : FeedStands nodes net.old remaining.old.items whole) → place < length nodes → FeedsOn nodes net.new remaining.new.items whole f.given) }
+    requires { (nodes : List PlanNode) × (ports : List Lists) × (given : Lists) × NetStands nodes net.old ports given × MayBeFed nodes given remaining.old.items × (place < length nodes) }
+    ensures stands { OnOk result ((nodes : List PlanNode) (ports : List Lists) (given : Lists) → NetStands nodes net.old ports given → MayBeFed nodes given remaining.old.items → place < length nodes → FeedsOne nodes net.new ports given place remaining.old.items remaining.new.items) }
     ensures fed { IfOk result (λ fed. fed ≡ true → left_count remaining.new.items < left_count remaining.old.items) }
-    ensures none { IfOk result (λ fed. fed ≡ false → (list_at remaining.old.items place ≡ []) × (remaining.new.items ≡ remaining.old.items)) }
-    ensures taken { OnOk result (remaining.new.items ≡ slice_set remaining.old.items place (behind_first (list_at remaining.old.items place))) }
+    ensures none { IfOk result (λ fed. fed ≡ false → (entries_at remaining.old.items place ≡ []) × (remaining.new.items ≡ remaining.old.items)) }
+    ensures taken { OnOk result (remaining.new.items ≡ slice_set remaining.old.items place (behind_first (entries_at remaining.old.items place))) }
 {
     match pop_at(remaining, place) {
         None => Ok(false),
-        Some(message) => match net.feed(alloc, place, message) {
+        Some(None) => Ok(true),
+        Some(Some(message)) => match net.feed(alloc, place, message) {
             Ok(()) => Ok(true),
             Err(_) => Err(OutOfMemory),
         },
     }
 }
 
-/// Feeds the next message of each source that has one, in the order of the plan. Whether one had.
+/// Feeds the next line of each source that has one, in the order of the plan. Whether one had.
 fn feed_each(
     alloc: Global,
     net: &mut SerialNet,
-    remaining: &mut Vec<Queue>,
+    remaining: &mut Vec<Entries>,
 ) -> Result<bool, OutOfMemory>
-    requires { (nodes : List PlanNode) × (whole : Lists) × FeedStands nodes net.old remaining.old.items whole }
-    ensures stands { OnOk result ((nodes : List PlanNode) (whole : Lists) (f : FeedStands nodes net.old remaining.old.items whole) → FeedsOn nodes net.new remaining.new.items whole f.given) }
+    requires { (nodes : List PlanNode) × (ports : List Lists) × (given : Lists) × NetStands nodes net.old ports given × MayBeFed nodes given remaining.old.items }
+    ensures stands { OnOk result ((nodes : List PlanNode) (ports : List Lists) (given : Lists) → NetStands nodes net.old ports given → MayBeFed nodes given remaining.old.items → FeedsEach nodes net.new ports given remaining.old.items remaining.new.items) }
     ensures fed { IfOk result (λ fed. fed ≡ true → left_count remaining.new.items < left_count remaining.old.items) }
-    ensures none { IfOk result (λ fed. fed ≡ false → (k : ℕ) → list_at remaining.new.items k ≡ []) }
+    ensures none { IfOk result (λ fed. fed ≡ false → (k : ℕ) → entries_at remaining.new.items k ≡ []) }
     ensures taken { OnOk result (remaining.new.items ≡ map behind_first remaining.old.items) }
 {
     let mut fed = false;
@@ -48,18 +53,18 @@ fn feed_each(
     Ok(fed)
 }
 
-/// A round: feeds the next message of each source that has one, in the order of the plan, and then the network settles.
-/// Whether a source had one. Where memory runs out the network and what remains are only to be dropped.
+/// A round: feeds the next line of each source that has one, in the order of the plan, and then the network settles. A line
+/// without a message takes its turn like any other. Whether a source had a line. Where memory runs out the network and
+/// what remains are only to be dropped.
 pub fn feed_round(
     alloc: Global,
     net: &mut SerialNet,
-    remaining: &mut Vec<Queue>,
+    remaining: &mut Vec<Entries>,
 ) -> Result<bool, OutOfMemory>
-    requires { (nodes : List PlanNode) × (whole : Lists) × FeedStands nodes net.old remaining.old.items whole }
-    ensures stands { OnOk result ((nodes : List PlanNode) (whole : Lists) → FeedStands nodes net.old remaining.old.items whole → FeedStands nodes net.new remaining.new.items whole × IsSettledAt nodes net.new) }
-    ensures grows { OnOk result ((nodes : List PlanNode) (whole : Lists) (f : FeedStands nodes net.old remaining.old.items whole) → FeedsOn nodes net.new remaining.new.items whole f.given) }
+    requires { (nodes : List PlanNode) × (whole : ByLine) × (rounds : ℕ) × StandsAfterRounds nodes net.old remaining.old.items whole rounds }
+    ensures round { OnOk result ((nodes : List PlanNode) (whole : ByLine) (rounds : ℕ) → StandsAfterRounds nodes net.old remaining.old.items whole rounds → StandsAfterRounds nodes net.new remaining.new.items whole (rounds + 1) × IsSettledAt nodes net.new) }
     ensures fed { IfOk result (λ fed. fed ≡ true → left_count remaining.new.items < left_count remaining.old.items) }
-    ensures none { IfOk result (λ fed. fed ≡ false → (k : ℕ) → list_at remaining.new.items k ≡ []) }
+    ensures none { IfOk result (λ fed. fed ≡ false → (k : ℕ) → entries_at remaining.new.items k ≡ []) }
     ensures taken { OnOk result (remaining.new.items ≡ map behind_first remaining.old.items) }
 {
     let fed = feed_each(alloc, net, remaining)?;
@@ -69,15 +74,15 @@ pub fn feed_round(
     }
 }
 
-/// Rounds until each source has given all its messages: the run of a plan over whole sources. Where memory runs out the
+/// Rounds until each source has given all its lines: the run of a plan over whole sources. Where memory runs out the
 /// network and what remains are only to be dropped.
 pub fn feed_all(
     alloc: Global,
     net: &mut SerialNet,
-    remaining: &mut Vec<Queue>,
+    remaining: &mut Vec<Entries>,
 ) -> Result<(), OutOfMemory>
-    requires { (nodes : List PlanNode) × (whole : Lists) × FeedStands nodes net.old remaining.old.items whole }
-    ensures { OnOk result ((nodes : List PlanNode) (whole : Lists) → FeedStands nodes net.old remaining.old.items whole → FeedStands nodes net.new remaining.new.items whole × IsSettledAt nodes net.new × ((k : ℕ) → list_at remaining.new.items k ≡ [])) }
+    requires { (nodes : List PlanNode) × (whole : ByLine) × (rounds : ℕ) × StandsAfterRounds nodes net.old remaining.old.items whole rounds }
+    ensures { OnOk result ((nodes : List PlanNode) (whole : ByLine) (rounds : ℕ) → StandsAfterRounds nodes net.old remaining.old.items whole rounds → (all : ℕ) × StandsAfterRounds nodes net.new remaining.new.items whole all × IsSettledAt nodes net.new × ((k : ℕ) → entries_at remaining.new.items k ≡ [])) }
 {
     while feed_round(alloc, net, remaining)? {}
     Ok(())

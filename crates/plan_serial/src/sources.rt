@@ -1,20 +1,21 @@
 ghost use Rattle.std.specs.Prelude.{ℕ, ◌≡◌, ◌<◌, ◌++◌, ◌∷◌, [], List, true, false, IfOk, OnOk, OnErr, IsErrOf, IfSome};
 ghost use Rattle.cedr_base.specs.Messages.{IsLegal};
+ghost use Rattle.cedr_guard.specs.Messages.{messages_in};
 ghost use Rattle.cedr_io.specs.Counts.{last_count};
 ghost use Rattle.cedr_source.specs.Whole.{CountsSource};
-ghost use Rattle.op_node.specs.Ready.{is_source};
+ghost use Rattle.cedr_plan.specs.Places.{is_source};
 ghost use Rattle.plan_serial.specs.declared.sources.SourcesFault.TheVariants.{OutOfMemory as NoMemory};
 ghost use Rattle.plan_serial.specs.Feeding.{AreSources};
 ghost use Rattle.plan_serial.specs.Sources.{AnswersFile, AnswersSources, CountsSources, IsNothing, Notes, PassesOn};
 ghost use Rattle.plan_answer.specs.Sources.{AsksFirst, AsksSource, AreTold, file_of, files_of, source_files};
 ghost use Rattle.cedr_text.specs.Shapes.{ShapeHasTypes};
 
+use crate::entries::Entries;
 use cedr_base::{FieldType, Message, OutOfMemory};
 use cedr_guard::message_laws;
 use cedr_io::{Files, OutsideFault};
-use cedr_net::Queue;
 use cedr_plan::{NodeKind, PlanNode};
-use cedr_source::{Unread, read_messages};
+use cedr_source::{Unread, read_by_line};
 use cedr_text::Shape;
 use plan_answer::FaultySource;
 use std::alloc::Global;
@@ -35,16 +36,16 @@ fn shape_of(alloc: Global, types: &[FieldType]) -> Result<Shape, OutOfMemory>
     Ok(Shape::Fields(Vec::from_slice(alloc, types)?))
 }
 
-/// All messages of a file, or its first fault.
+/// All messages of a file line by line, or its first fault.
 fn read_file<F: Files>(
     alloc: Global,
     files: &mut F,
     name: &[u8],
     types: &[FieldType],
-) -> Result<Vec<Message>, Unread>
+) -> Result<Vec<Option<Message>>, Unread>
     requires { F.faults files.old < last_count }
     ensures answer { IfSome (F.content files.old name.now) (λ all. AnswersFile result types.now all) }
-    ensures legal { IfOk result (λ messages. IsLegal messages.items) }
+    ensures legal { IfOk result (λ entries. IsLegal (messages_in entries.items)) }
     ensures counted { CountsSource result (F.faults files.old) (F.faults files.new) }
     ensures asked { AsksSource result (F.asked files.old) (F.asked files.new) (name.now ∷ []) }
     ensures contents { (n : List ℕ) → F.content files.new n ≡ F.content files.old n }
@@ -56,21 +57,21 @@ fn read_file<F: Files>(
         Err(OutsideFault::Failed) => return Err(Unread::Failed),
         Err(OutsideFault::OutOfMemory) => return Err(Unread::OutOfMemory),
     };
-    let messages = read_messages(alloc, shape, &mut source);
+    let entries = read_by_line(alloc, shape, &mut source);
     files.give_back(source);
-    messages
+    entries
 }
 
-/// What a node gives: the messages of a source's file, and nothing where it is no source.
+/// What a node gives: the messages of a source's file line by line, and nothing where it is no source.
 fn read_node<F: Files>(
     alloc: Global,
     files: &mut F,
     node: &PlanNode,
-) -> Result<Vec<Message>, Unread>
+) -> Result<Vec<Option<Message>>, Unread>
     requires { F.faults files.old < last_count }
     ensures answer { is_source node.now.kind ≡ true → IfSome (F.content files.old (file_of node.now.kind)) (λ all. AnswersFile result node.now.types.items all) }
     ensures none { is_source node.now.kind ≡ false → IsNothing result }
-    ensures legal { IfOk result (λ messages. IsLegal messages.items) }
+    ensures legal { IfOk result (λ entries. IsLegal (messages_in entries.items)) }
     ensures counted { CountsSource result (F.faults files.old) (F.faults files.new) }
     ensures asked { AsksSource result (F.asked files.old) (F.asked files.new) (files_of node.now) }
     ensures contents { (n : List ℕ) → F.content files.new n ≡ F.content files.old n }
@@ -84,7 +85,7 @@ fn read_node<F: Files>(
 /// What was read of the sources so far: what each node has to give, and the sources that aren't accepted.
 #[derive(Drop)]
 struct ReadSoFar {
-    left: Vec<Queue>,
+    left: Vec<Entries>,
     faulty: Vec<FaultySource>,
 }
 
@@ -94,15 +95,15 @@ impl ReadSoFar {
         &mut self,
         alloc: Global,
         place: usize,
-        read: Result<Vec<Message>, Unread>,
+        read: Result<Vec<Option<Message>>, Unread>,
     ) -> Result<(), SourcesFault>
         ensures noted { OnOk result (Notes read self.old self.new place) }
         ensures fault { PassesOn result read }
     {
         match read {
-            Ok(messages) => self.push(Queue::from_vec(messages)),
+            Ok(entries) => self.push(Entries::from_vec(entries)),
             Err(Unread::Refused(refusal)) => {
-                self.push(Queue::from_vec(Vec::new(alloc)))?;
+                self.push(Entries::from_vec(Vec::new(alloc)))?;
                 self.blame(FaultySource { place, refusal })
             }
             Err(Unread::Failed) => Err(SourcesFault::Read),
@@ -110,7 +111,7 @@ impl ReadSoFar {
         }
     }
 
-    fn push(&mut self, left: Queue) -> Result<(), SourcesFault>
+    fn push(&mut self, left: Entries) -> Result<(), SourcesFault>
         ensures pushed { OnOk result ((self.new.left.items ≡ self.old.left.items ++ left ∷ []) × (self.new.faulty.items ≡ self.old.faulty.items)) }
         ensures fault { OnErr result (IsErrOf result NoMemory) }
     {
@@ -131,15 +132,15 @@ impl ReadSoFar {
     }
 }
 
-/// Reads all sources of a plan, in its order. It answers what each node has to give, which is all messages of a source;
-/// or the sources that aren't accepted, each with its first fault. A source that isn't accepted doesn't keep the others
-/// from being read; a read that fails does. Each file is asked for once for each source that names it. O(n log n) in
-/// the bytes; no file is held as a whole beside its messages.
+/// Reads all sources of a plan, in its order. It answers what each node has to give, which is all messages of a source
+/// line by line; or the sources that aren't accepted, each with its first fault. A source that isn't accepted doesn't
+/// keep the others from being read; a read that fails does. Each file is asked for once for each source that names it.
+/// O(n log n) in the bytes; no file is held as a whole beside its entries.
 pub fn read_sources<F: Files>(
     alloc: Global,
     nodes: &[PlanNode],
     files: &mut F,
-) -> Result<Vec<Queue>, SourcesFault>
+) -> Result<Vec<Entries>, SourcesFault>
     requires { F.faults files.old < last_count }
     ensures answer { (told : List ℕ → List ℕ) → AreTold (F.content files.old) told (source_files nodes.now) → AnswersSources result told nodes.now }
     ensures sources { IfOk result (λ left. AreSources nodes.now left.items) }

@@ -10,14 +10,13 @@ use Rattle.change_laws.proofs.Legal.{changes-append, legal_first}
 use Rattle.cedr_table.specs.Operators.{Meaning}
 use Rattle.node_laws.specs.Lists.{Lists, with_more}
 use Rattle.node_laws.specs.Lawful.{any_broken, all_over, has_broken, lists_after, no_lists, IsLawful, IsRight, Step}
-use Rattle.node_laws.proofs.Ends.{ends_broken}
+use Rattle.node_laws.proofs.Ends.{ends_broken, unbroken_front}
 use Rattle.node_laws.proofs.Giving.{by_steps}
 use Rattle.cedr_node.proofs.Goes.{lawful_push}
 use Rattle.plan_runs.specs.Runs.{ArePrefixes, IsPrefix}
 use Rattle.plan_runs.proofs.Partial.{prefixes_itself}
 use Rattle.plan_threads.specs.SoFar.{unbroken}
 use Rattle.cedr_worker.proofs.WorkLemmas.{prefixes_more}
-use Rattle.cedr_worker.proofs.EndLemmas.{unbroken_front}
 
 -- they are all messages of a list that isn't broken
 pub unbroken_all : (ms : List Message) → has_broken ms ≡ false → unbroken ms ≡ ms

@@ -17,13 +17,12 @@ use Rattle.cedr_plan.specs.declared.plan.NodeKind.TheVariants as kind
 use Rattle.cedr_plan.specs.declared.plan.PlanNode.{PlanNode}
 use Rattle.cedr_plan.specs.Drawn.{node_of}
 use Rattle.cedr_plan.specs.Rules.{AreNodes, IsNode}
-use Rattle.cedr_query.specs.Queries.{is_output, source_count}
-use Rattle.cedr_query.proofs.NodeLemmas.{inputs_are}
+use Rattle.cedr_plan.specs.Places.{is_output, is_source, source_count}
+use Rattle.cedr_plan.proofs.PlaceLemmas.{inputs_are}
 use Rattle.plan_runs.specs.Runs.{ArePrefixes, IsPartialRun, input_lists, sources_in}
 use Rattle.plan_runs.proofs.Partial.{prefixes_itself, source_at}
 use Rattle.op_node.specs.Meanings.{meaning_of, node_meaning, port_levels}
 use Rattle.op_node.specs.Outputs.{handed_on}
-use Rattle.op_node.specs.Ready.{is_source}
 use Rattle.op_node.specs.ReadyLaws.{node_ready}
 use Rattle.plan_threads.specs.SoFar.{unbroken}
 use Rattle.plan_threads.proofs.CutLemmas.{IsCut, prefixes_before, unbroken_first, unbroken_legal, unbroken_none}

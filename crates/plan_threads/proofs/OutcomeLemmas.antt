@@ -1,6 +1,6 @@
 -- How a run ended.
 use Rattle.std.proofs.Common.{◌≡◌, ℕ, zero, suc, ◌+◌, Bool, true, false, ◌||◌, List, [], ◌∷◌, ◌++◌, length, map, Result, Ok, Err, refl, sym, ap, ◌∙◌, subst, arith}
-use Rattle.std.specs.Prelude.{Option, IfOk, is_err}
+use Rattle.std.specs.Prelude.{Option, IfOk, OnOk, is_err}
 use Rattle.std.specs.Result.{result_unwrap_or}
 use Rattle.std.specs.List.{list_any}
 use Rattle.cedr_worker.specs.declared.source.SourceEnd.{SourceEnd}
@@ -8,13 +8,15 @@ use Rattle.cedr_worker.specs.declared.stop.SourceStop.{SourceStop}
 use Rattle.cedr_worker.specs.declared.stop.SourceStop.TheVariants as stop
 use Rattle.cedr_guard.specs.declared.refusal.Refusal.{Refusal}
 use Rattle.cedr_plan.specs.declared.plan.PlanNode.{PlanNode}
-use Rattle.op_node.specs.Ready.{is_source}
+use Rattle.cedr_plan.specs.Places.{is_source}
 use Rattle.plan_answer.specs.Sources.{fault_here, faulty_from}
 use Rattle.plan_workers.specs.Stopping.{is_short, is_unread, stop_in}
 use Rattle.plan_workers.specs.Tellings.{is_faulty, node_faults}
 use Rattle.plan_workers.specs.Wents.{HaveClosed}
 use Rattle.plan_workers.proofs.EndLemmas.{faults_other, faults_source}
-use Rattle.plan_threads.specs.Reports.{source_lacked, source_refused}
+use Rattle.plan_threads.specs.declared.report.Outcome.{Outcome}
+use Rattle.plan_threads.specs.declared.report.Outcome.TheVariants as outcome
+use Rattle.plan_threads.specs.Reports.{HasOutcome, source_lacked, source_refused}
 
 -- a source for which memory was found, of which no read was refused and which has no fault, closed
 has_closed : (s : SourceStop) → is_short s ≡ false → is_unread s ≡ false → is_faulty s ≡ false → s ≡ stop.Closed
@@ -37,6 +39,19 @@ right_false true b none = absurd (cc none)
 pub ok_value : {T E : Type 0} (Q : T → Type 0) (r : Result T E) (d v : T) → IfOk r Q → v ≡ result_unwrap_or r d → is_err r ≡ false → Q v
 ok_value Q (Ok x) d v holds is none = subst Q (sym is) holds
 ok_value Q (Err e) d v holds is none = absurd (cc none)
+
+-- where memory was lacking that is the outcome
+short_is : {S : Type 0} (nodes : List PlanNode) (ends : List (SourceEnd S)) (o : Outcome) → HasOutcome nodes ends true o → o ≡ outcome.Memory
+short_is nodes ends outcome.Memory h = refl
+short_is nodes ends outcome.Done h = absurd (cc h.0)
+short_is nodes ends outcome.Read h = absurd (cc h.0)
+short_is nodes ends (outcome.Events faulty) h = absurd (cc h.0)
+
+-- so it is after something that lacked memory, where an answer says that nothing did
+pub short_outcome : {S T E : Type 0} (lacked : Bool) (nodes : List PlanNode) (ends : List (SourceEnd S)) (a : Bool) (r : Result T E) (o : Outcome) → HasOutcome nodes ends (a || is_err r) o → OnOk r (lacked ≡ false) → lacked ≡ true → o ≡ outcome.Memory
+short_outcome lacked nodes ends a (Ok x) o h found short = absurd (cc (found, short))
+short_outcome lacked nodes ends true (Err e) o h found short = short_is nodes ends o h
+short_outcome lacked nodes ends false (Err e) o h found short = short_is nodes ends o h
 
 -- each source closed
 pub all_closed : {S : Type 0} (ends : List (SourceEnd S)) → list_any source_lacked ends ≡ false → list_any source_refused ends ≡ false → list_any is_faulty (map stop_in ends) ≡ false → HaveClosed ends

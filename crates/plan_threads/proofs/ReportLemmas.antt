@@ -12,12 +12,12 @@ use Rattle.node_laws.specs.Pass.{pass}
 use Rattle.plan_runs.proofs.PlanNodes.{split}
 use Rattle.cedr_plan.specs.declared.plan.Plan.{Plan}
 use Rattle.cedr_plan.specs.Rules.{IsPlan}
-use Rattle.cedr_query.specs.Queries.{output_place, source_count}
-use Rattle.cedr_query.proofs.PlaceLemmas.{place_within, output_stands}
+use Rattle.cedr_plan.specs.Places.{output_place, source_count}
+use Rattle.cedr_plan.proofs.PlaceLemmas.{output_stands, place_within}
 use Rattle.plan_runs.specs.Runs.{lists_at}
 use Rattle.plan_runs.specs.Without.{forgot_in}
-use Rattle.plan_edges.specs.Wires.{carried, ports_of}
-use Rattle.cedr_edge.specs.Ends.{taken_of}
+use Rattle.plan_edges.specs.Wires.{carried, froms, ports_of}
+use Rattle.cedr_edge.specs.Ends.{Carried, taken_of}
 use Rattle.cedr_worker.specs.declared.ran.Ran.{Ran}
 use Rattle.cedr_worker.specs.declared.source.SourceEnd.{SourceEnd}
 use Rattle.plan_workers.specs.declared.ended.Part.{Part}
@@ -40,6 +40,10 @@ use Rattle.plan_workers.proofs.WentLemmas.{all_gave, all_went, went_run}
 use Rattle.plan_threads.specs.declared.report.Outcome.{Outcome}
 use Rattle.plan_threads.specs.Reports.{HasOutcome, HaveEnded, IsReport}
 use Rattle.plan_threads.proofs.OutcomeLemmas.{left_false, right_false}
+
+-- edges over which went a list for each of some places are as many as these
+one_each : (edges : List Carried) (places : List ℕ) (given : Lists) → map (λ (e : Carried). e.sent) edges ≡ map (list_at given) places → length edges ≡ length places
+one_each edges places given same = sym (length-map edges (λ (e : Carried). e.sent)) ∙ (ap length same ∙ length-map places (list_at given))
 
 module _ {S R : Type 0} (rest : S → Option (List ℕ)) (faults : S → ℕ) (plan : Plan) (sources : List S) (history : Book) (closed : Closed S R) (is : IsPlan plan) (h : HaveEnded rest faults plan.nodes.items sources history closed) where
   -- the lists on the ports are those that the workers took
@@ -103,6 +107,7 @@ module _ {S R : Type 0} (rest : S → Option (List ℕ)) (faults : S → ℕ) (p
         given = all.given;
         lacks = lacked_at h.ends;
         count = ap length sorted ∙ sources_count;
+        edges = one_each closed.edges.items (froms plan.nodes.items) all.given (h.edges.sent all.given all.sent);
         went = went;
         ran = subst (λ (rs : List Ran). AreRan plan.nodes.items closed.edges.items rs) (sym h.ran) ran;
         short = a || b;

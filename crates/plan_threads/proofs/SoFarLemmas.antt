@@ -24,16 +24,14 @@ use Rattle.cedr_plan.specs.declared.plan.Plan.{Plan}
 use Rattle.cedr_plan.specs.declared.plan.PlanNode.{PlanNode}
 use Rattle.cedr_plan.specs.Drawn.{node_of}
 use Rattle.cedr_plan.specs.Rules.{AreNodes, IsNode, IsPlan}
-use Rattle.cedr_query.specs.Queries.{is_output, output_place}
-use Rattle.cedr_query.proofs.NodeLemmas.{inputs_are}
-use Rattle.cedr_query.proofs.PlaceLemmas.{output_stands, place_within}
+use Rattle.cedr_plan.specs.Places.{is_output, is_source, output_place}
+use Rattle.cedr_plan.proofs.PlaceLemmas.{inputs_are, output_stands, place_within}
 use Rattle.plan_runs.specs.Runs.{input_lists, lists_at}
 use Rattle.plan_edges.specs.Wires.{carried, ports_of}
 use Rattle.cedr_edge.specs.Ends.{taken_of}
 use Rattle.cedr_worker.specs.declared.source.SourceEnd.{SourceEnd}
 use Rattle.cedr_worker.specs.Stops.{last_at}
 use Rattle.op_node.specs.Meanings.{meaning_of, port_levels}
-use Rattle.op_node.specs.Ready.{is_source}
 use Rattle.plan_workers.specs.declared.ending.Closed.{Closed}
 use Rattle.plan_workers.specs.declared.held.HeldWriter.{HeldWriter}
 use Rattle.plan_workers.specs.Sortings.{source_ends_in, writers_in}

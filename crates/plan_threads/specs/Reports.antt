@@ -4,10 +4,10 @@ use Rattle.std.specs.List.{list_any}
 use Rattle.cedr_base.specs.Messages.{changes_of}
 use Rattle.node_laws.specs.Lists.{Lists, list_at}
 use Rattle.cedr_plan.specs.declared.plan.PlanNode.{PlanNode}
-use Rattle.cedr_query.specs.Queries.{output_place, source_count}
+use Rattle.cedr_plan.specs.Places.{output_place, source_count}
 use Rattle.plan_runs.specs.Runs.{IsRun, sources_in}
 use Rattle.plan_runs.specs.Without.{forgot_in}
-use Rattle.plan_edges.specs.Wires.{AreClosed, AreWired, carried, ports_of}
+use Rattle.plan_edges.specs.Wires.{AreClosed, AreWired, carried, froms, ports_of}
 use Rattle.logbook.specs.Pages.{Book}
 use Rattle.cedr_edge.specs.Ends.{InEnd, OutEnd}
 use Rattle.cedr_worker.specs.declared.source.SourceEnd.{SourceEnd}
@@ -66,11 +66,13 @@ pub record IsDone {S : Type 0} (nodes : List PlanNode) (given : Lists) (report :
   pub forgotten : map port_forgot report.forgotten.items ≡ nodes_forgot 0 (forgot_in nodes (ports_of nodes (carried report.edges.items)))
   pub changes : report.changes.items ≡ changes_of (list_at given (output_place nodes))
 
--- What went over the edges, by the node that gave it, what the turns of each worker did, and how the run ended by that.
+-- What went over the edges, one for each port, by the node that gave it, what the turns of each worker did, and how the run ended
+-- by that.
 pub record IsReport {S : Type 0} (rest : S → Option (List ℕ)) (faults : S → ℕ) (nodes : List PlanNode) (sources : List S) (report : Report S) : Type 0 where
   pub given : Lists
   pub lacks : ℕ → Bool
   pub count : length report.sources.items ≡ source_count nodes
+  pub edges : length report.edges.items ≡ length (froms nodes)
   pub went : Went rest faults nodes sources (ports_of nodes (carried report.edges.items)) given lacks report.sources.items
   pub ran : AreRan nodes report.edges.items report.ran.items
   pub short : Bool

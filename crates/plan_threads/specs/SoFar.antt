@@ -8,11 +8,10 @@ use Rattle.cedr_base.specs.declared.change.Message.TheVariants as message
 use Rattle.cedr_base.specs.Messages.{changes_of}
 use Rattle.node_laws.specs.Lists.{Lists, list_at}
 use Rattle.cedr_plan.specs.declared.plan.PlanNode.{PlanNode}
-use Rattle.cedr_query.specs.Queries.{output_place, source_count}
+use Rattle.cedr_plan.specs.Places.{is_source, output_place, source_count}
 use Rattle.plan_runs.specs.Runs.{IsPartialRun, sources_in}
 use Rattle.cedr_worker.specs.declared.source.SourceEnd.{SourceEnd}
 use Rattle.plan_workers.specs.Wents.{SourceWent}
-use Rattle.op_node.specs.Ready.{is_source}
 
 -- the messages before the first break
 abbrev pub unbroken : List Message → List Message

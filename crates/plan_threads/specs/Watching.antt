@@ -1,5 +1,5 @@
 -- One who reads the result while it grows.
-use Rattle.std.specs.Prelude.{◌≡◌, List}
+use Rattle.std.specs.Prelude.{◌≡◌, Bool, true, false, List}
 use mathlib.Core.List.{IsPrefix}
 use Rattle.cedr_base.specs.declared.change.Change.{Change}
 use Rattle.cedr_history.specs.Ends.{ReaderSeen}
@@ -14,3 +14,7 @@ pub record ReadsOn (old new : ReaderSeen) : Type 0 where
 -- a watcher that stands for first changes of what the reader has seen, by what it reported of them
 abbrev pub Watches : {W O : Type 0} → (W → O → List Change → Type 0) → W → O → ReaderSeen → Type 0
 Watches stands watcher out reads = (list : List Change) × stands watcher out list × IsPrefix list reads.seen.changes
+
+-- a watcher that lacked memory isn't asked again
+abbrev pub IsAskedNoMore : Bool → Bool → Type 0
+IsAskedNoMore lacked asked = lacked ≡ true → asked ≡ false

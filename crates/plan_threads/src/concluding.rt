@@ -6,7 +6,7 @@ ghost use Rattle.node_laws.specs.Lists.{Lists};
 ghost use Rattle.plan_runs.specs.Without.{forgot_in};
 ghost use Rattle.plan_workers.specs.Forgettings.{AllTook};
 ghost use Rattle.plan_answer.specs.Forgettings.{nodes_forgot, port_forgot};
-ghost use Rattle.plan_threads.specs.Watching.{ReadsOn, Watches};
+ghost use Rattle.plan_threads.specs.Watching.{IsAskedNoMore, ReadsOn, Watches};
 
 use crate::watcher::Watcher;
 use crate::watching::{look_on, read_all, see};
@@ -50,6 +50,7 @@ fn look_to_end<W: Watcher, R: Wait>(
     ensures reads { ReadsOn reader.old reader.new }
     ensures watches { Watches (W.stands start.now.value) watcher.new out.new reader.new }
     ensures whole { OnOk result (IfSome reader.old.last (λ l. W.stands start.now.value watcher.new out.new l.changes)) }
+    ensures found { OnOk result (IsAskedNoMore (W.lacked watcher.old) looks → W.lacked watcher.new ≡ false) }
 {
     if !looks {
         return Err(OutOfMemory);
@@ -75,6 +76,7 @@ pub(crate) fn conclude<W: Watcher, R: Wait + Drop, Q: Wait>(
     ensures changes { IfOk result (λ changes. changes.items ≡ held.writer.published.changes) }
     ensures whole { OnOk result (W.stands start.now.value watcher.new out.new held.writer.published.changes) }
     ensures watches { (list : List Changed) × W.stands start.now.value watcher.new out.new list × IsPrefix list held.writer.published.changes }
+    ensures found { OnOk result (IsAskedNoMore (W.lacked watcher.old) looks → W.lacked watcher.new ≡ false) }
 {
     let mut held = held;
     let mut reader = reader;

@@ -19,6 +19,8 @@ mod seat;
 mod watcher;
 mod watching;
 
+pub use plan_answer::PortForgotten;
+pub use plan_workers::NoMemory;
 pub use report::{Outcome, Report};
 pub use run::run_threads;
 pub use seat::Started;

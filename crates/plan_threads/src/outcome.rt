@@ -1,7 +1,7 @@
 ghost use Rattle.std.specs.Prelude.{◌≡◌, ◌≤◌, ◌+◌, ◌++◌, ◌^◌, [], length, map};
 ghost use Rattle.std.specs.List.{list_any};
 ghost use Rattle.std.specs.Vec.{vec_capacity};
-ghost use Rattle.cedr_query.specs.Queries.{source_count};
+ghost use Rattle.cedr_plan.specs.Places.{source_count};
 ghost use Rattle.plan_answer.specs.Sources.{fault_here, faulty_from};
 ghost use Rattle.plan_workers.specs.Stopping.{is_short, is_unread};
 ghost use Rattle.plan_workers.specs.Tellings.{fault_of, node_faults, refusal_in};
@@ -10,9 +10,8 @@ ghost use Rattle.plan_threads.specs.Reports.{HasOutcome, source_lacked, source_r
 use crate::report::Outcome;
 use cedr_guard::Refusal;
 use cedr_io::Source;
-use cedr_plan::PlanNode;
+use cedr_plan::{PlanNode, is_source};
 use cedr_worker::{SourceEnd, SourceStop};
-use op_node::is_source;
 use plan_answer::FaultySource;
 
 fn lacks(stop: SourceStop) -> bool

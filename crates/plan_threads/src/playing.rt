@@ -1,10 +1,10 @@
 //! All workers of a plan, from the start of their threads until each has ended.
-ghost use Rattle.std.specs.Prelude.{◌≡◌, ◌≤◌, [], List, length};
+ghost use Rattle.std.specs.Prelude.{◌≡◌, ◌≤◌, [], List, false, length};
 ghost use Rattle.std.specs.List.{All};
 ghost use Rattle.std.specs.Vec.{vec_capacity};
 ghost use Rattle.plan_workers.specs.Roles.{Role, AllWorkAs, HasEnded};
 ghost use Rattle.plan_threads.specs.Seats.{AllSeatAs};
-ghost use Rattle.plan_threads.specs.Watching.{ReadsOn, Watches};
+ghost use Rattle.plan_threads.specs.Watching.{IsAskedNoMore, ReadsOn, Watches};
 
 use crate::post::Post;
 use crate::rounds::{join_each, start_each, turn_here, turn_on};
@@ -45,6 +45,7 @@ fn wait_for_each<S: Source + Drop, G: Gate, W: Watcher, R: Wait + Drop, Q: Wait 
     ensures seats { (roles : List Role) → AllSeatAs S.rest S.faults roles seats.old.items → AllSeatAs S.rest S.faults roles seats.new.items }
     ensures reads { ReadsOn reader.old reader.new }
     ensures watches { Watches (W.stands start.now.value) watcher.new out.new reader.new }
+    ensures asked { W.lacked watcher.old ≡ false → IsAskedNoMore (W.lacked watcher.new) result }
 {
     let away = count_away(seats.as_slice()) as u64;
     let mut looks = true;
@@ -101,6 +102,7 @@ pub(crate) fn play<
     ensures ended { All HasEnded result.workers.items }
     ensures reads { ReadsOn reader.old reader.new }
     ensures watches { Watches (W.stands start.now.value) watcher.new out.new reader.new }
+    ensures asked { W.lacked watcher.old ≡ false → IsAskedNoMore (W.lacked watcher.new) result.looks }
 {
     let mut seats = seats;
     let mut joined = joined;

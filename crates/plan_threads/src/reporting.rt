@@ -1,11 +1,11 @@
-ghost use Rattle.std.specs.Prelude.{◌≡◌, ◌≤◌, [], List, length};
+ghost use Rattle.std.specs.Prelude.{◌≡◌, ◌≤◌, [], List, true, length};
 ghost use Rattle.std.specs.Vec.{vec_capacity};
 ghost use Rattle.cedr_base.specs.declared.change.Change.{Change};
 ghost use Rattle.cedr_plan.specs.Rules.{IsPlan};
-ghost use Rattle.plan_threads.specs.declared.report.Outcome.TheVariants.{Done};
+ghost use Rattle.plan_threads.specs.declared.report.Outcome.TheVariants.{Done, Memory};
 ghost use Rattle.plan_threads.specs.Reports.{HaveEnded, IsReport};
 ghost use Rattle.plan_threads.specs.SoFar.{IsSoFar};
-ghost use Rattle.plan_threads.specs.Watching.{Watches};
+ghost use Rattle.plan_threads.specs.Watching.{IsAskedNoMore, Watches};
 
 use crate::concluding::{conclude, tell_unless};
 use crate::outcome::outcome_of;
@@ -44,6 +44,7 @@ pub(crate) fn report_on<S: Source + Drop, W: Watcher, R: Wait + Drop, Q: Wait>(
     ensures report { (given : List S) → HaveEnded S.rest S.faults plan.now.nodes.items given reader.history closed → IsReport S.rest S.faults plan.now.nodes.items given result }
     ensures so_far { (given : List S) → HaveEnded S.rest S.faults plan.now.nodes.items given reader.history closed → (list : List Change) × (W.stands start.now.value watcher.new out.new list × IsSoFar S.rest S.faults plan.now.nodes.items given result.sources.items list) }
     ensures whole { result.outcome ≡ Done → W.stands start.now.value watcher.new out.new result.changes.items }
+    ensures short { IsAskedNoMore (W.lacked watcher.old) looks → W.lacked watcher.new ≡ true → result.outcome ≡ Memory }
 {
     workers_went::<S, R>();
     let Closed { edges, ran, parts } = closed;

@@ -1,8 +1,8 @@
-ghost use Rattle.std.specs.Prelude.{◌≡◌, [], List, IfErr, IfOk, OnErr, length};
+ghost use Rattle.std.specs.Prelude.{◌≡◌, [], List, true, false, IfErr, IfOk, OnErr, length};
 ghost use Rattle.cedr_base.specs.declared.change.Change.{Change};
 ghost use Rattle.cedr_plan.specs.Rules.{IsPlan};
-ghost use Rattle.cedr_query.specs.Queries.{source_count};
-ghost use Rattle.plan_threads.specs.declared.report.Outcome.TheVariants.{Done};
+ghost use Rattle.cedr_plan.specs.Places.{source_count};
+ghost use Rattle.plan_threads.specs.declared.report.Outcome.TheVariants.{Done, Memory};
 ghost use Rattle.plan_threads.specs.Reports.{IsReport};
 ghost use Rattle.plan_threads.specs.SoFar.{IsSoFar};
 
@@ -23,7 +23,7 @@ use std::time::Clock;
 /// Runs a plan over sources, one for each of its source nodes in order, with a thread for each worker. The watcher
 /// looks at the result while it grows, and reports it to `out`. It stands for the whole of it at
 /// [`crate::Outcome::Done`], and at any outcome for first changes of what the output gives in a partial run over what
-/// was read of the sources.
+/// was read of the sources. Where a look lacked memory the outcome is [`crate::Outcome::Memory`].
 ///
 /// All edges, the ends of the result and the lists for the threads are made before anything is read; where memory is lacking
 /// for them the sources are handed back. A worker whose thread is refused is turned by the caller, beside the looks of the
@@ -49,6 +49,7 @@ pub fn run_threads<
     ensures report { IfOk result (λ report. IsReport S.rest S.faults plan.now.nodes.items sources.items report) }
     ensures so_far { IfOk result (λ report. (list : List Change) × (W.stands out.old watcher.new out.new list × IsSoFar S.rest S.faults plan.now.nodes.items sources.items report.sources.items list)) }
     ensures whole { IfOk result (λ report. report.outcome ≡ Done → W.stands out.old watcher.new out.new report.changes.items) }
+    ensures short { W.lacked watcher.old ≡ false → W.lacked watcher.new ≡ true → IfOk result (λ report. report.outcome ≡ Memory) }
     ensures err { IfErr result (λ e. e.sources.items ≡ sources.items) }
     ensures unwatched { OnErr result ((watcher.new ≡ watcher.old) × (out.new ≡ out.old)) }
 {

@@ -1,6 +1,6 @@
 //! What the one who started the threads sees of the result.
 ghost use Rattle.std.specs.Prelude.{◌≡◌, IfOk, IfSome, OnOk};
-ghost use Rattle.plan_threads.specs.Watching.{ReadsOn, Watches};
+ghost use Rattle.plan_threads.specs.Watching.{IsAskedNoMore, ReadsOn, Watches};
 
 use crate::watcher::Watcher;
 use cedr_base::{Change, OutOfMemory};
@@ -21,6 +21,7 @@ pub(crate) fn look_once<W: Watcher>(
     requires { Watches (W.stands start.now.value) watcher.old out.old reader.old }
     ensures reads { ReadsOn reader.old reader.new }
     ensures watches { Watches (W.stands start.now.value) watcher.new out.new reader.new }
+    ensures asked { IsAskedNoMore (W.lacked watcher.old) looks → IsAskedNoMore (W.lacked watcher.new) result }
 {
     if !looks {
         return false;
@@ -58,6 +59,7 @@ pub(crate) fn look_on<W: Watcher, R: Wait>(
     ensures reads { ReadsOn reader.old reader.new }
     ensures watches { Watches (W.stands start.now.value) watcher.new out.new reader.new }
     ensures whole { OnOk result (IfSome reader.old.last (λ l. W.stands start.now.value watcher.new out.new l.changes)) }
+    ensures found { OnOk result (W.lacked watcher.new ≡ W.lacked watcher.old) }
 {
     let backoff = Backoff::new();
     for _ in rt.forever() {

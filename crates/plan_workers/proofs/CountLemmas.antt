@@ -12,9 +12,8 @@ use Rattle.cedr_edge.specs.Ends.{OutEnd}
 use Rattle.node_laws.specs.Lists.{Lists}
 use Rattle.cedr_plan.specs.declared.plan.NodeKind.{NodeKind}
 use Rattle.cedr_plan.specs.declared.plan.NodeKind.TheVariants as kind
-use Rattle.cedr_query.specs.Queries.{source_count}
+use Rattle.cedr_plan.specs.Places.{is_source, source_count}
 use Rattle.plan_answer.proofs.FindLemmas.{count_more}
-use Rattle.op_node.specs.Ready.{is_source}
 use Rattle.cedr_plan.specs.declared.plan.PlanNode.{PlanNode}
 use Rattle.plan_workers.proofs.MakeLemmas.{output_no_source}
 

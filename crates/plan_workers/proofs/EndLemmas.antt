@@ -12,7 +12,7 @@ use Rattle.cedr_guard.specs.Sources.{judged, messages_of}
 use Rattle.cedr_io.specs.Counts.{count_sum, last_count}
 use Rattle.node_laws.specs.Lists.{Lists, list_at}
 use Rattle.cedr_plan.specs.declared.plan.PlanNode.{PlanNode}
-use Rattle.cedr_query.specs.Queries.{source_count}
+use Rattle.cedr_plan.specs.Places.{is_source, source_count}
 use Rattle.plan_runs.specs.Runs.{sources_in}
 use Rattle.plan_answer.specs.Sources.{AllHaveGiven, AreRead, AreTold, HasGiven, fault_here, faulty_from, file_of, source_files}
 use Rattle.plan_answer.specs.declared.faulty.FaultySource.{FaultySource}
@@ -21,7 +21,6 @@ use Rattle.cedr_worker.specs.declared.source.SourceEnd.{SourceEnd}
 use Rattle.cedr_worker.specs.declared.stop.SourceStop.{SourceStop}
 use Rattle.cedr_worker.specs.declared.stop.SourceStop.TheVariants as stop
 use Rattle.cedr_worker.specs.Stops.{CountedSo, StoppedAs, meant}
-use Rattle.op_node.specs.Ready.{is_source}
 use Rattle.plan_answer.specs.Finds.{AreFound, count_with}
 use Rattle.plan_workers.specs.Stopping.{is_short, is_unread, stop_in}
 use Rattle.plan_workers.specs.Tellings.{AreEnded, IsJudged, fault_of, is_faulty, refusal_in, node_faults, source_left_in, source_lists}

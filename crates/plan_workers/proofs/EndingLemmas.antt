@@ -55,9 +55,9 @@ none_over (e ∷ es) none k d less = absurd (cc none)
 pub source_ends : {S R : Type 0} (rest : S → Option (List ℕ)) (faults : S → ℕ) (role : Role) (w : SourceWorker S) (e : SourceEnd S) (empty : Vec OutEnd Global) (takers : List InEnd) (putters : List OutEnd)
     → ReadsAs rest faults role w → SourceEnds rest faults role.shape role.content role.count e → empty.items ≡ [] → takers ≡ [] → putters ≡ e.outputs.items
     → map end_edge e.outputs.items ≡ map outlet_edge w.outlets → map end_sent e.outputs.items ≡ map sent_of w.outlets
-    → (e.ran.number ≡ w.number) × (e.ran.taken ≡ 0) × (e.ran.put ≡ as_u64 (sent_count w.outlets))
+    → (e.ran.number ≡ w.number) × (e.ran.taken ≡ 0) × (e.ran.put ≡ as_u64 (sent_count w.outlets)) → e.number ≡ w.number
     → EndsAs {S = S} {R = R} rest faults role (record { takers = takers; putters = putters; ran = e.ran; part = part.Source (record e { outputs = empty }) })
-source_ends rest faults role w e empty takers putters reads ends nothing none puts edges sent ran = record {
+source_ends rest faults role w e empty takers putters reads ends nothing none puts edges sent ran number = record {
   number = ran.0 ∙ reads.number;
   takes = ap (map in_edge) none ∙ sym reads.takes;
   puts = ap (map out_edge) puts ∙ (edges ∙ reads.puts);
@@ -68,8 +68,11 @@ source_ends rest faults role w e empty takers putters reads ends nothing none pu
     kind = reads.kind;
     types = reads.types;
     takes = reads.takes;
+    number = number ∙ reads.number;
+    outputs = nothing;
     ends = record {
       bytes = ends.bytes;
+      few = ends.few;
       given = ends.given;
       ended = ends.ended;
       read = ends.read;

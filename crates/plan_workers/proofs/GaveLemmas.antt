@@ -16,7 +16,7 @@ use Rattle.cedr_plan.specs.declared.plan.NodeKind.TheVariants as kind
 use Rattle.cedr_plan.specs.declared.plan.PlanNode.{PlanNode}
 use Rattle.cedr_plan.specs.Drawn.{Node as DrawnNode, node_of}
 use Rattle.node_laws.specs.Pass.{pass}
-use Rattle.cedr_query.specs.Queries.{is_output}
+use Rattle.cedr_plan.specs.Places.{is_output, is_source}
 use Rattle.cedr_text.specs.Shapes.{ShapeHasTypes}
 use Rattle.cedr_text.specs.declared.event_line.Shape.{Shape}
 use Rattle.cedr_worker.specs.declared.source.SourceEnd.{SourceEnd}
@@ -25,7 +25,6 @@ use Rattle.cedr_worker.specs.Sources.{SourceEnds}
 use Rattle.cedr_worker.specs.Stops.{last_at}
 use Rattle.op_node.specs.Meanings.{meaning_of, port_levels}
 use Rattle.op_node.proofs.ReadyMeanings.{alike}
-use Rattle.op_node.specs.Ready.{is_source}
 use Rattle.plan_workers.specs.declared.ended.Part.{Part}
 use Rattle.plan_workers.specs.declared.ended.Part.TheVariants as part
 use Rattle.plan_workers.specs.Ends.{OperatorEndsAs, PartEndsAs}
@@ -40,10 +39,12 @@ pub record SourceGave {S : Type 0} (rest : S → Option (List ℕ)) (faults : S 
   pub ends : SourceEnds rest faults shape content count end
   pub given_is : given ≡ ends.given ++ last_message (last_at end.stop) ∷ []
 
--- a part is what is left of a source
+-- a part is what is left of a source, whose end has the worker's number and no edges
 pub record SourcePart {S R : Type 0} (rest : S → Option (List ℕ)) (faults : S → ℕ) (role : Role) (left : Part S R) (given : List Message) : Type 0 where
   pub end : SourceEnd S
   pub alone : source_left left ≡ end ∷ []
+  pub number : end.number ≡ role.number
+  pub outputs : end.outputs.items ≡ []
   pub gave : SourceGave rest faults role.node role.content role.count end given
 
 -- The list that a worker gave over each edge that comes from its node, where these lists came on its ports.
@@ -96,7 +97,7 @@ pub gave : {S R : Type 0} (rest : S → Option (List ℕ)) (faults : S → ℕ) 
 gave rest faults role lists putters (part.Source end) is = record {
   given = is.ends.given ++ last_message (last_at end.stop) ∷ [];
   sent = is.sent;
-  source = λ source. record { end = end; alone = refl; gave = record { shape = role.shape; types = is.types; ends = is.ends; given_is = refl } };
+  source = λ source. record { end = end; alone = refl; number = is.number; outputs = is.outputs; gave = record { shape = role.shape; types = is.types; ends = is.ends; given_is = refl } };
   other = λ source. absurd (cc (source, is.kind));
   sound = λ source found. absurd (cc (source, is.kind));
   lost = λ source output lacked. absurd (cc (source, is.kind));

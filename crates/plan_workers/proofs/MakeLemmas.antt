@@ -8,14 +8,13 @@ use Rattle.logbook.specs.Pages.{Book}
 use Rattle.cedr_edge.specs.Ends.{InEnd, OutEnd}
 use Rattle.cedr_history.specs.Ends.{ReaderSeen}
 use Rattle.cedr_history.specs.Lists.{nothing}
-use Rattle.cedr_plan.specs.Drawn.{Node, node_of, is_output_node as is_drawn_output}
+use Rattle.cedr_plan.specs.Drawn.{Node, node_of}
+use Rattle.cedr_plan.specs.Places.{is_output, is_source, source_count}
 use Rattle.cedr_plan.specs.declared.plan.NodeKind.{NodeKind}
 use Rattle.cedr_plan.specs.declared.plan.NodeKind.TheVariants as kind
 use Rattle.cedr_plan.specs.declared.plan.PlanNode.{PlanNode}
-use Rattle.cedr_query.specs.Queries.{is_output, source_count}
-use Rattle.cedr_query.proofs.PlaceLemmas.{output_alike}
 use Rattle.plan_edges.specs.Wires.{AreWired}
-use Rattle.op_node.specs.Ready.{is_source, IsReady}
+use Rattle.op_node.specs.Ready.{IsReady}
 use Rattle.plan_workers.specs.declared.held.HeldWriter.{HeldWriter}
 use Rattle.plan_workers.specs.declared.worker.Worker.{Worker}
 use Rattle.plan_workers.specs.Crews.{IsCrew, content_in, count_in, source_roles}
@@ -26,12 +25,12 @@ use Rattle.plan_workers.specs.Roles.{Role}
 
 -- what a node adds to the number of outputs
 abbrev counted : Node → ℕ
-counted node = cond {A = ℕ} (is_drawn_output node) 1 0
+counted node = cond {A = ℕ} (is_output node.kind) 1 0
 
 -- how many outputs there are with one node more
-pub outputs_more : (n : PlanNode) (nodes : List PlanNode) → count_by is_drawn_output (map node_of (n ∷ nodes)) ≡ cond {A = ℕ} (is_output n.kind) 1 0 + count_by is_drawn_output (map node_of nodes)
+pub outputs_more : (n : PlanNode) (nodes : List PlanNode) → count_by (λ (node : Node). is_output node.kind) (map node_of (n ∷ nodes)) ≡ cond {A = ℕ} (is_output n.kind) 1 0 + count_by (λ (node : Node). is_output node.kind) (map node_of nodes)
 outputs_more n nodes =
-    sum_by-cons counted (node_of n) (map node_of nodes) ∙ ap {B = ℕ} (λ (b : Bool). cond {A = ℕ} b 1 0 + count_by is_drawn_output (map node_of nodes)) (output_alike n.kind (node_of n))
+    sum_by-cons counted (node_of n) (map node_of nodes)
 
 -- the writer is there for an output
 pub writer_there : {R : Type 0} (history : Book) (w : Option (HeldWriter R)) (n : PlanNode) (nodes : List PlanNode) → Awaits history w (n ∷ nodes) → is_output n.kind ≡ true → HasWriter history w
@@ -46,7 +45,7 @@ writer_behind {R} history w w' n nodes awaits gone same = by (is_output n.kind) 
     fewer None a isnt = let none = ap {B = ℕ} (λ (b : Bool). cond {A = ℕ} b 1 0) isnt in omega (arith, a, none, outputs_more n nodes)
     fewer (Some held) a isnt = let none = ap {B = ℕ} (λ (b : Bool). cond {A = ℕ} b 1 0) isnt in let most = a.1 in (a.0, omega (arith, most, none, outputs_more n nodes))
 
-    last : (v : Option (HeldWriter R)) → Awaits history v (n ∷ nodes) → is_output n.kind ≡ true → count_by is_drawn_output (map node_of nodes) ≡ 0
+    last : (v : Option (HeldWriter R)) → Awaits history v (n ∷ nodes) → is_output n.kind ≡ true → count_by (λ (node : Node). is_output node.kind) (map node_of nodes) ≡ 0
     last None a is = let one = ap {B = ℕ} (λ (b : Bool). cond {A = ℕ} b 1 0) is in omega (arith, a, one, outputs_more n nodes)
     last (Some held) a is = let one = ap {B = ℕ} (λ (b : Bool). cond {A = ℕ} b 1 0) is in let most = a.1 in omega (arith, most, one, outputs_more n nodes)
 

@@ -9,18 +9,16 @@ use Rattle.std.proofs.lemmas.List.Folds.{list_any-append, list_any_none}
 use Rattle.atomic_table.specs.Seated.{TableId}
 use Rattle.cedr_edge.specs.Ends.{InEnd, OutEnd}
 use Rattle.cedr_node.proofs.LevelLemmas.{within_memory}
-use Rattle.cedr_plan.specs.Drawn.{Node, node_of, is_output_node as is_drawn_output}
+use Rattle.cedr_plan.specs.Drawn.{Node, node_of}
+use Rattle.cedr_plan.specs.Places.{is_output, is_source}
 use Rattle.cedr_plan.specs.Operators.{operator_row}
 use Rattle.cedr_plan.specs.Rules.{IsInput, IsPlan, AreNodes, first_unused, is_read, operator_of_kind}
 use Rattle.cedr_plan.specs.declared.plan.NodeKind.{NodeKind}
 use Rattle.cedr_plan.specs.declared.plan.NodeKind.TheVariants as kind
 use Rattle.cedr_plan.specs.declared.plan.Plan.{Plan}
 use Rattle.cedr_plan.specs.declared.plan.PlanNode.{PlanNode}
-use Rattle.cedr_query.specs.Queries.{is_output}
-use Rattle.cedr_query.proofs.PlaceLemmas.{output_alike}
 use Rattle.plan_runs.proofs.PlanNodes.{node_stands}
 use Rattle.plan_edges.specs.Wires.{froms, node_ports, new_in, new_out, in_edge, out_edge, all_ends, edges_from, puts_at, AreWired, AreNew}
-use Rattle.op_node.specs.Ready.{is_source}
 use Rattle.op_node.specs.ReadyLaws.{node_ready}
 use Rattle.plan_workers.specs.Making.{CanWork, AllCanWork}
 
@@ -60,16 +58,15 @@ goes_on false rest k is = absurd (cc is)
 -- where none is unused, a node that is no output is read by a later one
 used_behind : (k place : ℕ) (before after : List PlanNode) (n : PlanNode) → k ≡ place + length before → first_unused place (map node_of (before ++ n ∷ after)) ≡ None → is_output n.kind ≡ false → is_read k (map node_of after) ≡ true
 used_behind k place [] after n at used isnt =
-    let here = (goes_on (is_drawn_output (node_of n) || is_read place (map node_of after)) (first_unused (place + 1) (map node_of after)) (place + 1) used).0 in
-    let other : is_drawn_output (node_of n) ≡ false = output_alike n.kind (node_of n) ∙ isnt in
+    let here = (goes_on (is_output n.kind || is_read place (map node_of after)) (first_unused (place + 1) (map node_of after)) (place + 1) used).0 in
     let same : place ≡ k = omega (arith, at) in
-    subst (λ (p : ℕ). is_read p (map node_of after) ≡ true) same (left_out (is_drawn_output (node_of n)) (is_read place (map node_of after)) other here)
+    subst (λ (p : ℕ). is_read p (map node_of after) ≡ true) same (left_out (is_output n.kind) (is_read place (map node_of after)) isnt here)
   where
     left_out : (a b : Bool) → a ≡ false → (a || b) ≡ true → b ≡ true
     left_out true b out is = absurd (cc out)
     left_out false b out is = is
 used_behind k place (b ∷ before) after n at used isnt =
-    used_behind k (place + 1) before after n (omega (arith, at)) (goes_on (is_drawn_output (node_of b) || is_read place (map node_of (before ++ n ∷ after))) (first_unused (place + 1) (map node_of (before ++ n ∷ after))) (place + 1) used).1 isnt
+    used_behind k (place + 1) before after n (omega (arith, at)) (goes_on (is_output b.kind || is_read place (map node_of (before ++ n ∷ after))) (first_unused (place + 1) (map node_of (before ++ n ∷ after))) (place + 1) used).1 isnt
 
 -- ---- no node reads the output
 
@@ -91,8 +88,8 @@ input_apart place n earlier later i input at is = ne_eqb i place apart
     apart : i ≢ place
     apart same =
         let there : slice_get earlier i ≡ Some (node_of n) = sym (at_front earlier later i input.0) ∙ (ap (λ (k : ℕ). slice_get (earlier ++ later) k) same ∙ at) in
-        let isnt : is_drawn_output (node_of n) ≡ false = subst (λ (o : Option Node). IfSome o (λ node. is_drawn_output node ≡ false)) there input.1 in
-        absurd (cc (isnt, output_alike n.kind (node_of n), is))
+        let isnt : is_output n.kind ≡ false = subst (λ (o : Option Node). IfSome o (λ node. is_output node.kind ≡ false)) there input.1 in
+        absurd (cc (isnt, is))
 
 -- no node reads an output
 unread : (place : ℕ) (n : PlanNode) (earlier : List Node) (nodes : List PlanNode) → AreNodes earlier (map node_of nodes) → slice_get (earlier ++ map node_of nodes) place ≡ Some (node_of n) → is_output n.kind ≡ true → is_among place (froms nodes) ≡ false

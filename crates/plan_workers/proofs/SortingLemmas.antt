@@ -14,14 +14,13 @@ use Rattle.cedr_edge.specs.Ends.{InEnd, OutEnd, taken_of}
 use Rattle.cedr_history.specs.declared.listed.Listed.{Listed}
 use Rattle.node_laws.specs.Lists.{Lists, list_at}
 use Rattle.node_laws.specs.Pass.{pass}
-use Rattle.cedr_plan.specs.Drawn.{Node as DrawnNode, node_of, is_output_node as is_drawn_output}
+use Rattle.cedr_plan.specs.Drawn.{Node as DrawnNode, node_of}
+use Rattle.cedr_plan.specs.Places.{is_output, is_source}
 use Rattle.cedr_plan.specs.Rules.{IsPlan}
 use Rattle.cedr_plan.specs.declared.plan.NodeKind.{NodeKind}
 use Rattle.cedr_plan.specs.declared.plan.Plan.{Plan}
 use Rattle.cedr_plan.specs.declared.plan.PlanNode.{PlanNode}
-use Rattle.cedr_query.specs.Queries.{is_output}
 use Rattle.plan_runs.specs.Runs.{lists_at}
-use Rattle.op_node.specs.Ready.{is_source}
 use Rattle.plan_workers.specs.declared.ended.Ended.{Ended}
 use Rattle.plan_workers.specs.declared.ended.Part.{Part}
 use Rattle.plan_workers.specs.declared.ended.Part.TheVariants as part
@@ -89,7 +88,7 @@ writer_count rest faults role lists putters (part.Operator node lacked) is = non
 writer_count rest faults role lists putters (part.Output node lacked held) is = ap (λ (b : Bool). cond {A = ℕ} b 1 0) (sym is.output)
 
 -- as many writers are left as there are outputs
-writers_count : {S R : Type 0} (rest : S → Option (List ℕ)) (faults : S → ℕ) (roles : List Role) (ends : List (Ended S R)) → AllEndAs rest faults roles ends → length (writers_in (map part_left ends)) ≡ count_by is_drawn_output (map node_of (map node_in roles))
+writers_count : {S R : Type 0} (rest : S → Option (List ℕ)) (faults : S → ℕ) (roles : List Role) (ends : List (Ended S R)) → AllEndAs rest faults roles ends → length (writers_in (map part_left ends)) ≡ count_by (λ (node : DrawnNode). is_output node.kind) (map node_of (map node_in roles))
 writers_count rest faults [] [] are = refl
 writers_count rest faults [] (e ∷ es) are = absurd are
 writers_count rest faults (r ∷ rs) [] are = absurd are
@@ -101,7 +100,7 @@ writers_count rest faults (r ∷ rs) (e ∷ es) are =
 pub one_writer : {S R : Type 0} (rest : S → Option (List ℕ)) (faults : S → ℕ) (plan : Plan) (takers : List (List InEnd)) (putters : List (List OutEnd)) (sources : List S) (history : Book) (roles : List Role) (ends : List (Ended S R))
     → IsPlan plan → AreRoles rest faults plan.nodes.items takers putters sources history roles → AllEndAs rest faults roles ends → length (writers_in (map part_left ends)) ≡ 1
 one_writer rest faults plan takers putters sources history roles ends is are ended =
-    writers_count rest faults roles ends ended ∙ (ap (λ (ns : List PlanNode). count_by is_drawn_output (map node_of ns)) are.nodes_are ∙ is.one_output)
+    writers_count rest faults roles ends ended ∙ (ap (λ (ns : List PlanNode). count_by (λ (node : DrawnNode). is_output node.kind) (map node_of ns)) are.nodes_are ∙ is.one_output)
 
 -- a writer is of a history, and made no last note
 abbrev IsOf : {R : Type 0} → Book → HeldWriter R → Type 0

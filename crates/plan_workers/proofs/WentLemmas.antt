@@ -13,20 +13,19 @@ use Rattle.node_laws.specs.Lawful.{IsLawful}
 use Rattle.node_laws.specs.Lists.{Lists, list_at}
 use Rattle.node_laws.specs.Pass.{pass}
 use Rattle.cedr_plan.specs.declared.plan.PlanNode.{PlanNode}
-use Rattle.cedr_query.specs.Queries.{is_output, source_count}
+use Rattle.cedr_plan.specs.Places.{is_output, is_source, source_count}
 use Rattle.plan_runs.specs.Runs.{IsRun, lists_at, input_lists, sources_in}
 use Rattle.plan_runs.proofs.Partial.{source_at}
 use Rattle.plan_runs.proofs.PlanNodes.{place_within}
 use Rattle.plan_edges.specs.Wires.{AreClosed, AreSent, AreWired, carried, froms, ports_of}
 use Rattle.cedr_worker.specs.declared.source.SourceEnd.{SourceEnd}
 use Rattle.op_node.specs.Meanings.{meaning_of, port_levels}
-use Rattle.op_node.specs.Ready.{is_source}
 use Rattle.plan_workers.specs.declared.ended.Ended.{Ended}
 use Rattle.plan_workers.specs.declared.ended.Part.{Part}
-use Rattle.plan_workers.specs.Crews.{AreRoles, content_in, count_in, node_in, source_roles}
+use Rattle.plan_workers.specs.Crews.{AreNumbered, AreRoles, content_in, count_in, node_in, source_roles}
 use Rattle.plan_workers.specs.Ends.{AllEndAs}
 use Rattle.plan_workers.specs.Roles.{Role}
-use Rattle.plan_workers.specs.Wents.{LostWent, SourceWent, Went, lacked_at, part_lacked, putters_left, source_left, sources_left, takers_left}
+use Rattle.plan_workers.specs.Wents.{IsBareEnd, LostWent, SourceWent, Went, lacked_at, part_lacked, putters_left, source_left, sources_left, takers_left}
 use Rattle.plan_workers.proofs.GaveLemmas.{Gave, SourceGave, gave}
 use Rattle.plan_workers.proofs.LeftLemmas.{ports_left}
 use Rattle.plan_edges.proofs.RunLemmas.{given_ports}
@@ -38,6 +37,7 @@ pub record GaveAt {S R : Type 0} (rest : S → Option (List ℕ)) (faults : S �
   pub role : Role
   pub end : Ended S R
   pub node_is : role.node ≡ n
+  pub number_is : (place : ℕ) → AreNumbered place roles → role.number ≡ place + length before
   pub gave : Gave rest faults role (map taken_of end.takers) end.putters end.part
   pub given_is : list_at given (length before) ≡ gave.given
   pub lists_are : lists_at (map (map taken_of) (map takers_left ends)) (length before) ≡ map taken_of end.takers
@@ -100,6 +100,7 @@ first_gave rest faults r rs e es n given same g = record {
   role = r;
   end = e;
   node_is = same;
+  number_is = λ place are. omega (arith, are.0);
   gave = g;
   given_is = refl;
   lists_are = refl;
@@ -117,6 +118,7 @@ later_gave rest faults r rs e es b bs n given same g later =
       role = later.role;
       end = later.end;
       node_is = later.node_is;
+      number_is = λ place are. let there = later.number_is (place + 1) are.1 in omega (arith, there);
       gave = later.gave;
       given_is = later.given_is;
       lists_are = later.lists_are;
@@ -210,6 +212,13 @@ module _ {S R : Type 0} (rest : S → Option (List ℕ)) (faults : S → ℕ) (n
       (sym (here.count_is is (faults s)) ∙ (ap (λ xs. slice_index_or xs k (faults s)) are.counts ∙ get_or-map faults sources k s))
       (sym (here.source_is left.end e left.alone)) (sym here.given_is) left.gave
 
+  -- and its end has the place of its node, and no edges
+  end_went : (before after : List PlanNode) (n : PlanNode) → nodes ≡ before ++ n ∷ after → is_source n.kind ≡ true → (e : SourceEnd S) → IsBareEnd (length before) (slice_index_or (sources_left ends) (source_count before) e)
+  end_went before after n whole is e =
+      let here = at before after n whole in
+      let left = here.gave.source (ap (λ (x : PlanNode). is_source x.kind) here.node_is ∙ is) in
+      subst (IsBareEnd (length before)) (sym (here.source_is left.end e left.alone)) (record { number = (let placed = here.number_is 0 are.numbers in omega (arith, left.number, placed)); outputs = left.outputs })
+
   -- any other node is lawful where memory was found
   sound_went : (before after : List PlanNode) (n : PlanNode) → nodes ≡ before ++ n ∷ after → is_source n.kind ≡ false → lacked_at ends (length before) ≡ false → IsLawful (meaning_of n) (port_levels n) (lists_at (ports_of nodes (carried edges)) (length before)) (list_at all.given (length before))
   sound_went before after n whole is found =
@@ -235,6 +244,7 @@ module _ {S R : Type 0} (rest : S → Option (List ℕ)) (faults : S → ℕ) (n
   all_went = record {
     edges = edges_went nodes (map takers_left ends) (map putters_left ends) edges all.given closed all.sent;
     source = source_went;
+    end = end_went;
     sound = sound_went;
     lost = lost_went;
     passed = passed_went;

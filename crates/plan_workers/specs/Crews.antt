@@ -8,7 +8,7 @@ use Rattle.cedr_history.specs.Ends.{ReaderSeen}
 use Rattle.cedr_history.specs.Lists.{nothing}
 use Rattle.cedr_plan.specs.declared.plan.PlanNode.{PlanNode}
 use Rattle.plan_edges.specs.Wires.{in_edge, out_edge, AreWired}
-use Rattle.op_node.specs.Ready.{is_source}
+use Rattle.cedr_plan.specs.Places.{is_source}
 use Rattle.plan_workers.specs.declared.worker.Worker.{Worker}
 use Rattle.plan_workers.specs.Roles.{Role, AllWorkAs}
 

@@ -9,7 +9,7 @@ use Rattle.cedr_node.specs.declared.node.Node.{Node}
 use Rattle.cedr_node.specs.Nodes.{made_of, NodeStands}
 use Rattle.worker_outlets.specs.Outgoing.{last_message}
 use Rattle.cedr_plan.specs.Drawn.{node_of}
-use Rattle.cedr_query.specs.Queries.{is_output}
+use Rattle.cedr_plan.specs.Places.{is_output, is_source}
 use Rattle.cedr_text.specs.Shapes.{ShapeHasTypes}
 use Rattle.plan_edges.specs.Wires.{in_edge, out_edge}
 use Rattle.cedr_worker.specs.declared.source.SourceEnd.{SourceEnd}
@@ -18,16 +18,18 @@ use Rattle.cedr_worker.specs.Operators.{LostEnd, SoundEnd}
 use Rattle.cedr_worker.specs.Outputs.{IsBeginning, output_list, passed_by}
 use Rattle.cedr_worker.specs.Sources.{SourceEnds}
 use Rattle.cedr_worker.specs.Stops.{last_at}
-use Rattle.op_node.specs.Ready.{is_source}
 use Rattle.plan_workers.specs.declared.ended.Ended.{Ended}
 use Rattle.plan_workers.specs.declared.ended.Part.{Part}
 use Rattle.plan_workers.specs.declared.ended.Part.TheVariants as part
 use Rattle.plan_workers.specs.Roles.{AllAs, Role}
 
--- A source that was sent to its end over these edges: the messages of the lines that were taken, and one last message.
+-- A source that was sent to its end over these edges: the messages of the lines that were taken, and one last message. Its end
+-- has the worker's number, and no edges, since they stand beside it.
 pub record SourceEndsAs {S : Type 0} (rest : S → Option (List ℕ)) (faults : S → ℕ) (role : Role) (putters : List OutEnd) (end : SourceEnd S) : Type 0 where
   pub kind : is_source role.node.kind ≡ true
   pub takes : role.takes ≡ []
+  pub number : end.number ≡ role.number
+  pub outputs : end.outputs.items ≡ []
   pub types : ShapeHasTypes role.shape role.node.types.items
   pub ends : SourceEnds rest faults role.shape role.content role.count end
   pub sent : All (λ (e : OutEnd). e.sent ≡ ends.given ++ last_message (last_at end.stop) ∷ []) putters

@@ -6,12 +6,12 @@ use Rattle.cedr_edge.specs.Ends.{InEnd, OutEnd}
 use Rattle.cedr_history.specs.Ends.{Writing}
 use Rattle.cedr_history.specs.Lists.{nothing}
 use Rattle.node_laws.specs.Pass.{HasBlockWithin}
-use Rattle.cedr_plan.specs.Drawn.{node_of, is_output_node as is_drawn_output}
+use Rattle.cedr_plan.specs.Drawn.{Node, node_of}
+use Rattle.cedr_plan.specs.Places.{is_output, is_source}
 use Rattle.cedr_plan.specs.declared.plan.PlanNode.{PlanNode}
-use Rattle.cedr_query.specs.Queries.{is_output}
 use Rattle.cedr_text.specs.declared.event_line.Shape.{Shape}
 use Rattle.plan_edges.specs.Wires.{in_edge, out_edge}
-use Rattle.op_node.specs.Ready.{is_source, IsReady}
+use Rattle.op_node.specs.Ready.{IsReady}
 use Rattle.plan_workers.specs.declared.held.HeldWriter.{HeldWriter}
 use Rattle.plan_workers.specs.declared.worker.Worker.{Worker}
 use Rattle.plan_workers.specs.declared.worker.Worker.TheVariants as worker
@@ -67,8 +67,8 @@ HasWriter history (Some held) = IsNewWriter history held.writer
 
 -- the writer is there for at most one output among some nodes, and else there is no output among them
 abbrev pub Awaits : {R : Type 0} → Book → Option (HeldWriter R) → List PlanNode → Type 0
-Awaits history None nodes = count_by is_drawn_output (map node_of nodes) ≡ 0
-Awaits history (Some held) nodes = IsNewWriter history held.writer × (count_by is_drawn_output (map node_of nodes) ≤ 1)
+Awaits history None nodes = count_by (λ (node : Node). is_output node.kind) (map node_of nodes) ≡ 0
+Awaits history (Some held) nodes = IsNewWriter history held.writer × (count_by (λ (node : Node). is_output node.kind) (map node_of nodes) ≤ 1)
 
 -- a worker was made for a node, over these ends and for this history
 pub record IsMade {S R : Type 0} (rest : S → Option (List ℕ)) (faults : S → ℕ) (number : ℕ) (node : PlanNode) (takers : List InEnd) (putters : List OutEnd) (history : Book) (w : Worker S R) : Type 0 where

@@ -7,7 +7,7 @@ use Rattle.cedr_node.specs.Nodes.{made_of}
 use Rattle.worker_outlets.specs.Outlets.{AllOver, outlet_edge}
 use Rattle.cedr_plan.specs.Drawn.{node_of}
 use Rattle.cedr_plan.specs.declared.plan.PlanNode.{PlanNode}
-use Rattle.cedr_query.specs.Queries.{is_output}
+use Rattle.cedr_plan.specs.Places.{is_output, is_source}
 use Rattle.cedr_text.specs.Shapes.{ShapeHasTypes}
 use Rattle.cedr_text.specs.declared.event_line.Shape.{Shape}
 use Rattle.cedr_worker.specs.declared.operator.OperatorWorker.{OperatorWorker}
@@ -16,7 +16,6 @@ use Rattle.cedr_worker.specs.Inputs.{input_edge}
 use Rattle.cedr_worker.specs.OutputTurns.{OutputHasEnded as OutputEnded, OutputWorks}
 use Rattle.cedr_worker.specs.Sources.{SourceWorks}
 use Rattle.cedr_worker.specs.Workers.{IsWorking}
-use Rattle.op_node.specs.Ready.{is_source}
 use Rattle.plan_workers.specs.declared.held.Held.{Held}
 use Rattle.plan_workers.specs.declared.worker.Worker.{Worker}
 use Rattle.plan_workers.specs.declared.worker.Worker.TheVariants as worker

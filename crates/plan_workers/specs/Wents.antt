@@ -9,7 +9,7 @@ use Rattle.node_laws.specs.Lists.{Lists, list_at}
 use Rattle.node_laws.specs.Pass.{pass}
 use Rattle.worker_outlets.specs.Outgoing.{last_message}
 use Rattle.cedr_plan.specs.declared.plan.PlanNode.{PlanNode}
-use Rattle.cedr_query.specs.Queries.{is_output, source_count}
+use Rattle.cedr_plan.specs.Places.{is_output, is_source, source_count}
 use Rattle.plan_runs.specs.Runs.{ArePrefixes, lists_at, input_lists}
 use Rattle.cedr_text.specs.Shapes.{ShapeHasTypes}
 use Rattle.cedr_text.specs.declared.event_line.Shape.{Shape}
@@ -20,7 +20,6 @@ use Rattle.cedr_worker.specs.Sources.{SourceEnds}
 use Rattle.cedr_worker.specs.declared.stop.SourceStop.TheVariants as stop
 use Rattle.cedr_worker.specs.Stops.{last_at}
 use Rattle.op_node.specs.Meanings.{meaning_of, port_levels}
-use Rattle.op_node.specs.Ready.{is_source}
 use Rattle.plan_workers.specs.declared.ended.Ended.{Ended}
 use Rattle.plan_workers.specs.declared.ended.Part.{Part}
 use Rattle.plan_workers.specs.declared.ended.Part.TheVariants as part
@@ -74,6 +73,11 @@ pub record SourceWent {S : Type 0} (rest : S → Option (List ℕ)) (faults : S 
   pub ends : SourceEnds rest faults shape (rest source) (faults source) end
   pub given_is : given ≡ ends.given ++ last_message (last_at end.stop) ∷ []
 
+-- what is left of the source of the node at a place: its end has that number, and no edges are left there
+pub record IsBareEnd {S : Type 0} (place : ℕ) (end : SourceEnd S) : Type 0 where
+  pub number : end.number ≡ place
+  pub outputs : end.outputs.items ≡ []
+
 -- The list of a node for which memory was lacking: it is lawful for the first messages of what came on the ports, and goes on
 -- with one Broken alone.
 pub record LostWent (node : PlanNode) (lists : Lists) (given : List Message) : Type 0 where
@@ -86,10 +90,11 @@ pub record LostWent (node : PlanNode) (lists : Lists) (given : List Message) : T
 
 -- The lists of a plan's edges, port by port, and the list that each node gave. Each port has the list of the node that it
 -- reads. A source gave what its end says; any other node is lawful from the lists on its ports to its own, where memory was
--- found for it. An output's list is what its port passes on.
+-- found for it. An output's list is what its port passes on. A source's end has the place of its node, and no edges.
 pub record Went {S : Type 0} (rest : S → Option (List ℕ)) (faults : S → ℕ) (nodes : List PlanNode) (sources : List S) (ports : List Lists) (given : Lists) (lacked : ℕ → Bool) (ends : List (SourceEnd S)) : Type 0 where
   pub edges : (before after : List PlanNode) (n : PlanNode) → nodes ≡ before ++ n ∷ after → lists_at ports (length before) ≡ input_lists given n
   pub source : (before after : List PlanNode) (n : PlanNode) → nodes ≡ before ++ n ∷ after → is_source n.kind ≡ true → (s : S) (e : SourceEnd S) → SourceWent rest faults n (slice_index_or sources (source_count before) s) (slice_index_or ends (source_count before) e) (list_at given (length before))
+  pub end : (before after : List PlanNode) (n : PlanNode) → nodes ≡ before ++ n ∷ after → is_source n.kind ≡ true → (e : SourceEnd S) → IsBareEnd (length before) (slice_index_or ends (source_count before) e)
   pub sound : (before after : List PlanNode) (n : PlanNode) → nodes ≡ before ++ n ∷ after → is_source n.kind ≡ false → lacked (length before) ≡ false → IsLawful (meaning_of n) (port_levels n) (lists_at ports (length before)) (list_at given (length before))
   pub lost : (before after : List PlanNode) (n : PlanNode) → nodes ≡ before ++ n ∷ after → is_source n.kind ≡ false → is_output n.kind ≡ false → lacked (length before) ≡ true → LostWent n (lists_at ports (length before)) (list_at given (length before))
   pub passed : (before after : List PlanNode) (n : PlanNode) → nodes ≡ before ++ n ∷ after → is_output n.kind ≡ true → list_at given (length before) ≡ pass n.level (list_at (lists_at ports (length before)) 0)

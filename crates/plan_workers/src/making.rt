@@ -4,11 +4,10 @@ ghost use Rattle.logbook.specs.Pages.{Book};
 ghost use Rattle.cedr_edge.specs.Ends.{InEnd, OutEnd};
 ghost use Rattle.cedr_history.specs.Lists.{nothing};
 ghost use Rattle.cedr_plan.specs.Rules.{IsPlan};
-ghost use Rattle.cedr_query.specs.Queries.{is_output, source_count};
+ghost use Rattle.cedr_plan.specs.Places.{is_output, is_source, source_count};
 ghost use Rattle.cedr_text.specs.declared.event_line.Shape.{Shape};
 ghost use Rattle.cedr_text.specs.declared.event_line.Shape.TheVariants.{AnyText};
 ghost use Rattle.plan_edges.specs.Wires.{AreNew, AreWired, froms};
-ghost use Rattle.op_node.specs.Ready.{is_source};
 ghost use Rattle.plan_workers.specs.declared.worker.Worker.{Worker};
 ghost use Rattle.plan_workers.specs.Crews.{IsCrew};
 ghost use Rattle.plan_workers.specs.Making.{AllCanWork, AreMade, Awaits, CanWork, HasWriter, IsMade, IsNewWriter, role_for, sources_of_worker, sources_of};
@@ -21,10 +20,9 @@ use cedr_edge::EdgeRecord;
 use cedr_history::{Reader, new_history};
 use cedr_io::Source;
 use cedr_node::Node;
-use cedr_plan::{NodeKind, Plan, PlanNode};
+use cedr_plan::{Plan, PlanNode, is_output, is_source};
 use cedr_text::Shape;
 use cedr_worker::{NoSource, OperatorWorker, OutputWorker, SourceWorker};
-use op_node::is_source;
 use plan_edges::{Putters, Takers, Wires, new_wires};
 use std::alloc::Global;
 use std::collections::VecDeque;
@@ -53,12 +51,6 @@ struct Making<S: Source + Drop, R: Wait + Drop> {
     workers: Vec<Worker<S, R>>,
     left: VecDeque<S>,
     writer: Option<HeldWriter<R>>,
-}
-
-fn is_output(kind: &NodeKind) -> bool
-    ensures { result ≡ is_output kind.now }
-{
-    matches!(kind, NodeKind::Output)
 }
 
 /// The worker of a source's node, for the next source that is left.

@@ -15,8 +15,11 @@
 //! - `front TEXT`: how much is written to the output depends on the schedule. It is some front of what this text spells.
 //! - `run WORD ..`: the top call carries out the words that these spell. Its exit status is written, the files that it asked
 //!   for, and what it wrote to the output and to the error stream, with the escapes of a byte string; of over 1,000 bytes only
-//!   how many there are.
+//!   how many there are. A line more is written only where a source that was found isn't given back, where a source is read
+//!   behind the read that gave nothing or was refused, where something is written behind a refused write, or where a command
+//!   that writes at its end writes a piece before its whole text is known.
 //! - `alone WORD ..`: the same by the call that starts no thread.
+//! - `found WORD ..`: as `run`, and then how many sources were found, and how many of them were given back.
 //! - `edges WORD ..`: as `run`, and then how many edges and workers there were, and whether each worker took and put what its
 //!   edges carried. The nodes of the plan are a chain.
 //! - `source NAME COUNT`: the lines of the source `a` or `b` of the workload of so many events a source.
@@ -24,7 +27,7 @@
 //! - `plan NAME`: the same of the plan that this file describes.
 //! - `summary BEGIN-END ..`: the summary of rows that are valid so long.
 //!
-//! Pieces, refusals and a front are those of the next `run`, `alone` or `edges` only. An empty line says nothing.
+//! Pieces, refusals and a front are those of the next `run`, `alone`, `found` or `edges` only. An empty line says nothing.
 //!
 //! Where a text spells, `\n` stands for a line feed, `\r` for a carriage return, `\s` for a space, `\\` for a backslash, `\e`
 //! for nothing and `\x` with two digits for the byte of this hexadecimal number.
@@ -36,6 +39,7 @@ mod outside;
 mod play;
 mod spelling;
 mod telling;
+mod watched;
 
 use anyhow::{Result, bail};
 use case::Case;
@@ -45,7 +49,7 @@ use std::alloc::Global;
 use std::sync::Wait;
 use std::thread::Threads;
 use std::time::Clock;
-use telling::{tell, tell_edges};
+use telling::{tell, tell_edges, tell_found};
 
 fn main(rt: HostRuntime) -> Result<()> {
     let alloc = rt.alloc();
@@ -88,6 +92,11 @@ fn carry_out<R: Threads + Wait + Clock + Print + Copy + Drop + Send + 'static>(
             let played = play_on_threads(rt, alloc, case, words)?;
             tell(&rt, &played)?;
             tell_edges(&rt, &played.ending)
+        }
+        ["found", words @ ..] => {
+            let played = play_on_threads(rt, alloc, case, words)?;
+            tell(&rt, &played)?;
+            tell_found(&rt, &played)
         }
         ["alone", words @ ..] => tell(&rt, &play_alone(alloc, case, words)?),
         _ => show(&rt, alloc, case, words),

@@ -1,29 +1,30 @@
 ghost use Rattle.std.specs.Prelude.{◌<◌};
 ghost use Rattle.cedr_io.specs.Counts.{last_count};
 
+use crate::watched::{WatchedFiles, WatchedSink};
 use anyhow::{Result, bail};
-use cedr_io::{Files, MemFiles, MemSink, Sink};
+use cedr_io::{Files, Sink};
 use std::alloc::Global;
 
 /// What the next command finds outside.
 #[derive(Drop)]
 pub(crate) struct Outside {
-    pub(crate) files: MemFiles,
-    pub(crate) out: MemSink,
-    pub(crate) err: MemSink,
+    pub(crate) files: WatchedFiles,
+    pub(crate) out: WatchedSink,
+    pub(crate) err: WatchedSink,
     /// Some front of this is written to `out`. Without it the very bytes are wanted.
     pub(crate) longest: Option<Vec<u8>>,
-    ghost files_count: { ⟦<MemFiles as Files>⟧.faults files < last_count },
-    ghost out_count: { ⟦<MemSink as Sink>⟧.faults out < last_count },
+    ghost files_count: { ⟦<WatchedFiles as Files>⟧.faults files < last_count },
+    ghost out_count: { ⟦<WatchedSink as Sink>⟧.faults out < last_count },
 }
 
 impl Outside {
     /// No file, and nothing is refused.
     pub(crate) fn new(alloc: Global) -> Outside {
         Outside {
-            files: MemFiles::new(alloc),
-            out: MemSink::new(alloc),
-            err: MemSink::new(alloc),
+            files: WatchedFiles::new(alloc),
+            out: WatchedSink::new(alloc),
+            err: WatchedSink::new(alloc),
             longest: None,
         }
     }
@@ -35,9 +36,9 @@ impl Outside {
             bail!("a piece has some bytes");
         }
         match whom {
-            "read" => self.files.set_piece(count),
-            "out" => self.out.set_piece(count),
-            "err" => self.err.set_piece(count),
+            "read" => self.files.watched.set_piece(count),
+            "out" => self.out.watched.set_piece(count),
+            "err" => self.err.watched.set_piece(count),
             _ => bail!("no such pieces: {whom}"),
         }
         Ok(())
@@ -47,10 +48,10 @@ impl Outside {
     pub(crate) fn refuse(&mut self, what: &[&str], call: &str) -> Result<()> {
         let call = call.parse::<u64>()?;
         let noted = match what {
-            ["find"] => self.files.fail_find(call),
-            ["read", name] => self.files.fail_read(name, call),
-            ["out"] => self.out.fail_write(call),
-            ["err"] => self.err.fail_write(call),
+            ["find"] => self.files.watched.fail_find(call),
+            ["read", name] => self.files.watched.fail_read(name, call),
+            ["out"] => self.out.watched.fail_write(call),
+            ["err"] => self.err.watched.fail_write(call),
             _ => bail!("no such refusal: {what:?}"),
         };
         Ok(noted?)
@@ -58,7 +59,7 @@ impl Outside {
 
     /// Puts a file there.
     pub(crate) fn add(&mut self, name: &str, bytes: &[u8]) -> Result<()> {
-        self.files.add(name, bytes)?;
+        self.files.watched.add(name, bytes)?;
         Ok(())
     }
 }

@@ -5,8 +5,9 @@ ghost use Rattle.cedr_run.specs.Commands.{IsAlone};
 use crate::case::Case;
 use crate::outside::Outside;
 use crate::spelling::spelled_words;
+use crate::watched::{WatchedFiles, WatchedSink};
 use anyhow::{Result, bail};
-use cedr_io::{MemFiles, MemSink, OpenGate};
+use cedr_io::OpenGate;
 use cedr_run::{Ending, run, run_alone};
 use std::alloc::Global;
 use std::sync::{Arc, Wait};
@@ -17,10 +18,12 @@ use std::time::Clock;
 #[derive(Drop)]
 pub(crate) struct Played {
     pub(crate) ending: Ending,
-    pub(crate) files: MemFiles,
-    pub(crate) out: MemSink,
-    pub(crate) err: MemSink,
+    pub(crate) files: WatchedFiles,
+    pub(crate) out: WatchedSink,
+    pub(crate) err: WatchedSink,
     pub(crate) longest: Option<Vec<u8>>,
+    /// It writes as it goes, and not when its whole text is known.
+    pub(crate) goes_on: bool,
 }
 
 /// Carries out the words by the top call.
@@ -45,6 +48,7 @@ pub(crate) fn play_on_threads<R: Threads + Wait + Clock + Copy + Drop + Send + '
         out,
         err,
         longest,
+        goes_on: goes_on(&words),
     })
 }
 
@@ -72,7 +76,16 @@ pub(crate) fn play_alone(alloc: Global, case: &mut Case, words: &[&str]) -> Resu
         out,
         err,
         longest,
+        goes_on: goes_on(&words),
     })
+}
+
+/// Whether a command writes as it goes.
+fn goes_on(words: &[String]) -> bool {
+    match words {
+        [command, ..] => command.as_str() == "stream" || command.as_str() == "live",
+        [] => false,
+    }
 }
 
 /// Whether the words match neither `run PLAN` nor `stream PLAN`.

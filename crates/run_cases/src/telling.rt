@@ -9,14 +9,48 @@ const LONG: usize = 1000;
 /// Writes how a command ended, and what it left outside.
 pub(crate) fn tell(rt: &impl Print, played: &Played) -> Result<()> {
     print!(rt; "  status {}, asked", played.ending.status.code())?;
-    tell_asked(rt, &played.files)?;
+    tell_asked(rt, &played.files.watched)?;
+    let written = played.out.watched.written();
     match &played.longest {
-        Some(longest) if longest.as_slice().starts_with(played.out.written()) => {
+        Some(longest) if longest.as_slice().starts_with(written) => {
             println!(rt; "  out is such a front")?;
         }
-        _ => tell_bytes(rt, "out", played.out.written())?,
+        _ => tell_bytes(rt, "out", written)?,
     }
-    tell_bytes(rt, "err", played.err.written())
+    tell_bytes(rt, "err", played.err.watched.written())?;
+    tell_amiss(rt, played)
+}
+
+/// Writes what no command may do and this one did, if there is something.
+fn tell_amiss(rt: &impl Print, played: &Played) -> Result<()> {
+    if let Some(what) = amiss(played) {
+        println!(rt; "  {what}")?;
+    }
+    Ok(())
+}
+
+fn amiss(played: &Played) -> Option<&'static str> {
+    let files = &played.files;
+    if files.found != files.given_back {
+        Some("a source was not given back")
+    } else if files.late_reads > 0 {
+        Some("a read followed the last one of its source")
+    } else if played.out.late_writes > 0 || played.err.late_writes > 0 {
+        Some("a write followed a refused one")
+    } else if played.out.texts > 1 && !played.goes_on {
+        Some("a piece was written before the whole text was known")
+    } else {
+        None
+    }
+}
+
+/// Writes how many sources a command found, and gave back.
+pub(crate) fn tell_found(rt: &impl Print, played: &Played) -> Result<()> {
+    println!(rt;
+        "  {} found, {} given back",
+        played.files.found, played.files.given_back
+    )?;
+    Ok(())
 }
 
 /// Writes the names of the files that were asked for, and ends the line.

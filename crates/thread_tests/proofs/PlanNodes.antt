@@ -7,7 +7,8 @@ use Rattle.cedr_plan.specs.declared.plan.PlanNode.{PlanNode}
 use Rattle.cedr_plan.specs.Drawn.{node_of}
 use Rattle.cedr_plan.specs.Rules.{AreNodes}
 use Rattle.plan_runs.proofs.PlanNodes.{node_stands}
-use Rattle.op_node.specs.Ready.{is_source, IsReady}
+use Rattle.op_node.specs.Ready.{IsReady}
+use Rattle.cedr_plan.specs.Places.{is_source}
 use Rattle.op_node.specs.ReadyLaws.{node_ready}
 
 -- the nodes around a node

@@ -50,8 +50,11 @@ impl Holding {
         self.alone.load(Ordering::SeqCst) == 0
     }
 
-    /// Spins until the flag is set, for at most 100 million turns.
+    /// Spins until the flag is set, at most 100 million times. Where it went on without the flag once, it holds no turn more.
     fn await_flag(&self) {
+        if !self.held() {
+            return;
+        }
         for _ in 0..100_000_000u64 {
             if self.flag.load(Ordering::SeqCst) == 1 {
                 return;

@@ -58,29 +58,30 @@ enum Held {
     None,
     /// All, until the second worker has turned.
     UntilSecond,
-    /// From the tenth on, until the watcher has read a change.
+    /// From the hundredth on, until the watcher has read a change.
     UntilRead,
 }
 
 /// How a run ends.
 #[derive(Clone, Copy)]
-enum End {
+enum End<'a> {
     /// These are the lines of its result.
-    Done(&'static str),
+    Done(&'a str),
     Read,
     Events(&'static [FaultySource]),
 }
 
 /// A run over files in memory.
-struct Case {
+#[derive(Clone, Copy)]
+struct Case<'a> {
     title: &'static str,
-    files: &'static [(&'static str, &'static str)],
+    files: &'a [(&'a str, &'a str)],
     /// A read gives at most so many bytes.
     piece: usize,
     /// The file of which a read is refused, and the number of that read.
     refused: (&'static str, u64),
     held: Held,
-    end: End,
+    end: End<'a>,
 }
 
 const FAULTS: [FaultySource; 2] = [
@@ -100,7 +101,7 @@ const FAULTS: [FaultySource; 2] = [
     },
 ];
 
-const CASES: [(&str, Case); 5] = [
+const CASES: [(&str, Case<'static>); 4] = [
     (
         EIGHT,
         Case {
@@ -150,23 +151,9 @@ const CASES: [(&str, Case); 5] = [
             end: End::Done("+,1,2,a\n+,1,3,b\n"),
         },
     ),
-    (
-        MIDDLE,
-        Case {
-            title: "changes are read before their source ended",
-            files: &[("s.csv", SIX)],
-            piece: 8,
-            refused: NO_READ,
-            held: Held::UntilRead,
-            end: End::Done("+,1,2,a\n+,2,3,b\n+,3,4,c\n+,4,5,d\n+,5,6,e\n+,6,7,f\n"),
-        },
-    ),
 ];
 
-/// Six additions.
-pub(crate) const SIX: &str = "+,1,1,2,a\n+,2,2,3,b\n+,3,3,4,c\n+,4,4,5,d\n+,5,5,6,e\n+,6,6,7,f\n";
-
-const DIAMOND_CASE: Case = Case {
+const DIAMOND_CASE: Case<'static> = Case {
     title: "a diamond gives one answer however its threads run",
     files: &[("s.csv", "+,1,0,10,a\n+,2,1,3,b\n")],
     piece: 4096,
@@ -175,7 +162,7 @@ const DIAMOND_CASE: Case = Case {
     end: End::Done("+,2,4,a,a\n"),
 };
 
-const CHAIN_CASE: Case = Case {
+const CHAIN_CASE: Case<'static> = Case {
     title: "up to 64 nodes run on as many threads",
     files: &[("s.csv", "+,1,1,10,a\n+,2,2,9,b\n-,1,5\n")],
     piece: 4096,
@@ -184,7 +171,7 @@ const CHAIN_CASE: Case = Case {
     end: End::Done("+,1,10,a\n+,2,9,b\n-,5,1,10,a\n"),
 };
 
-const WEAK_CASE: Case = Case {
+const WEAK_CASE: Case<'static> = Case {
     title: "what was forgotten is told by node and port",
     files: &[("s.csv", "+,1,1,2,a\n+,2,20,30,b\n+,3,10,40,c\n-,3,25\n")],
     piece: 4096,
@@ -193,7 +180,7 @@ const WEAK_CASE: Case = Case {
     end: End::Read,
 };
 
-const MIDDLE_CASE: Case = Case {
+const MIDDLE_CASE: Case<'static> = Case {
     title: "each worker moved what went over its edges",
     files: &[("s.csv", "+,1,1,10,a\n=,4\n")],
     piece: 4096,
@@ -208,6 +195,7 @@ struct Counts {
     alloc: Global,
     count: usize,
     some: Arc<AtomicU64, Global>,
+    lacked: bool,
 }
 
 impl Watcher for Counts {
@@ -217,16 +205,22 @@ impl Watcher for Counts {
 
     ghost stands = { λ _ w _ list. w.count ≡ length list };
 
+    ghost lacked = { λ w. w.lacked };
+
     fn look(&mut self, reader: &mut Reader, _out: &mut ()) -> Result<bool, OutOfMemory> {
         let mut nothing = Vec::new(self.alloc);
-        match reader.read(0, 0, &mut nothing)? {
-            None => Ok(false),
-            Some(seen) => {
+        match reader.read(0, 0, &mut nothing) {
+            Ok(None) => Ok(false),
+            Ok(Some(seen)) => {
                 if seen.len > 0 {
                     self.some.store(1, Ordering::SeqCst);
                 }
                 self.count = seen.len;
                 Ok(true)
+            }
+            Err(OutOfMemory) => {
+                self.lacked = true;
+                Err(OutOfMemory)
             }
         }
     }
@@ -241,7 +235,7 @@ fn gate_of(
     match held {
         Held::None => Holding::until(alloc, u64::MAX, some),
         Held::UntilSecond => Holding::until_second(alloc),
-        Held::UntilRead => Holding::until(alloc, 9, some),
+        Held::UntilRead => Holding::until(alloc, 99, some),
     }
 }
 
@@ -250,7 +244,7 @@ fn reported<R: Threads + Wait + Clock + Copy + Drop + Send + 'static>(
     rt: R,
     alloc: Global,
     plan: &str,
-    case: &Case,
+    case: &Case<'_>,
     some: Arc<AtomicU64, Global>,
     gate: &Arc<Holding, Global>,
 ) -> Result<Report<ListSource>, Fail> {
@@ -261,6 +255,7 @@ fn reported<R: Threads + Wait + Clock + Copy + Drop + Send + 'static>(
         alloc,
         count: 0,
         some,
+        lacked: false,
     };
     match run_threads(rt, alloc, &plan, sources, &mut watcher, &mut (), gate) {
         Ok(report) => Ok(report),
@@ -273,7 +268,7 @@ fn run<R: Threads + Wait + Clock + Copy + Drop + Send + 'static>(
     rt: R,
     alloc: Global,
     plan: &str,
-    case: &Case,
+    case: &Case<'_>,
 ) -> Result<(Report<ListSource>, bool), Fail> {
     let some = Arc::new(alloc, AtomicU64::new(0))?;
     let gate = gate_of(alloc, case.held, &some)?;
@@ -292,7 +287,7 @@ fn lines(alloc: Global, changes: &[Change]) -> Result<Vec<u8>, OutOfMemory> {
 }
 
 /// Whether a run ended so.
-fn ended_as(alloc: Global, report: &Report<ListSource>, end: End) -> Result<bool, OutOfMemory> {
+fn ended_as(alloc: Global, report: &Report<ListSource>, end: End<'_>) -> Result<bool, OutOfMemory> {
     match (&report.outcome, end) {
         (Outcome::Done, End::Done(wanted)) => {
             let text = lines(alloc, report.changes.as_slice())?;
@@ -309,7 +304,7 @@ fn is_so<R: Threads + Wait + Clock + Copy + Drop + Send + 'static>(
     rt: R,
     alloc: Global,
     plan: &str,
-    case: &Case,
+    case: &Case<'_>,
 ) -> Result<bool, Fail> {
     let (report, held) = run(rt, alloc, plan, case)?;
     Ok(ended_as(alloc, &report, case.end)? && held)
@@ -320,6 +315,44 @@ fn runs_end_as_their_cases_say(rt: HostRuntime) -> Result<(), Fail> {
     for (plan, case) in &CASES {
         assert!(rt; is_so(rt, rt.alloc(), plan, case)?, "{}", case.title);
     }
+    Ok(())
+}
+
+/// So many insertions, each of an event for one time more, and the changes that they are.
+fn insertions(alloc: Global, count: u64) -> Result<(String, String), Fail> {
+    let mut lines = String::new(alloc);
+    let mut changes = String::new(alloc);
+    for begin in 0..count {
+        let end = begin.saturating_add(1);
+        lines.push_str(format!(in alloc; "+,{begin},{begin},{end},a\n")?.as_str())?;
+        changes.push_str(format!(in alloc; "+,{begin},{end},a\n")?.as_str())?;
+    }
+    Ok((lines, changes))
+}
+
+/// A file and its text.
+fn named<'a>(name: &'a str, text: &'a str) -> (&'a str, &'a str) {
+    (name, text)
+}
+
+/// A run over these files whose source is read on from its hundredth turn when the watcher has read a change.
+fn read_before_the_end<'a>(files: &'a [(&'a str, &'a str)], changes: &'a str) -> Case<'a> {
+    Case {
+        title: "the hundredth turn of the source waits until a change was read",
+        files,
+        piece: 4096,
+        refused: NO_READ,
+        held: Held::UntilRead,
+        end: End::Done(changes),
+    }
+}
+
+#[test]
+fn changes_are_read_before_their_source_ended(rt: HostRuntime) -> Result<(), Fail> {
+    let (lines, changes) = insertions(rt.alloc(), 1000)?;
+    let files = [named("s.csv", lines.as_str())];
+    let case = read_before_the_end(&files, changes.as_str());
+    assert!(rt; is_so(rt, rt.alloc(), MIDDLE, &case)?, "{}", case.title);
     Ok(())
 }
 

@@ -1,4 +1,5 @@
 use Rattle.cedr_guard.proofs.MessageLemmas.{accepted_messages, messages-more, table_is_history}
+use Rattle.cedr_guard.proofs.LineMessages.{by_line}
 use Rattle.cedr_guard.proofs.SourceLemmas.{source_messages_legal, source_messages_table}
 use Rattle.cedr_guard.specs.Messages.{messages_behind}
 use Rattle.std.specs.Prelude.{[]}
@@ -23,3 +24,6 @@ returns-clause-source_legal c = source_messages_legal c.reading_law.ensures
 
 pub returns-clause-source_table : goal.returns-clause-source_table
 returns-clause-source_table c = source_messages_table c.reading_law.ensures
+
+pub returns-clause-by_line : goal.returns-clause-by_line
+returns-clause-by_line c = by_line

@@ -1,7 +1,7 @@
 use Rattle.std.proofs.Common.{subst}
 use Rattle.cedr_base.specs.Rows.{SameRows}
 use Rattle.cedr_table.specs.Operators.{Tables, table_at}
-use Rattle.cedr_query.specs.Queries.{output_place}
+use Rattle.cedr_plan.specs.Places.{output_place}
 use Rattle.cedr_net.specs.Flows.{reads_of}
 use Rattle.cedr_net.proofs.PortLemmas.{port_width, has_port}
 use Rattle.cedr_net.proofs.RunLemmas.{partial_run, settled_run, answer_is, query_is}

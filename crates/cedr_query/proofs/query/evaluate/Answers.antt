@@ -4,9 +4,10 @@ use Rattle.cedr_base.specs.Rows.{SameRows}
 use Rattle.cedr_plan.specs.declared.plan.PlanNode.{PlanNode}
 use Rattle.cedr_table.specs.Operators.{table_at}
 use Rattle.cedr_table.specs.PortLaws.{same_at}
-use Rattle.cedr_query.specs.Queries.{query, output_place}
+use Rattle.cedr_query.specs.Queries.{query}
+use Rattle.cedr_plan.specs.Places.{output_place}
 use Rattle.cedr_query.proofs.Feeding.{read_is}
-use Rattle.cedr_query.proofs.NodeLemmas.{has_node}
+use Rattle.cedr_plan.proofs.PlaceLemmas.{has_node}
 use Rattle.cedr_query.proofs.query.evaluate.Goals as goal
 
 pub returns : goal.returns

@@ -3,7 +3,8 @@ use Rattle.std.specs.Prelude.{if◌then◌else◌, map}
 use Rattle.std.proofs.lemmas.List.{take_all}
 use Rattle.cedr_table.specs.Operators.{AreTimes, mark_at}
 use Rattle.cedr_table.specs.PortLaws.{time_at}
-use Rattle.cedr_query.specs.Queries.{source_count, input_tables, input_marks}
+use Rattle.cedr_query.specs.Queries.{input_tables, input_marks}
+use Rattle.cedr_plan.specs.Places.{source_count}
 use Rattle.op_node.specs.Meanings.{meaning_of}
 use Rattle.cedr_query.proofs.Feeding.{same_tables_itself}
 use Rattle.cedr_query.proofs.QueryLemmas.{same_inputs, are_times_at}

@@ -3,7 +3,8 @@ use Rattle.cedr_plan.specs.declared.plan.PlanNode.{PlanNode}
 use Rattle.cedr_table.specs.Operators.{Tables, AreTimes}
 use Rattle.cedr_query.specs.Queries.{each_node, node_mark}
 use Rattle.cedr_query.proofs.NodeLemmas.{one_node_more}
-use Rattle.cedr_query.proofs.QueryLemmas.{plan_ready, plan_reads, times_push}
+use Rattle.cedr_query.proofs.QueryLemmas.{plan_ready, times_push}
+use Rattle.cedr_plan.proofs.PlaceLemmas.{plan_reads}
 use Rattle.cedr_query.proofs.query.find_marks.Goals as goal
 
 pub find_mark-requires-clause-ready : goal.find_mark-requires-clause-ready

@@ -3,7 +3,8 @@ use Rattle.std.specs.Prelude.{if◌then◌else◌}
 use Rattle.cedr_base.specs.Rows.{AreRows, SameRows}
 use Rattle.cedr_table.specs.Operators.{AreTimes, table_at}
 use Rattle.cedr_table.proofs.RowsLemmas.{same_are}
-use Rattle.cedr_query.specs.Queries.{source_count, input_tables}
+use Rattle.cedr_query.specs.Queries.{input_tables}
+use Rattle.cedr_plan.specs.Places.{source_count}
 use Rattle.op_node.specs.Meanings.{meaning_of}
 use Rattle.cedr_query.proofs.Feeding.{read_is, same_tables_itself}
 use Rattle.cedr_query.proofs.QueryLemmas.{zeros_are_times, same_inputs}

@@ -3,7 +3,8 @@ use Rattle.cedr_plan.specs.declared.plan.PlanNode.{PlanNode}
 use Rattle.cedr_table.specs.Operators.{Tables, SameTables, HaveRows}
 use Rattle.cedr_query.specs.Queries.{each_node, node_table}
 use Rattle.cedr_query.proofs.NodeLemmas.{one_node_more, same_tables_push, are_rows_push}
-use Rattle.cedr_query.proofs.QueryLemmas.{plan_ready, plan_reads}
+use Rattle.cedr_query.proofs.QueryLemmas.{plan_ready}
+use Rattle.cedr_plan.proofs.PlaceLemmas.{plan_reads}
 use Rattle.cedr_query.proofs.query.find_tables.Goals as goal
 
 pub find_table-requires-clause-ready : goal.find_table-requires-clause-ready

@@ -1,7 +1,7 @@
 use Rattle.std.proofs.Common.{List, [], map, ap, ◌∙◌, subst}
 use Rattle.cedr_plan.specs.Drawn.{Drawn, node_of}
 use Rattle.cedr_plan.specs.declared.plan.PlanNode.{PlanNode}
-use Rattle.plan_answer.specs.Sources.{AreRead}
+use Rattle.plan_serial.specs.Sources.{AreReadByLine}
 use Rattle.cedr_run.specs.Answers.{made_file}
 use Rattle.cedr_run.proofs.MakeLemmas.{told_made, made_faultless}
 use Rattle.cedr_run.proofs.make.read_made.Goals as goal
@@ -12,7 +12,7 @@ returns-in-Ok-clause-read c =
     let same = c.as_slice.ensures.value in
     let are = ap (map node_of) same ∙ ap (λ (d : Drawn). d.nodes) c.requires.plan in
     let told = told_made _ events c.as_slice.result.now are c.in_ok-files.ensures.first c.in_ok-files.ensures.second in
-    subst (λ (nodes : List PlanNode). AreRead (made_file events) nodes c.in-Ok.left.items []) same (c.in-Ok.ensures.answer (made_file events) told)
+    subst (λ (nodes : List PlanNode). AreReadByLine (made_file events) nodes c.in-Ok.left.items []) same (c.in-Ok.ensures.answer (made_file events) told)
 
 pub unreachable-requires : goal.unreachable-requires
 unreachable-requires c =

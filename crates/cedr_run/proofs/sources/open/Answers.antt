@@ -1,5 +1,5 @@
 use Rattle.std.proofs.Common.{Vec, Global, Err, ◌∙◌, subst}
-use Rattle.cedr_net.specs.declared.queue.Queue.{Queue}
+use Rattle.plan_serial.specs.declared.entries.Entries.{Entries}
 use Rattle.plan_answer.specs.Sources.{source_files}
 use Rattle.cedr_run.specs.Seen.{seen_files}
 use Rattle.cedr_run.specs.Steps.{CountsStep}
@@ -17,8 +17,8 @@ returns-in-Err-clause-asked g c = λ job script reads.
 pub returns-in-Err-open_sources-clause-ends : goal.returns-in-Err-open_sources-clause-ends
 returns-in-Err-open_sources-clause-ends g c = λ job script out reads.
     let nodes = c.in-Ok.plan.nodes.items in
-    let counts = subst (λ n. CountsStep {T = Vec Queue Global} (Err c.in-Err-open_sources.outcome) n (g.F.Files.faults c.open_sources.new.files)) c.in-Ok.ensures.counted c.in-Err-open_sources.ensures.counted in
-    sources_stopped (Vec Queue Global) job c.args.file.now script (seen_files g.F.Files.content g.F.Files.faults g.F.Files.asked c.args.files.now) (seen_files g.F.Files.content g.F.Files.faults g.F.Files.asked c.open_sources.new.files) out c.in-Err-open_sources.outcome nodes reads (is_opened (seen_files g.F.Files.content g.F.Files.faults g.F.Files.asked c.args.files.now) c.args.file.now c.in-Ok.plan c.in-Ok.ensures.opened)
+    let counts = subst (λ n. CountsStep {T = Vec Entries Global} (Err c.in-Err-open_sources.outcome) n (g.F.Files.faults c.open_sources.new.files)) c.in-Ok.ensures.counted c.in-Err-open_sources.ensures.counted in
+    sources_stopped (Vec Entries Global) job c.args.file.now script (seen_files g.F.Files.content g.F.Files.faults g.F.Files.asked c.args.files.now) (seen_files g.F.Files.content g.F.Files.faults g.F.Files.asked c.open_sources.new.files) out c.in-Err-open_sources.outcome nodes reads (is_opened (seen_files g.F.Files.content g.F.Files.faults g.F.Files.asked c.args.files.now) c.args.file.now c.in-Ok.plan c.in-Ok.ensures.opened)
     c.in-Err-open_sources.ensures.stops counts
     (λ told is. c.in-Err-open_sources.ensures.opened told (told_same (g.F.Files.content c.args.files.now) (g.F.Files.content c.open_plan.new.files) told (source_files nodes) c.in-Ok.ensures.contents is))
 

@@ -1,8 +1,9 @@
 use Rattle.std.proofs.Common.{◌<◌, List, length, Err, sym, subst}
-use Rattle.node_laws.specs.Lists.{Lists}
 use Rattle.cedr_plan.specs.declared.plan.PlanNode.{PlanNode}
-use Rattle.plan_serial.specs.Sources.{AnswersSources}
-use Rattle.plan_answer.specs.Sources.{AreTold, AreRead, source_files}
+use Rattle.plan_serial.specs.Rounds.{ByLine, all_messages}
+use Rattle.plan_serial.specs.Sources.{AnswersSources, AreReadByLine}
+use Rattle.plan_serial.proofs.SourceLemmas.{messages_read}
+use Rattle.plan_answer.specs.Sources.{AreTold, source_files}
 use Rattle.cedr_run.proofs.SayingLemmas.{opened_refused}
 use Rattle.cedr_run.proofs.sources.open_sources.Goals as goal
 
@@ -15,4 +16,4 @@ returns-in-Err-Events-clause-opened g c = λ told is.
     let at = subst (λ (ns : List PlanNode). AreTold (g.F.Files.content c.args.files.now) told (source_files ns)) (sym same) is in
     let found = subst (λ e. AnswersSources (Err e) told slice) c.in-Err-Events.field-0-is (c.in-Err-Events.ensures.answer told at) in
     opened_refused told nodes slice faulty c.deref.result.now c.refuse_sources.result c.refuse_sources.ensures same c.deref.ensures.value
-    (subst (λ (ns : List PlanNode). (left : Lists) × AreRead told ns left faulty × (0 < length faulty)) same found)
+    (let read = subst (λ (ns : List PlanNode). (lines : ByLine) × AreReadByLine told ns lines faulty × (0 < length faulty)) same found in (all_messages read.0, messages_read told nodes read.0 faulty read.1, read.2))

@@ -1,5 +1,5 @@
 use Rattle.node_laws.specs.Lists.{list_at}
-use Rattle.cedr_query.specs.Queries.{output_place}
+use Rattle.cedr_plan.specs.Places.{output_place}
 use Rattle.plan_runs.specs.Without.{forgot_in}
 use Rattle.plan_edges.specs.Wires.{carried, ports_of}
 use Rattle.cedr_run.specs.Seen.{seen_files, seen_sink}

@@ -15,3 +15,6 @@ pub returns-clause-ran : goal.returns-clause-ran
 returns-clause-ran g c = λ script.
     has_run_by c.args.job c.requires.job (seen_files g.F.Files.content g.F.Files.faults g.F.Files.asked c.args.files.now) c.args.file.now script (seen_sink g.K.Sink.written g.K.Sink.faults c.args.out.now) (seen_sink g.K.Sink.written g.K.Sink.faults c.on_threads-outcome.new.out) c.report-status.result c.on_threads-outcome.result.edges.items c.on_threads-outcome.result.ran.items
     (λ done. c.on_threads-outcome.ensures.ran (done_alone c.on_threads-outcome.result.outcome c.report-status.result c.report-status.ensures.status done) script)
+
+pub returns-clause-strong : goal.returns-clause-strong
+returns-clause-strong g c = c.on_threads-outcome.ensures.strong

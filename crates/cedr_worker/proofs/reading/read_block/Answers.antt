@@ -22,7 +22,8 @@ returns-then-count-eq0-clause-came g c = λ shape bytes given reads within.
 
 pub returns-in-Ok-feed-clause-took : goal.returns-in-Ok-feed-clause-took
 returns-in-Ok-feed-clause-took g c = λ shape bytes given reads within.
-    block_read c.args.lines.now c.feed.new.self _ _ _ _ shape bytes (take c.in-Ok.count c.read.new.buf) given (c.in-Ok-feed.ensures.reads shape bytes given reads) c.feed.ensures.goes_on c.in-Ok.ensures.bytes.0 c.in-Ok.ensures.counted
+    let few : length (take c.in-Ok.count c.read.new.buf) ≤ BLOCK = omega (arith, length-take c.in-Ok.count c.read.new.buf, c.read.auto.buf, c.requires.room) in
+    block_read c.args.lines.now c.feed.new.self _ _ _ _ shape bytes (take c.in-Ok.count c.read.new.buf) given (c.in-Ok-feed.ensures.reads shape bytes given reads) c.feed.ensures.goes_on within few c.in-Ok.ensures.bytes.0 c.in-Ok.ensures.counted
 
 pub returns-in-Ok-feed-clause-came : goal.returns-in-Ok-feed-clause-came
 returns-in-Ok-feed-clause-came g c = λ shape bytes given reads within.
@@ -33,4 +34,5 @@ returns-in-Ok-feed-clause-came g c = λ shape bytes given reads within.
 
 pub returns-in-Err-clause-took : goal.returns-in-Err-clause-took
 returns-in-Err-clause-took g c = λ shape bytes given reads within.
-    block_lost c.args.lines.now c.feed.new.self _ _ _ _ shape bytes (take c.in-Ok.count c.read.new.buf) given reads c.requires.goes_on c.feed.ensures.goes_on c.in-Ok.ensures.bytes.0 c.in-Ok.ensures.counted
+    let few : length (take c.in-Ok.count c.read.new.buf) ≤ BLOCK = omega (arith, length-take c.in-Ok.count c.read.new.buf, c.read.auto.buf, c.requires.room) in
+    block_lost c.args.lines.now c.feed.new.self _ _ _ _ shape bytes (take c.in-Ok.count c.read.new.buf) given reads c.requires.goes_on c.feed.ensures.goes_on within few c.in-Ok.ensures.bytes.0 c.in-Ok.ensures.counted

@@ -1,6 +1,6 @@
 use Rattle.std.proofs.Common.{◌≡◌, length}
 use Rattle.cedr_table.specs.Operators.{HaveRows}
-use Rattle.cedr_query.specs.Queries.{source_count}
+use Rattle.cedr_plan.specs.Places.{source_count}
 use Rattle.message_cases.proofs.query.play.Given as goal
 
 abbrev pub invariant-loop-line : goal.invariant-loop-line

@@ -8,5 +8,5 @@ pub returns-clause-middle : goal.returns-clause-middle
 returns-clause-middle c = middle_text
 
 pub returns-clause-strong : goal.returns-clause-strong
-returns-clause-strong c = λ plan front after output before lines given text is whole here middle block memory are shown.
-    strong_text plan before lines given text is are shown front after output whole here middle block memory
+returns-clause-strong c = λ nodes front after output before lines given text is whole here middle block memory are shown.
+    strong_text nodes before lines given text is are shown front after output whole here middle block memory

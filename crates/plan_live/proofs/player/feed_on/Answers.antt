@@ -38,5 +38,5 @@ returns-in-Ok c = on_ok_weaker c.settle.result (λ settled nodes given s within 
     let may = may_come_in (list_at given place) [] m (subst (λ (message : Option Message). IsLegal (list_at given place ++ message_list message)) c.in-Some.is legal) in
     let fed = c.in-Ok.ensures.fed nodes s.ports given s.stands within source may in
     subst (λ (message : Option Message). IsFedOn nodes c.settle.new.net given place (message_list message)) (sym c.in-Some.is)
-    (fed_settled nodes c.settle.new.net given place m (given_count nodes c.args.net.now given s) within (settled nodes s.ports (with_more given place (m ∷ [])) fed)))
+    (fed_settled nodes c.settle.new.net s.ports given place m (given_count nodes c.args.net.now given s) within (settled nodes s.ports (with_more given place (m ∷ [])) fed)))
     c.settle.ensures

@@ -1,12 +1,11 @@
 use Rattle.std.proofs.Common.{refl, length, ap, arith}
-use Rattle.node_laws.specs.Lists.{Lists}
-use Rattle.cedr_net.proofs.SettleLemmas.{grow_none, grow_along}
-use Rattle.plan_serial.proofs.FeedLemmas.{fed_either, none_either, none_left, taken_none, taken_more, taken_all}
+use Rattle.plan_serial.specs.Rounds.{ByLine}
+use Rattle.plan_serial.proofs.FeedLemmas.{fed_either, none_either, none_left, fed_further, fed_each, taken_none, taken_more, taken_all}
 use Rattle.plan_serial.proofs.feeding.feed_each.Goals as goal
 
 pub loop-place-init : goal.loop-place-init
 loop-place-init c = record {
-  stands = λ nodes whole f. record { feeds = f; grow = grow_none f.given };
+  stands = λ nodes ports given h may. record { given' = given; stands = h; may = may; fed = λ k within. absurd (omega arith); rest = λ k within. refl; rest_left = λ k within. refl };
   fed = λ is. absurd (let e = is in cc);
   none = λ isnt. (refl, λ k within. absurd (omega arith));
   taken = taken_none c.args.remaining.now.items;
@@ -15,7 +14,8 @@ loop-place-init c = record {
 pub feed_one-requires : goal.feed_one-requires
 feed_one-requires c =
     let r = c.requires in
-    (r.0, r.1, (c.loop-place.invariant.stands r.0 r.1 r.2).feeds, omega (arith, r.2.fed.count, c.loop-place-test.true, c.len-place-end.ensures))
+    let u = c.loop-place.invariant.stands r.0 r.1 r.2 r.3 r.4 in
+    (r.0, r.1, u.given', u.stands, u.may, omega (arith, r.4.count, c.loop-place-test.true, c.len-place-end.ensures))
 
 pub loop-place-preserved : goal.loop-place-preserved
 loop-place-preserved c =
@@ -25,19 +25,23 @@ loop-place-preserved c =
     let old = c.loop-place.remaining.items in
     let new = c.feed_one.new.remaining.items in
     record {
-      stands = λ nodes whole f.
-          let on = inv.stands nodes whole f in
-          let next = now.stands nodes whole on.feeds (omega (arith, f.fed.count, c.loop-place-test.true, c.len-place-end.ensures)) in
-          record { feeds = next.feeds; grow = grow_along f.given on.feeds.given next.feeds.given on.grow next.grow };
+      stands = λ nodes ports given h may.
+          let u = inv.stands nodes ports given h may in
+          fed_further nodes c.loop-place.net c.feed_one.new.net ports given first old new c.loop-place.place u
+          (now.stands nodes ports u.given' u.stands u.may (omega (arith, may.count, c.loop-place-test.true, c.len-place-end.ensures))) now.taken;
       fed = fed_either c.loop-place.fed c.in_ok-fed.field-0 first old new inv.fed (λ isnt. (inv.none isnt).0) now.fed (λ isnt. (now.none isnt).1);
       taken = taken_more c.loop-place.place first old new inv.taken now.taken;
       none = none_either c.loop-place.fed c.in_ok-fed.field-0 first old new c.loop-place.place inv.none now.none;
     }
 
+pub returns-clause-stands : goal.returns-clause-stands
+returns-clause-stands c = λ nodes ports given h may.
+    fed_each nodes c.loop-place.net ports given c.args.remaining.now.items c.loop-place.remaining.items c.loop-place.place (omega (arith, c.loop-place-test.false, c.loop-place.auto.place-end, c.len-place-end.ensures)) (c.loop-place.invariant.stands nodes ports given h may)
+
 pub returns-clause-none : goal.returns-clause-none
 returns-clause-none c = λ isnt k.
     let n = c.loop-place.invariant.none isnt in
-    none_left c.loop-place.remaining.items c.loop-place.place k (omega (arith, ap (λ (ls : Lists). length ls) n.0, c.loop-place-test.false, c.len-place-end.ensures)) n.1
+    none_left c.loop-place.remaining.items c.loop-place.place k (omega (arith, ap (λ (ls : ByLine). length ls) n.0, c.loop-place-test.false, c.len-place-end.ensures)) n.1
 
 pub returns-clause-taken : goal.returns-clause-taken
 returns-clause-taken c = taken_all c.loop-place.place c.args.remaining.now.items c.loop-place.remaining.items (omega (arith, c.loop-place-test.false, c.loop-place.auto.place-end, c.len-place-end.ensures)) c.loop-place.invariant.taken

@@ -1,6 +1,6 @@
 use Rattle.std.proofs.Common.{sym, subst, ◌∙◌}
 use Rattle.node_laws.specs.Lists.{Lists, AreTables}
-use Rattle.cedr_query.specs.Queries.{source_count}
+use Rattle.cedr_plan.specs.Places.{source_count}
 use Rattle.plan_runs.specs.Runs.{AllWhole}
 use Rattle.node_laws.proofs.Order.{one_canonical}
 use Rattle.plan_serial.proofs.query.answer_rows.Goals as goal

@@ -4,10 +4,11 @@ use Rattle.cedr_base.specs.Messages.{IsTableOf}
 use Rattle.node_laws.specs.Lists.{Lists, list_at, AreTables}
 use Rattle.cedr_net.specs.Networks.{NetStands}
 use Rattle.cedr_plan.specs.declared.plan.PlanNode.{PlanNode}
-use Rattle.cedr_query.specs.Queries.{source_count, output_place}
+use Rattle.cedr_plan.specs.Places.{output_place, source_count}
 use Rattle.plan_runs.specs.Runs.{AllWhole}
 use Rattle.plan_answer.specs.Answers.{has_memory}
 use Rattle.node_laws.proofs.Order.{one_canonical}
+use Rattle.plan_answer.proofs.ChangesLemmas.{rows_remembered}
 use Rattle.plan_serial.proofs.QueryLemmas.{text_alone}
 use Rattle.plan_serial.proofs.query.answer_sources.Goals as goal
 
@@ -23,8 +24,12 @@ returns c = λ histories whole are.
     let same = c.network_runs.ensures.answer nodes net run.ports run.given run.stands run.settled (subst (AllWhole (source_count nodes)) (sym run.sources) whole) histories
     (subst (λ (ls : Lists). AreTables ls histories) (sym run.sources) are) written.0 table in
     record {
-      ports = run.ports;
-      given = run.given;
-      run = run.run;
-      text_is = text_alone c.is_told.result (c.args.always || has_memory nodes) ns nodes run.ports _ _ c.new-text.result.items c.write_answer.new.out.items (c.is_told.ensures ∙ ap (λ (ms : List PlanNode). c.args.always || has_memory ms) ns_are) ns_are (one_canonical written.0 _ same) c.new-text.ensures.items written.2;
+      text_is = record {
+        ports = run.ports;
+        given = run.given;
+        run = run.run;
+        remembers = rows_remembered nodes _ histories run.ports run.given c.requires.plan.nodes run.run whole;
+        text_is = text_alone c.is_told.result (c.args.always || has_memory nodes) ns nodes run.ports _ _ c.new-text.result.items c.write_answer.new.out.items (c.is_told.ensures ∙ ap (λ (ms : List PlanNode). c.args.always || has_memory ms) ns_are) ns_are (one_canonical written.0 _ same) c.new-text.ensures.items written.2;
+      };
+      rounds = run.came;
     }

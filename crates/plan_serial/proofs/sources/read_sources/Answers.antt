@@ -3,8 +3,8 @@ use Rattle.std.specs.Prelude.{Option, IfSome}
 use Rattle.std.proofs.lemmas.List.{take_more, length-take}
 use Rattle.cedr_plan.specs.declared.plan.PlanNode.{PlanNode}
 use Rattle.plan_runs.proofs.PlanNodes.{split}
-use Rattle.plan_serial.specs.Sources.{AnswersFile}
-use Rattle.plan_answer.specs.Sources.{AreTold, AreRead, AsksFirst, file_of, files_of, source_files}
+use Rattle.plan_serial.specs.Sources.{AnswersFile, AreReadByLine}
+use Rattle.plan_answer.specs.Sources.{AreTold, AsksFirst, file_of, files_of, source_files}
 use Rattle.plan_answer.proofs.TextLemmas.{node_there}
 use Rattle.plan_serial.proofs.SourceLemmas.{told_at, read_more, asked_on, counted_on, sources_on}
 use Rattle.plan_answer.proofs.SourceLemmas.{files_more, asks_on, asked_whole}
@@ -27,7 +27,7 @@ loop-place-preserved g c =
     let wide : length (take place nodes) ≡ place = omega (arith, length-take place nodes) in
     record {
       told = λ told h.
-          subst (λ (ns : List PlanNode). AreRead told ns c.note.new.self.left.items c.note.new.self.faulty.items) (sym (take_more nodes place n within ∙ ap (λ (m : PlanNode). take place nodes ++ m ∷ []) here))
+          subst (λ (ns : List PlanNode). AreReadByLine told ns c.note.new.self.left.items c.note.new.self.faulty.items) (sym (take_more nodes place n within ∙ ap (λ (m : PlanNode). take place nodes ++ m ∷ []) here))
           (read_more told (g.F.Files.content c.args.files.now) (take place nodes) loop.so_far c.note.new.self n read.result place wide
           (subst (λ (m : PlanNode). AreTold (g.F.Files.content c.args.files.now) told (files_of m)) same (told_at (g.F.Files.content c.args.files.now) told s.before s.after s.node (subst (λ (ns : List PlanNode). AreTold (g.F.Files.content c.args.files.now) told (source_files ns)) s.whole h)))
           (inv.told told h)

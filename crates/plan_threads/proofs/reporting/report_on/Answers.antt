@@ -8,11 +8,12 @@ use Rattle.plan_answer.specs.Forgettings.{nodes_forgot, port_forgot}
 use Rattle.plan_workers.specs.Forgettings.{AllTook}
 use Rattle.plan_workers.specs.Wents.{part_lacked}
 use Rattle.std.proofs.lemmas.List.{length-map}
+use Rattle.std.proofs.lemmas.Result.{on_ok_weaker}
 use Rattle.cedr_plan.specs.Drawn.{node_of}
-use Rattle.cedr_query.specs.Queries.{source_count}
+use Rattle.cedr_plan.specs.Places.{source_count}
 use Rattle.plan_threads.specs.Reports.{HasOutcome}
 use Rattle.plan_threads.specs.SoFar.{IsSoFar}
-use Rattle.plan_threads.proofs.OutcomeLemmas.{ok_value, right_false}
+use Rattle.plan_threads.proofs.OutcomeLemmas.{ok_value, right_false, short_outcome}
 use Rattle.plan_threads.proofs.ReportLemmas.{one, reported, sources_count, sources_few, took, writer_of}
 use Rattle.plan_threads.proofs.SoFarLemmas.{began}
 use Rattle.plan_threads.proofs.reporting.report_on.Goals as goal
@@ -93,3 +94,10 @@ returns-clause-so_far g c = λ given ended.
             (began g.S.Source.rest g.S.Source.faults c.args.plan.now given c.args.reader.history c.args.closed c.requires.plan ended c.sort_parts-held.result c.sort_parts-held.ensures.writer seen.0 seen.2),
       ),
     )
+
+pub returns-clause-short : goal.returns-clause-short
+returns-clause-short g c = λ asked lacked.
+    let forgotten = c.tell_unless-forgotten.result in
+    let changes = c.conclude-changes.result in
+    let came = subst (λ b. HasOutcome c.as_slice-4.result.now c.as_slice-5.result.now b c.outcome_of-outcome.result) (λ i. c.is_err.ensures.value i || c.is_err-2.ensures.value i) c.outcome_of-outcome.ensures in
+    short_outcome (g.W.Watcher.lacked c.conclude-changes.new.watcher) c.as_slice-4.result.now c.as_slice-5.result.now (is_err forgotten) changes c.outcome_of-outcome.result came (on_ok_weaker changes (λ found. found asked) c.conclude-changes.ensures.found) lacked

@@ -49,3 +49,6 @@ returns-clause-so_far g c =
 
 pub returns-clause-whole : goal.returns-clause-whole
 returns-clause-whole g c = λ done. subst (λ start. g.W.Watcher.stands start c.report_on.new.watcher c.report_on.new.out c.report_on.result.changes.items) c.of-start.ensures (c.report_on.ensures.whole done)
+
+pub returns-clause-short : goal.returns-clause-short
+returns-clause-short g c = λ found. c.report_on.ensures.short (c.play-played.ensures.asked found)

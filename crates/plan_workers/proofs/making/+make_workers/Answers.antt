@@ -2,7 +2,7 @@ use Rattle.std.proofs.Common.{rules, ◌≡◌, ◌++◌, ◌∷◌, ◌∙◌, 
 use Rattle.std.proofs.lemmas.List.{append-nil}
 use Rattle.cedr_edge.specs.Ends.{InEnd, OutEnd}
 use Rattle.cedr_plan.specs.declared.plan.PlanNode.{PlanNode}
-use Rattle.cedr_query.specs.Queries.{source_count}
+use Rattle.cedr_plan.specs.Places.{source_count}
 use Rattle.plan_workers.specs.declared.worker.Worker.{Worker}
 use Rattle.plan_workers.specs.Making.{AllCanWork, AreMade, Awaits, sources_of_worker}
 use Rattle.plan_workers.proofs.MakeLemmas.{made_count, made_more, none_left, on_ok, writer_behind, writer_there}

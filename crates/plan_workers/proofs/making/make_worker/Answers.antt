@@ -1,8 +1,7 @@
 use Rattle.std.proofs.Common.{rules, ◌≡◌, [], true, false, None, refl, map, sym, ap, subst}
-use Rattle.cedr_query.specs.Queries.{is_output}
+use Rattle.cedr_plan.specs.Places.{is_output, is_source}
 use Rattle.cedr_text.specs.declared.event_line.Shape.TheVariants.{AnyText}
 use Rattle.plan_edges.specs.Wires.{in_edge, out_edge}
-use Rattle.op_node.specs.Ready.{is_source}
 use Rattle.plan_workers.specs.Crews.{content_in, count_in}
 use Rattle.plan_workers.specs.Making.{HasWriter, role_for}
 use Rattle.plan_workers.proofs.MakeLemmas.{source_told, other_told, output_no_source}

@@ -1,7 +1,8 @@
 use Rattle.std.proofs.Common.{◌≡◌, ◌∙◌, ◌++◌, List, map, sym, ap, subst, arith}
 use Rattle.std.specs.Prelude.{count_by}
 use Rattle.cedr_edge.specs.Ends.{InEnd, OutEnd}
-use Rattle.cedr_plan.specs.Drawn.{node_of, is_output_node}
+use Rattle.cedr_plan.specs.Drawn.{Node, node_of}
+use Rattle.cedr_plan.specs.Places.{is_output}
 use Rattle.cedr_plan.specs.declared.plan.PlanNode.{PlanNode}
 use Rattle.plan_workers.specs.declared.worker.Worker.{Worker}
 use Rattle.plan_workers.specs.Making.{AllCanWork, AreMade}
@@ -19,7 +20,7 @@ pub returns-in-Ok-make_workers-clause-made : goal.returns-in-Ok-make_workers-cla
 returns-in-Ok-make_workers-clause-made g c =
     let nodes = c.as_slice-nodes.ensures.value in
     let opened = c.in-Ok-open_edges in
-    let count : count_by is_output_node (map node_of c.as_slice-nodes.result.now) ≡ count_by is_output_node (map node_of c.args.plan.now.nodes.items) = ap (λ (ns : List PlanNode). count_by is_output_node (map node_of ns)) nodes in
+    let count : count_by (λ (node : Node). is_output node.kind) (map node_of c.as_slice-nodes.result.now) ≡ count_by (λ (node : Node). is_output node.kind) (map node_of c.args.plan.now.nodes.items) = ap (λ (ns : List PlanNode). count_by (λ (node : Node). is_output node.kind) (map node_of ns)) nodes in
     let made = c.in-Ok-make_workers.ensures.made opened.reader.history (opened.ensures.writer, omega (arith, count, c.requires.plan.one_output)) in
     let workers = made.1.0 ∙ ap (λ (ws : List (Worker g.row.S.Denot g.row.R.Denot)). ws ++ made.0) c.in-Ok-with_capacity.ensures.items in
     crew_made g.S.Source.rest g.S.Source.faults c.args.plan.now.nodes.items opened.wires.takers.items opened.wires.putters.items c.args.sources.items c.make_workers.new.making.workers.items opened.reader opened.ensures.wired opened.ensures.reader

@@ -22,11 +22,11 @@ loop-preserved c = (
   λ nodes ports given h within.
       let w = c.loop.invariant.1 nodes ports given h within in
       let t = c.in_ok-turn.ensures.turned c.if-branch.true in
-      way_on nodes c.args.self.now c.loop.self c.turn.new.self given c.args.place t.0 within w (t.1 nodes w.ports w.given' w.stands within),
+      way_on nodes c.args.self.now c.loop.self c.turn.new.self ports given c.args.place t.0 within w (t.1 nodes w.ports w.given' w.stands within),
 )
 
 pub returns-clause-drained : goal.returns-clause-drained
 returns-clause-drained c = λ nodes ports given h within.
     let w = c.loop.invariant.1 nodes ports given h within in
     let idle = c.in_ok-turn.ensures.idle c.if-branch.false in
-    drained nodes c.args.self.now c.loop.self c.turn.new.self given c.args.place w (idle.2 nodes w.ports w.given' w.stands) idle.1 idle.0
+    drained nodes c.args.self.now c.loop.self c.turn.new.self ports given c.args.place w (idle.2 nodes w.ports w.given' w.stands) idle.1 idle.0

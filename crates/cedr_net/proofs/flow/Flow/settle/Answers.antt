@@ -16,10 +16,10 @@ loop-place-preserved c = (
   c.drain.ensures.keeps ∙ c.loop-place.invariant.0,
   λ nodes ports given h.
       let u = c.loop-place.invariant.1 nodes ports given h in
-      settled_on nodes c.loop-place.self c.drain.new.self given c.loop-place.place u (c.in_ok-drain.ensures.drained nodes u.ports u.given' u.stands (omega (arith, h.flows.works_count))),
+      settled_on nodes c.loop-place.self c.drain.new.self ports given c.loop-place.place u (c.in_ok-drain.ensures.drained nodes u.ports u.given' u.stands (omega (arith, h.flows.works_count))),
 )
 
 pub returns-clause-settled : goal.returns-clause-settled
 returns-clause-settled c = λ nodes ports given h.
     let end : c.loop-place.place ≡ length nodes = omega (arith, h.flows.works_count, c.len-place-end.ensures) in
-    subst (λ (n : ℕ). IsSettledUpTo nodes c.loop-place.self given n) end (c.loop-place.invariant.1 nodes ports given h)
+    subst (λ (n : ℕ). IsSettledUpTo nodes c.loop-place.self ports given n) end (c.loop-place.invariant.1 nodes ports given h)

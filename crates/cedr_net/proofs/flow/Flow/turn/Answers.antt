@@ -1,7 +1,7 @@
 use Rattle.std.proofs.Common.{◌≡◌, max, ap, sym, subst, ◌∙◌}
 use Rattle.std.proofs.lemmas.Bool.{eqb-true}
 use Rattle.node_laws.specs.Lists.{list_at}
-use Rattle.cedr_query.specs.Queries.{output_place}
+use Rattle.cedr_plan.specs.Places.{output_place}
 use Rattle.cedr_net.specs.Flows.{reads_of}
 use Rattle.cedr_net.specs.Edges.{ArePorts}
 use Rattle.cedr_net.specs.Networks.{IsAnswerOf}

@@ -1,6 +1,6 @@
 use Rattle.std.proofs.Common.{List, ℕ, get_or, length, sym, subst, arith, ap}
 use Rattle.node_laws.specs.Lists.{list_at}
-use Rattle.cedr_query.specs.Queries.{output_place}
+use Rattle.cedr_plan.specs.Places.{output_place}
 use Rattle.plan_runs.specs.Runs.{lists_at}
 use Rattle.cedr_net.specs.declared.work.Work.{Work}
 use Rattle.cedr_net.specs.Flows.{WorksAt}
