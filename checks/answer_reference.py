@@ -13,7 +13,7 @@ import made
 from aligner import aligned
 from answer_lines import LIST_MARK, REACH_MARK, Unlawful, change_of, forgotten_of, lines_of, mark_of, row_of
 from asked import ON_THREADS, Asked
-from messages import Add, Cut, End, apply, in_order, is_change, sync, table_of
+from messages import Add, Cut, End, apply, in_one_list, in_order, is_change, sync, table_of
 from network import fed_in_rounds
 from network_texts import forgotten_text, rows_text
 from query_reference import by_place, output_place, port_standing, query, standing
@@ -33,7 +33,7 @@ def expected(read: Asked, out: bytes) -> bytes:
 
 
 def messages_in(fed: list) -> list:
-    return [[one for one in messages if one is not None] for messages in fed]
+    return list(map(in_one_list, fed))
 
 
 def whole_answer(read: Asked, out: bytes) -> bytes:
@@ -138,8 +138,9 @@ def live(plan: list, steps: list, lines: list) -> bytes:
             shown = next((place for place, line in enumerate(lines) if line.startswith(REACH_MARK)), len(lines))
             text += shown_text(plan, lists, lines[: shown + 1])
             lines = lines[shown + 1 :]
-        elif step[1] is not None:
-            lists[step[0]].append(step[1])
+        else:
+            source, messages = step
+            lists[source] += messages
     return text
 
 

@@ -16,8 +16,8 @@ ON_THREADS = ("run", "stream")
 class Asked(NamedTuple):
     """The status and standard error, and where the plan is accepted its nodes and what is fed to them.
 
-    What is fed is for each source its list of messages by line, with none for a line that has none; an empty line isn't
-    in it. For `live` it is the list of the script's steps, each `?` or a source with the message of its line.
+    What is fed is for each source the list of its lines, each as the list of its messages; an empty line isn't in it.
+    For `live` it is the list of the script's steps, each `?` or a source with the messages of its line.
     """
 
     command: str
@@ -74,7 +74,7 @@ def read_script(plan: list, name: str, find) -> Asked:
 
 
 def script_step(line: bytes, judges: dict):
-    """A source and its message, or `?`, or none for an empty line. Raises the line's fault."""
+    """A source and the messages of its line, or `?`, or none for an empty line. Raises the line's fault."""
     line = reference.without_return(line)
     if line in (b"", b"?"):
         return line.decode()

@@ -43,7 +43,7 @@ def text(size: int, source: int) -> bytes:
 
 
 def lines(size: int, source: int) -> list:
-    """The messages of a source's lines."""
+    """The messages of each of a source's lines."""
     answers, told = reference.judged(text(size, source), reference.Judge(["text", "int"]).take)
     if told:
         raise ValueError(told)

@@ -62,6 +62,11 @@ def apply(table: Counter, change, times: int = 1) -> None:
             del table[row]
 
 
+def in_one_list(lines: list) -> list:
+    """The messages of all lines, each of which has a list of its own."""
+    return [message for messages in lines for message in messages]
+
+
 def table_of(messages: list) -> Counter:
     table = Counter()
     for message in messages:

@@ -72,9 +72,9 @@ class Network:
         self.output = next(place for place, node in enumerate(plan) if node.op == "output")
         self.changes = []
 
-    def feed(self, source: int, message) -> None:
-        """A message of a source waits on each port that reads it."""
-        self.send(self.sources[source], [message])
+    def feed(self, source: int, messages: list) -> None:
+        """Messages of a source wait on each port that reads it."""
+        self.send(self.sources[source], messages)
 
     def settle(self) -> None:
         """Nodes take what waits, and what comes of it goes on to the output, until nothing waits."""
@@ -118,15 +118,14 @@ class Network:
 def fed_in_rounds(plan: list, lists: list, network=Network) -> Network:
     """The network after rounds, until all sources have ended: one line of each that hasn't, and then it settles.
 
-    A list has for each line of its source the message, or none where the line has none.
+    A list has for each line of its source the list of its messages.
     """
     fed = network(plan)
-    left = [deque(lines + [End()]) for lines in lists]
+    left = [deque(lines + [[End()]]) for lines in lists]
     while any(left):
         for source, lines in enumerate(left):
-            message = lines.popleft() if lines else None
-            if message is not None:
-                fed.feed(source, message)
+            if lines:
+                fed.feed(source, lines.popleft())
         fed.settle()
     return fed
 

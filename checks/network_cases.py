@@ -81,6 +81,7 @@ INSTALLS, SHUTDOWNS = "+,1,1000,inf,m1 / +,2,2000,inf,m2", "+,1,5000,inf,m1 / +,
 BROKEN = "+,1,1,2,a / +,2,20,30,b / +,3,10,40,c / -,3,25"
 WEAK_ROWS = "1,2,a / 20,30,b / -- / out,0,late,20,+,10,40,c / out,0,orphan,20,-,25,10,40,c"
 TWO_WIDE = "+,1,0,10,x / +,2,5,7,x"
+REVISED = "+,1,1,10,a / ~,1,3,6,b"
 LEAST, LAST = "4611686018427387903", "9223372036854775807"
 
 # The words, the plan, what the files hold by their names without `.csv`, and what is written.
@@ -89,6 +90,11 @@ ANSWERED = [
      {"s": "+,1,1,20,a / +,2,4,10,b / =,10 / -,1,10"}, "+,1,10,a / +,4,10,b"),
     ("a correction", "run", passing(MIDDLE), {"s": "+,1,1,10,a / -,1,5"}, "1,5,a"),
     ("the same, told at once", "run", passing(MIDDLE), {"s": "+,9,1,5,a"}, "1,5,a"),
+    ("a revision", "run", passing(MIDDLE), {"s": REVISED}, "3,6,b"),
+    ("a revision takes its event back", "stream", passing(MIDDLE), {"s": REVISED}, "+,1,10,a / -,1,1,10,a / +,3,6,b"),
+    ("a revision, strong", "stream", passing(STRONG), {"s": REVISED}, "+,3,6,b"),
+    ("a revision whose old row was late", "audit", passing(WEAK), {"s": "+,1,1,2,a / +,2,20,30,b / ~,1,16,40,c"},
+     "1,2,a / 20,30,b / 16,40,c / -- / out,0,late,20,-,1,1,2,a"),
     ("a join", "run", JOIN, {"l": "+,1,1,10,a", "r": "+,1,5,20,b"}, "5,10,a,b"),
     ("a join whose row becomes empty", "run", JOIN, {"l": "+,1,1,10,a / -,1,5", "r": "+,1,5,20,b"}, ""),
     ("a join of equal rows", "run", JOIN, {"l": "+,1,1,10,a / +,2,1,10,a", "r": "+,1,5,20,b"}, "5,10,a,b / 5,10,a,b"),
@@ -123,6 +129,9 @@ ANSWERED = [
      {"u": "=,0 / +,1,20,21,a", "v": "+,1,10,11,b"}, "10,11,b / 20,21,a / --"),
     ("a guarantee that says nothing has its turn", "audit", UNTIL,
      {"u": "=,0 / +,1,20,21,a", "v": "+,1,10,11,b"}, "10,11,b / 20,21,a / --"),
+    ("a revision has one turn for both of its messages", "serial", UNTIL,
+     {"u": "+,1,1,2,a / ~,1,1,3,a / +,2,20,21,b", "v": "=,0 / =,0 / +,1,10,11,c"},
+     "1,3,a / 20,21,b / -- / out,0,late,20,+,10,11,c"),
     ("an empty line has none", "serial", UNTIL, {"u": " / +,1,20,21,a", "v": "+,1,10,11,b"},
      "20,21,a / -- / out,0,late,20,+,10,11,b"),
     ("a round goes port by port", "audit", UNTIL, {"u": "+,1,20,21,a", "v": "+,1,10,11,b"},
@@ -184,6 +193,8 @@ SHOWN = [
      "s,+,1,0,10,x / s,+,2,5,7,x / s,=,5 / ? / s,=,6 / ? / s,=,11 / ?",
      "0,5,x,1 / 5,7,x,2 / 7,10,x,1 / . 0 / 0,5,x,1 / 5,7,x,2 / 7,10,x,1 / . 5 / "
      "0,5,x,1 / 5,7,x,2 / 7,10,x,1 / . 11"),
+    ("a revision gives a row another life", COUNTS, "s,+,1,0,10,x / s,+,2,5,7,x / s,~,2,6,12,x / ?",
+     "0,6,x,1 / 6,10,x,2 / 10,12,x,1 / . 0"),
     ("a row that ends behind the guarantee waits", passing(STRONG), "s,+,1,1,5,a / s,+,2,2,9,b / s,=,6 / ?",
      "1,5,a / . 6"),
     ("a guarantee through a shift", one("shift", '"by":7'), "? / s,=,5 / ?", ". 0 / . 12"),
@@ -195,6 +206,10 @@ SHOWN = [
 REFUSED = [
     ("a text in a column of numbers", "run", SUMS, {"s": "+,1,0,4,x,y"}, "events s line 1 fault 5"),
     ("a number beyond 64 bits", "serial", SUMS, {"s": "+,1,0,4,x,9223372036854775808"}, "events s line 1 fault 5"),
+    ("a text in a column of numbers of a revision", "run", SUMS, {"s": "+,1,0,4,x,1 / ~,1,0,4,x,y"},
+     "events s line 2 fault 5"),
+    ("a revision with a field too few", "serial", passing(MIDDLE), {"s": "+,1,1,2,a / ~,1,1,2"},
+     "events s line 2 fault 2"),
     ("a field too many", "audit", passing(MIDDLE), {"s": "+,1,1,2,a,b"}, "events s line 1 fault 2"),
     ("two faulty sources", "run", UNION, {"u": "+,1,5,4,a", "v": "-,3,1"},
      "events u line 1 fault 4 / events v line 1 fault 7"),
@@ -207,6 +222,8 @@ SHOWN_BEFORE = [
     ("no event behind the name", "s,", "", "1 fault 2"),
     ("a known id", "s,+,1,1,5,a / ? / s,+,1,1,5,a / ?", "1,5,a / . 0", "3 fault 6"),
     ("a line before the guarantee", "s,=,9 / s,+,1,1,5,a", "", "2 fault 9 sync 1 mark 9"),
+    ("a revision of an event before the guarantee", "s,+,1,1,5,a / s,=,2 / ? / s,~,1,3,6,b", "1,5,a / . 2",
+     "4 fault 9 sync 1 mark 2"),
 ]
 
 SIZES = [("1", "rows 1 length 4"), ("2", "rows 1 length 4"), ("000001", "rows 1 length 4")]

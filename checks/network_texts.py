@@ -52,7 +52,7 @@ def live(plan: list, steps: list) -> bytes:
     for step in steps:
         if step == "?":
             text += rows_text(network.answer()) + f". {time_text(network.reach())}\n".encode()
-        elif step[1] is not None:
+        else:
             network.feed(*step)
             network.settle()
     return text

@@ -5,7 +5,7 @@ import random
 import nodes
 import random_files
 import random_plans
-from messages import FOREVER, table_of
+from messages import FOREVER, in_one_list, sync, table_of
 from query_reference import output_place
 from reference import Judge, fields_of, judged, number_of, time_of
 
@@ -98,18 +98,17 @@ class SourceFile(random_files.RandomFile):
         return super().insertion()
 
     def repeated(self) -> bytes:
-        begin, end = self.rng.choice(list(self.events.values()))
+        begin, end, _ = self.rng.choice(list(self.events.values()))
         if begin < self.mark or begin >= end:
             return b"\n"
-        identity = 1_000 + len(self.events)
-        self.events[identity] = begin, end
-        return self.text([b"+", self.number(identity), self.number(begin), self.number(end), *self.payload()])
+        return self.event(b"+", 1_000 + len(self.events), begin, end, self.payload())
 
     def odd_line(self) -> bytes:
         if "int" in self.types and self.rng.random() < 0.4:
             payload = self.payload()
             payload[self.types.index("int")] = self.rng.choice(WRONG_NUMBERS)
-            return self.text([b"+", b"5000", self.number(self.base), self.number(FOREVER), *payload])
+            kind = self.rng.choice([b"+", b"~"])
+            return self.text([kind, b"5000", self.number(self.base), self.number(FOREVER), *payload])
         return super().odd_line()
 
 
@@ -151,7 +150,7 @@ def small_answer(plan: list, contents: list):
     for node in plan:
         if node.op == "source":
             answers, _ = judged(next(sources), Judge(node.types).take)
-            tables.append(table_of([one for one in answers if one is not None]))
+            tables.append(table_of(in_one_list(answers)))
             continue
         ports = [tables[place] for place in node.inputs]
         pairs = math.prod(1 + len(port) for port in ports) if node.op in ("join", "sequence", "unless") else 0
@@ -192,7 +191,8 @@ def shuffled(rng: random.Random, data: bytes) -> bytes:
 
     The lines of one event keep their order, and whatever has a sync below a guarantee stays before it.
     """
-    left = [parts for parts in map(line_parts, data.splitlines()) if parts]
+    judge = Judge()
+    left = [line_parts(line, judge.take(line)) for line in data.splitlines() if line]
     order = []
     while left:
         ready = [place for place, one in enumerate(left) if not any(precedes(other, one) for other in left[:place])
@@ -201,14 +201,12 @@ def shuffled(rng: random.Random, data: bytes) -> bytes:
     return b"".join(line + b"\n" for line in order)
 
 
-def line_parts(line: bytes):
-    """A line, the id of its event, which a guarantee has not, and its sync or time. An empty line has no parts."""
-    fields = fields_of(line) if line else []
-    if not fields:
-        return None
-    if fields[0] == b"=":
-        return line, None, time_of(fields[1])
-    return line, number_of(fields[1], 2**64), time_of(fields[2])
+def line_parts(line: bytes, messages: list) -> tuple:
+    """A line with these messages, the id of its event, which a guarantee has not, and its sync or time."""
+    kind, first, *_ = fields_of(line)
+    if kind == b"=":
+        return line, None, time_of(first)
+    return line, number_of(first, 2**64), min(map(sync, messages))
 
 
 def precedes(one: tuple, other: tuple) -> bool:

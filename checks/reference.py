@@ -1,5 +1,5 @@
 """What the lines of event files say, and what `cedr history` answers, plainly and apart from the program."""
-from messages import FOREVER, Add, Cut, Mark, Row
+from messages import FOREVER, Add, Cut, Mark, Row, sync
 
 LINE_LIMIT = 65_536
 FILE_LIMIT = 67_108_864
@@ -52,41 +52,58 @@ class Judge:
         self.events = {}
         self.mark = 0
 
-    def take(self, line: bytes):
-        """The message of a line, or none where it has none. Raises its least fault."""
+    def take(self, line: bytes) -> list:
+        """The messages of a line, of which it has up to two. Raises its least fault."""
         line = without_return(line)
-        return self.take_event(line) if line else None
+        return self.take_event(line) if line else []
 
-    def take_event(self, line: bytes):
+    def take_event(self, line: bytes) -> list:
         """The same of a line that isn't empty and whose carriage return was dropped."""
         if b"\r" in line:
             raise Fault(2)
         kind, *fields = fields_of(line)
-        if kind == b"+" and self.may_insert(len(fields) - 3):
-            return self.insert(fields)
+        if kind == b"+" and self.may_have(len(fields) - 3):
+            return self.insert(*self.event_of(fields))
+        if kind == b"~" and self.may_have(len(fields) - 3):
+            return self.revise(*self.event_of(fields))
         if kind == b"-" and len(fields) == 2:
             return self.retract(fields)
         if kind == b"=" and len(fields) == 1:
             return self.promise(time_of(fields[0]))
         raise Fault(2)
 
-    def may_insert(self, count: int) -> bool:
+    def may_have(self, count: int) -> bool:
+        """Whether the payload of an event may have so many fields."""
         return 0 <= count <= 16 if self.types is None else count == len(self.types)
 
-    def insert(self, fields: list) -> Add:
+    def event_of(self, fields: list) -> tuple[int, Row]:
+        """The id and the row of an insertion or a revision."""
         identity, begin = number_of(fields[0], 2**64), number_of(fields[1], FOREVER)
         end = time_of(fields[2])
         if end <= begin:
             raise Fault(4)
         types = self.types or ["text"] * len(fields[3:])
-        payload = tuple(value_of(field, one) for field, one in zip(fields[3:], types))
+        return identity, Row(end, begin, tuple(value_of(field, one) for field, one in zip(fields[3:], types)))
+
+    def insert(self, identity: int, row: Row) -> list:
         if identity in self.events:
             raise Fault(6)
-        self.check_sync(begin)
-        self.events[identity] = Row(end, begin, payload)
-        return Add(self.events[identity])
+        self.check_sync(row.begin)
+        self.events[identity] = row
+        return [Add(row)]
 
-    def retract(self, fields: list) -> Cut:
+    def revise(self, identity: int, row: Row) -> list:
+        """The event's row as it is goes, where there is still one, and the new one comes."""
+        if identity not in self.events:
+            raise Fault(7)
+        before = self.events[identity]
+        messages = [Cut(before, before.begin)] if before.begin < before.end else []
+        messages.append(Add(row))
+        self.check_sync(min(map(sync, messages)))
+        self.events[identity] = row
+        return messages
+
+    def retract(self, fields: list) -> list:
         identity, new_end = number_of(fields[0], 2**64), time_of(fields[1])
         if identity not in self.events:
             raise Fault(7)
@@ -95,17 +112,17 @@ class Judge:
             raise Fault(8, f" begin {time_text(row.begin)} end {time_text(row.end)}")
         self.check_sync(new_end)
         self.events[identity] = row._replace(end=new_end)
-        return Cut(row, new_end)
+        return [Cut(row, new_end)]
 
-    def promise(self, time: int):
+    def promise(self, time: int) -> list:
         if time <= self.mark:
-            return None
+            return []
         self.mark = time
-        return Mark(time)
+        return [Mark(time)]
 
-    def check_sync(self, sync: int) -> None:
-        if sync < self.mark:
-            raise Fault(9, f" sync {time_text(sync)} mark {time_text(self.mark)}")
+    def check_sync(self, time: int) -> None:
+        if time < self.mark:
+            raise Fault(9, f" sync {time_text(time)} mark {time_text(self.mark)}")
 
     def rows_left(self) -> list:
         return [row for row in self.events.values() if row.begin < row.end]

@@ -22,7 +22,7 @@ import networks
 import nodes
 import reference
 from aligner import Aligner
-from messages import Add, Cut, End, Mark, later, sync
+from messages import Add, Cut, End, Mark, in_one_list, later, sync
 from network import Network, WorkingNode, fed_in_rounds
 
 SEEDS = range(60), range(60), range(20), range(20), range(1)
@@ -127,6 +127,16 @@ def rows_at_the_end(network: Network) -> bytes:
     return rows + network_texts.stream(network).removeprefix(b"".join(map(reference.change_text, network.changes)))
 
 
+def revised_without_a_cut(self, identity: int, row) -> list:
+    return REVISE(self, identity, row)[-1:]
+
+
+def revised_within_its_life(self, identity: int, row) -> list:
+    """A new version that ends where the event ended before."""
+    before = self.events.get(identity, row)
+    return REVISE(self, identity, row._replace(end=max(row.begin + 1, min(row.end, before.end))))
+
+
 def never_quoted(field) -> bytes:
     return str(field).encode() if isinstance(field, int) else field
 
@@ -140,25 +150,31 @@ class AnyOrder(Network):
 
 def fed_one_after_the_other(plan: list, lists: list) -> Network:
     network = Network(plan)
-    for source, messages in reversed(list(enumerate(lists))):
-        for message in messages + [End()]:
-            if message is not None:
-                network.feed(source, message)
-                network.settle()
+    for source, lines in reversed(list(enumerate(lists))):
+        for messages in lines + [[End()]]:
+            network.feed(source, messages)
+            network.settle()
     return network
 
 
 def fed_by_messages(plan: list, lists: list) -> Network:
-    return fed_in_rounds(plan, [[message for message in lines if message is not None] for lines in lists])
+    return fed_in_rounds(plan, [[messages for messages in lines if messages] for lines in lists])
+
+
+def fed_one_message_a_round(plan: list, lists: list) -> Network:
+    return fed_in_rounds(plan, [in_one_list(map(one_by_one, lines)) for lines in lists])
+
+
+def one_by_one(messages: list) -> list:
+    return [[message] for message in messages] or [[]]
 
 
 def fed_before_all_settles(plan: list, lists: list) -> Network:
     network = Network(plan)
     for place in range(max(map(len, lists)) + 1):
         for source, lines in enumerate(lists):
-            for message in (lines + [End()])[place : place + 1]:
-                if message is not None:
-                    network.feed(source, message)
+            for messages in (lines + [[End()]])[place : place + 1]:
+                network.feed(source, messages)
     network.settle()
     return network
 
@@ -174,6 +190,7 @@ def silent_at_a_fault(words: list, find) -> tuple[int, bytes, bytes]:
 
 CHOICE = random.Random(1)
 READ_SOURCES, FORGOTTEN, ANSWER, MIXED = asked.read_sources, Network.forgotten, network_texts.answer, made.mixed
+REVISE = reference.Judge.revise
 
 WAYS = {
     "a change is late one too early": instead(Aligner, "cause", late_at_once),
@@ -201,6 +218,9 @@ WAYS = {
     "the network settles once all is fed": instead(network_texts, "fed_in_rounds", fed_before_all_settles),
     "sources come one after the other in rounds": instead(network_texts, "fed_in_rounds", fed_one_after_the_other),
     "nodes take in any order in rounds": instead(network_texts, "fed_in_rounds", fed_in_any_order),
+    "the messages of a revision come in two rounds": instead(network_texts, "fed_in_rounds", fed_one_message_a_round),
+    "a revision leaves the old row": instead(reference.Judge, "revise", revised_without_a_cut),
+    "a revision doesn't lengthen a life": instead(reference.Judge, "revise", revised_within_its_life),
     "made numbers are others": instead(made, "mixed", lambda number: MIXED(number + 1)),
 }
 

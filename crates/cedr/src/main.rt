@@ -32,17 +32,19 @@ cedr check PLAN           cedr check plan.json
     fields of its result. It opens no event file.
 cedr history FILE         cedr history events.csv
     writes the canonical history of an event file: for each event its valid interval and
-    its fields, as the file's retractions leave them.
+    its fields, as the file's retractions and revisions leave them.
 cedr make N               cedr make 1000
     answers a plan over two sources of N events that it makes itself, N from 1 to 100000,
     and writes how many rows there are and for how long they are valid together.
 cedr --help, cedr --version
     print this text and the version.
 
-An event file has lines of three kinds:
+An event file has lines of four kinds:
     +,ID,BEGIN,END,FIELD..    an event is valid from BEGIN on and before END, or inf
     -,ID,END                  it ends earlier; where that is its begin, it is withdrawn
-    =,TIME                    no later line begins an event, or ends one, before TIME
+    ~,ID,BEGIN,END,FIELD..    it has this interval and these fields instead, and is back
+                              where it was withdrawn
+    =,TIME                    no later line changes anything before TIME
 
 Exit status: 0 done, 1 the command line matches no command, 2 the plan has a fault,
 3 the events have a fault, 4 a read fault, 5 a write fault, 6 out of memory.

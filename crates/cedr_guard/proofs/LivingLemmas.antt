@@ -1,5 +1,5 @@
 -- Bags of rows that live, where one row more comes or one ends earlier.
-use Rattle.std.proofs.Common.{◌≡◌, ℕ, zero, suc, ◌+◌, ◌<◌, List, [], ◌∷◌, ◌++◌, Bool, true, false, cond, length, get_or, filter, ap, sym, ◌∙◌, arith}
+use Rattle.std.proofs.Common.{◌≡◌, ℕ, zero, suc, ◌+◌, ◌<◌, List, [], ◌∷◌, ◌++◌, Bool, true, false, cond, length, get_or, set, filter, ap, sym, ◌∙◌, arith}
 use Rattle.std.specs.Prelude.{nat_lt}
 use Rattle.std.specs.List.{flat_map}
 use Rattle.std.proofs.lemmas.Bool.{lt-ltb}
@@ -9,7 +9,7 @@ use Rattle.std.proofs.lemmas.List.Elements.{filter-append}
 use Rattle.cedr_base.specs.declared.row.Row.{Row}
 use Rattle.cedr_base.specs.Rows.{one_if_same, count_of, in_order}
 use Rattle.cedr_base.specs.Changes.{remnant}
-use Rattle.cedr_guard.specs.History.{row_lives}
+use Rattle.cedr_guard.specs.Judging.{row_lives}
 use Rattle.cedr_guard.proofs.EventLemmas.{cut_at}
 use Rattle.cedr_base.proofs.Bags.{count_of-append, count_of-cons, one_of_itself}
 use Rattle.cedr_base.proofs.Sorting.{in_order_counts}
@@ -65,3 +65,22 @@ living_cut r [] p d end within alive = absurd (omega arith)
 living_cut r (x ∷ xs) zero d end within alive = cut_first_at r x (record x { end = end }) (filter row_lives xs) (row_lives x) (nat_lt x.begin end) (lt-ltb x.begin x.end alive)
 living_cut r (x ∷ xs) (suc p) d end within alive =
     cut_later_at r x (filter row_lives (cut_at p d end xs)) (filter row_lives xs) (one_if_same r (get_or xs p d)) (count_of r (remnant (get_or xs p d) end)) (row_lives x) (living_cut r xs p d end (omega arith) alive)
+
+put_first_at : (r x y : Row) (rest : List Row) (old new : Bool) → old ≡ false → new ≡ true
+    → count_of r (cond new (y ∷ rest) rest) ≡ count_of r (cond old (x ∷ rest) rest) + one_if_same r y
+put_first_at r x y rest true new gone lives = cc
+put_first_at r x y rest false true gone lives = omega (arith, count_of-cons r y rest)
+put_first_at r x y rest false false gone lives = cc
+
+put_later_at : (r z : Row) (news olds : List Row) (come : ℕ) (test : Bool) → count_of r news ≡ count_of r olds + come
+    → count_of r (cond test (z ∷ news) news) ≡ count_of r (cond test (z ∷ olds) olds) + come
+put_later_at r z news olds come true h = omega (arith, h, count_of-cons r z news, count_of-cons r z olds)
+put_later_at r z news olds come false h = h
+
+-- a row that lives in place of one that doesn't is one row more
+pub living_put : (r : Row) (xs : List Row) (p : ℕ) (x y : Row) → p < length xs → row_lives x ≡ false → y.begin < y.end
+    → count_of r (filter row_lives (set xs p y)) ≡ count_of r (filter row_lives (set xs p x)) + one_if_same r y
+living_put r [] p x y within gone alive = absurd (omega arith)
+living_put r (z ∷ xs) zero x y within gone alive = put_first_at r x y (filter row_lives xs) (row_lives x) (row_lives y) gone (lt-ltb y.begin y.end alive)
+living_put r (z ∷ xs) (suc p) x y within gone alive =
+    put_later_at r z (filter row_lives (set xs p y)) (filter row_lives (set xs p x)) (one_if_same r y) (row_lives z) (living_put r xs p x y (omega arith) gone alive)

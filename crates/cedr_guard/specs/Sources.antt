@@ -16,7 +16,7 @@ use Rattle.cedr_guard.specs.declared.refusal.Refusal.{Refusal}
 use Rattle.cedr_guard.specs.declared.refusal.TheConstants.{FILE_LIMIT}
 use Rattle.cedr_guard.specs.Judging.{fault_behind}
 use Rattle.cedr_guard.specs.History.{history_of}
-use Rattle.cedr_guard.specs.Messages.{messages_behind, line_messages}
+use Rattle.cedr_guard.specs.Messages.{messages_behind, entries_behind}
 
 -- ---- one line
 
@@ -103,10 +103,10 @@ ending (Some refusal) = []
 abbrev pub messages_of : Shape → List ℕ → List Message
 messages_of shape bytes = messages_behind [] (judged shape bytes).good ++ ending (judged shape bytes).fault
 
--- the messages of a source line by line: an entry for each of those lines, in order, which holds its message or none, and
--- at last the end where the source has no fault
-abbrev pub messages_by_line : Shape → List ℕ → List (Option Message)
-messages_by_line shape bytes = line_messages [] (judged shape bytes).good ++ map (λ (m : Message). Some m) (ending (judged shape bytes).fault)
+-- the messages of a source line by line: an entry for each of those lines, in order, which holds its messages, and at
+-- last the end where the source has no fault
+abbrev pub messages_by_line : Shape → List ℕ → List (List Message)
+messages_by_line shape bytes = entries_behind [] (judged shape bytes).good ++ map (λ (m : Message). m ∷ []) (ending (judged shape bytes).fault)
 
 -- the canonical history of the lines before the first fault
 abbrev pub history_of_bytes : Shape → List ℕ → List Row

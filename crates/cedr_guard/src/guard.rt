@@ -1,21 +1,22 @@
-ghost use Rattle.std.specs.Prelude.{◌≡◌, ◌++◌, ◌∷◌, [], List, None, IfOk, OnOk, OnErr};
+ghost use Rattle.std.specs.Prelude.{◌≡◌, ◌≤◌, ◌<◌, ◌++◌, ◌∷◌, [], List, length, IfSome, IfNone, OnOk, OnErr, slice_index_or, slice_set};
 ghost use Rattle.cedr_text.specs.declared.event_line.EventLine.{EventLine};
-ghost use Rattle.cedr_text.specs.declared.event_line.EventLine.TheVariants.{Insert, Retract, Promise};
+ghost use Rattle.cedr_text.specs.declared.event_line.EventLine.TheVariants.{Insert, Retract, Revise, Promise};
 ghost use Rattle.cedr_guard.specs.Judging.{fault_behind, guarantee_of};
 ghost use Rattle.cedr_text.specs.Reading.{IsEvent};
-ghost use Rattle.cedr_guard.specs.Messages.{message_of};
-ghost use Rattle.cedr_guard.specs.Standing.{Guards, Judges, message_list};
+ghost use Rattle.cedr_guard.specs.Messages.{line_messages, Appended};
+ghost use Rattle.cedr_guard.specs.Standing.{Guards, Judges};
 
 use crate::fault::GuardFault;
-use crate::judge::{Judge, Retracted};
-use cedr_base::{Change, Message, OutOfMemory, Payload, Row, Time};
+use crate::judge::{FoundEvent, Judge};
+use cedr_base::{Change, Interval, Message, OutOfMemory, Payload, Row, Time};
 use cedr_text::{EventLine, LineFault};
 use std::alloc::Global;
+use std::mem::replace;
 
-/// Judges event lines against the accepted lines before them, and answers the message that an accepted
-/// line becomes. It stands for the list of the accepted lines.
+/// Judges event lines against the accepted lines before them, and gives the messages that an accepted line
+/// becomes. It stands for the list of the accepted lines.
 ///
-/// It keeps the payload of each insertion besides what a `Judge` keeps.
+/// It keeps the payload of each insertion's event as it is now, besides what a `Judge` keeps.
 pub struct Guard {
     judge: Judge,
     /// One for each insertion, in order.
@@ -42,71 +43,120 @@ impl Guard {
         }
     }
 
-    /// Accepts the line and answers its message, or answers its least fault, which changes nothing. A
-    /// guarantee that isn't above `mark()` has no message. A copy of a payload, and O(1) for an insertion whose id
-    /// is above all before it, else O(log n) in the insertions before it.
-    pub fn accept(&mut self, line: EventLine) -> Result<Option<Message>, GuardFault>
-        requires event { IsEvent line }
-        ensures judged { (before : List EventLine) → Guards self.old before → Judges result (fault_behind before line) }
-        ensures message { IfOk result (λ message. (before : List EventLine) → Guards self.old before → message_list message ≡ message_of before line) }
-        ensures stands { OnOk result ((before : List EventLine) → Guards self.old before → Guards self.new (before ++ line ∷ [])) }
+    /// Accepts the line and appends its messages, at most two, or answers its least fault, which changes neither the
+    /// guard nor `out`. A guarantee that isn't above `mark()` has no message. The payload is shared, not copied. O(1)
+    /// for an insertion whose id is above all before it, else O(log n) in the insertions before it.
+    pub fn accept(&mut self, line: &EventLine, out: &mut Vec<Message>) -> Result<(), GuardFault>
+        requires event { IsEvent line.now }
+        ensures judged { (before : List EventLine) → Guards self.old before → Judges result (fault_behind before line.now) }
+        ensures appends { OnOk result ((before : List EventLine) → Guards self.old before → out.new.items ≡ out.old.items ++ line_messages before line.now) }
+        ensures appended { Appended out.old.items out.new.items }
+        ensures kept { OnErr result (out.new.items ≡ out.old.items) }
+        ensures stands { OnOk result ((before : List EventLine) → Guards self.old before → Guards self.new (before ++ line.now ∷ [])) }
         ensures stays { OnErr result ((before : List EventLine) → Guards self.old before → Guards self.new before) }
     {
         match line {
-            EventLine::Insert { id, row } => Ok(Some(self.insert(id, row)?)),
-            EventLine::Retract { id, end } => Ok(Some(self.retract(id, end)?)),
-            EventLine::Promise(time) => Ok(self.promise(time)),
+            EventLine::Insert { id, row } => self.insert(*id, row, out),
+            EventLine::Retract { id, end } => self.retract(*id, *end, out),
+            EventLine::Revise { id, row } => self.revise(*id, row, out),
+            EventLine::Promise(time) => self.promise(*time, out),
         }
     }
 
-    fn promise(&mut self, time: Time) -> Option<Message>
+    fn promise(&mut self, time: Time, out: &mut Vec<Message>) -> Result<(), GuardFault>
         requires event { IsEvent (Promise time) }
-        ensures message { (before : List EventLine) → Guards self.old before → message_list result ≡ message_of before (Promise time) }
-        ensures stands { (before : List EventLine) → Guards self.old before → Guards self.new (before ++ Promise time ∷ []) }
+        ensures judged { (before : List EventLine) → Guards self.old before → Judges result (fault_behind before (Promise time)) }
+        ensures appends { OnOk result ((before : List EventLine) → Guards self.old before → out.new.items ≡ out.old.items ++ line_messages before (Promise time)) }
+        ensures appended { Appended out.old.items out.new.items }
+        ensures kept { OnErr result (out.new.items ≡ out.old.items) }
+        ensures stands { OnOk result ((before : List EventLine) → Guards self.old before → Guards self.new (before ++ Promise time ∷ [])) }
+        ensures stays { OnErr result (self.new ≡ self.old) }
     {
-        if self.judge.promise(time) {
-            Some(Message::Mark(time))
-        } else {
-            None
+        if self.judge.mark() < time {
+            out.push(Message::Mark(time))?;
         }
+        self.judge.promise(time);
+        Ok(())
     }
 
-    fn insert(&mut self, id: u64, row: Row) -> Result<Message, GuardFault>
-        requires event { IsEvent (Insert id row) }
-        ensures judged { (before : List EventLine) → Guards self.old before → Judges result (fault_behind before (Insert id row)) }
-        ensures message { IfOk result (λ message. (before : List EventLine) → Guards self.old before → message ∷ [] ≡ message_of before (Insert id row)) }
-        ensures stands { OnOk result ((before : List EventLine) → Guards self.old before → Guards self.new (before ++ Insert id row ∷ [])) }
+    fn insert(&mut self, id: u64, row: &Row, out: &mut Vec<Message>) -> Result<(), GuardFault>
+        requires event { IsEvent (Insert id row.now) }
+        ensures judged { (before : List EventLine) → Guards self.old before → Judges result (fault_behind before (Insert id row.now)) }
+        ensures appends { OnOk result ((before : List EventLine) → Guards self.old before → out.new.items ≡ out.old.items ++ line_messages before (Insert id row.now)) }
+        ensures appended { Appended out.old.items out.new.items }
+        ensures kept { OnErr result (out.new.items ≡ out.old.items) }
+        ensures stands { OnOk result ((before : List EventLine) → Guards self.old before → Guards self.new (before ++ Insert id row.now ∷ [])) }
         ensures stays { OnErr result ((before : List EventLine) → Guards self.old before → Guards self.new before) }
     {
         let alloc = *self.payloads.allocator();
+        let added = row.copy(alloc)?;
         let kept = row.payload.copy(alloc)?;
+        out.reserve(1).map_err(OutOfMemory::from)?;
         self.payloads.push(kept)?;
         if let Err(fault) = self.judge.insert(id, row.begin, row.end) {
             self.payloads.pop();
             return Err(fault);
         }
-        Ok(Message::Change(Change::Add(row)))
+        out.push(Message::Change(Change::Add(added)))?;
+        Ok(())
     }
 
-    fn retract(&mut self, id: u64, end: Time) -> Result<Message, GuardFault>
+    fn retract(&mut self, id: u64, end: Time, out: &mut Vec<Message>) -> Result<(), GuardFault>
         requires event { IsEvent (Retract id end) }
         ensures judged { (before : List EventLine) → Guards self.old before → Judges result (fault_behind before (Retract id end)) }
-        ensures message { IfOk result (λ message. (before : List EventLine) → Guards self.old before → message ∷ [] ≡ message_of before (Retract id end)) }
+        ensures appends { OnOk result ((before : List EventLine) → Guards self.old before → out.new.items ≡ out.old.items ++ line_messages before (Retract id end)) }
+        ensures appended { Appended out.old.items out.new.items }
+        ensures kept { OnErr result (out.new.items ≡ out.old.items) }
         ensures stands { OnOk result ((before : List EventLine) → Guards self.old before → Guards self.new (before ++ Retract id end ∷ [])) }
-        ensures stays { OnErr result ((before : List EventLine) → Guards self.old before → Guards self.new before) }
+        ensures stays { OnErr result (self.new ≡ self.old) }
     {
-        let Retracted { place, interval } = self.judge.find(id, end)?;
+        let FoundEvent { place, interval } = self.judge.find(id, end)?;
         let Some(payload) = self.payloads.get(place) else {
             return Err(GuardFault::Line(LineFault::UnknownId));
         };
         let payload = payload.copy(*self.payloads.allocator())?;
-        self.judge.cut(place, end);
         let row = Row {
             end: interval.end,
             begin: interval.begin,
             payload,
         };
-        Ok(Message::Change(Change::Cut(row, end)))
+        out.push(Message::Change(Change::Cut(row, end)))?;
+        self.judge.cut(place, end);
+        Ok(())
+    }
+
+    fn revise(&mut self, id: u64, row: &Row, out: &mut Vec<Message>) -> Result<(), GuardFault>
+        requires event { IsEvent (Revise id row.now) }
+        ensures judged { (before : List EventLine) → Guards self.old before → Judges result (fault_behind before (Revise id row.now)) }
+        ensures appends { OnOk result ((before : List EventLine) → Guards self.old before → out.new.items ≡ out.old.items ++ line_messages before (Revise id row.now)) }
+        ensures appended { Appended out.old.items out.new.items }
+        ensures kept { OnErr result (out.new.items ≡ out.old.items) }
+        ensures stands { OnOk result ((before : List EventLine) → Guards self.old before → Guards self.new (before ++ Revise id row.now ∷ [])) }
+        ensures stays { OnErr result (self.new ≡ self.old) }
+    {
+        let FoundEvent { place, interval } = self.judge.find_revised(id, row.begin)?;
+        let alloc = *self.payloads.allocator();
+        let added = row.copy(alloc)?;
+        let kept = row.payload.copy(alloc)?;
+        out.reserve(2).map_err(OutOfMemory::from)?;
+        let Some(payload) = put_payload(&mut self.payloads, place, kept) else {
+            return Err(GuardFault::Line(LineFault::UnknownId));
+        };
+        if interval.begin < interval.end {
+            let withdrawn = Row {
+                end: interval.end,
+                begin: interval.begin,
+                payload,
+            };
+            out.push(Message::Change(Change::Cut(withdrawn, interval.begin)))?;
+        }
+        out.push(Message::Change(Change::Add(added)))?;
+        let interval = Interval {
+            begin: row.begin,
+            end: row.end,
+        };
+        self.judge.replace(place, interval);
+        Ok(())
     }
 
     /// The greatest guarantee, 0 where there was none. It takes no memory.
@@ -114,5 +164,17 @@ impl Guard {
         ensures { (lines : List EventLine) → Guards self.now lines → result ≡ guarantee_of lines }
     {
         self.judge.mark()
+    }
+}
+
+/// Puts a payload at a place, and answers the one that was there.
+fn put_payload(payloads: &mut Vec<Payload>, place: usize, payload: Payload) -> Option<Payload>
+    ensures some { IfSome result (λ old. (place < length payloads.old.items) × (slice_index_or payloads.old.items place old ≡ old) × (payloads.new.items ≡ slice_set payloads.old.items place payload)) }
+    ensures none { IfNone result ((length payloads.old.items ≤ place) × (payloads.new ≡ payloads.old)) }
+{
+    if place < payloads.len() {
+        Some(replace(&mut payloads[place], payload))
+    } else {
+        None
     }
 }

@@ -1,8 +1,8 @@
-ghost use Rattle.std.specs.Prelude.{◌≡◌, ◌++◌, ◌∷◌, [], List, None, Some, IfOk, OnOk, OnErr, map, nat_lt, ℕ, ◌<◌, length};
+ghost use Rattle.std.specs.Prelude.{◌≡◌, ◌++◌, ◌∷◌, [], List, None, Some, IfOk, IfSome, IfNone, OnOk, OnErr, map, nat_lt, ℕ, ◌<◌, length};
 ghost use Rattle.cedr_base.specs.declared.row.Row.{Row};
 ghost use Rattle.cedr_text.specs.declared.event_line.EventLine.{EventLine};
-ghost use Rattle.cedr_text.specs.declared.event_line.EventLine.TheVariants.{Insert, Retract, Promise};
-ghost use Rattle.cedr_guard.specs.Judging.{fault_behind, guarantee_fault, retraction_fault, guarantee_of};
+ghost use Rattle.cedr_text.specs.declared.event_line.EventLine.TheVariants.{Insert, Retract, Revise, Promise};
+ghost use Rattle.cedr_guard.specs.Judging.{fault_behind, guarantee_fault, retraction_fault, revision_fault, guarantee_of, event_with};
 ghost use Rattle.cedr_guard.specs.History.{rows_among};
 ghost use Rattle.cedr_guard.specs.Standing.{StandsFor, Judges, IsEventOf, interval_of, place_of_event};
 
@@ -12,12 +12,12 @@ use cedr_base::{Interval, OutOfMemory, Time};
 use cedr_text::LineFault;
 use std::alloc::Global;
 
-/// What a retraction is about.
+/// The event that a retraction or a revision is about.
 #[derive(Clone, Copy)]
-pub(crate) struct Retracted {
-    /// The place of its event among the insertions, from 0 on.
+pub(crate) struct FoundEvent {
+    /// Its place among the insertions, from 0 on.
     pub(crate) place: usize,
-    /// When the event was valid before.
+    /// When it was valid before.
     pub(crate) interval: Interval,
 }
 
@@ -30,7 +30,7 @@ pub(crate) struct Retracted {
 pub struct Judge {
     /// Where the interval of an id's event stands.
     ids: Ids,
-    /// One for each insertion, in order. A retraction may have left it empty.
+    /// One for each insertion, in order: that of its event as it is now. A retraction may have left it empty.
     intervals: Vec<Interval>,
     /// The greatest guarantee, 0 at first.
     mark: Time,
@@ -82,21 +82,60 @@ impl Judge {
         Ok(())
     }
 
+    /// Accepts a revision of the event with this id, which is valid in this interval from now on, and answers the
+    /// event's place among the insertions; or answers its least fault, which changes nothing. Its cost is that of a
+    /// retraction.
+    pub fn revise(&mut self, id: u64, begin: Time, end: Time) -> Result<usize, GuardFault>
+        ensures judged { (before : List EventLine) (row : Row) → StandsFor self.old before → interval_of row ≡ record { begin = begin; end = end }
+            → Judges result (fault_behind before (Revise id row)) }
+        ensures place { IfOk result (λ place. (before : List EventLine) → StandsFor self.old before → place_of_event id before ≡ Some place) }
+        ensures stands { OnOk result ((before : List EventLine) (row : Row) → StandsFor self.old before → interval_of row ≡ record { begin = begin; end = end }
+            → StandsFor self.new (before ++ Revise id row ∷ [])) }
+        ensures stays { OnErr result (self.new ≡ self.old) }
+    {
+        let found = self.find_revised(id, begin)?;
+        self.replace(found.place, Interval { begin, end });
+        Ok(found.place)
+    }
+
+    /// The event with this id.
+    fn event(&self, id: u64) -> Option<FoundEvent>
+        ensures some { IfSome result (λ found. (before : List EventLine) → StandsFor self.now before → IsEventOf id before found) }
+        ensures none { IfNone result ((before : List EventLine) → StandsFor self.now before → event_with id before ≡ None) }
+        ensures within { IfSome result (λ found. found.place < length self.now.intervals.items) }
+    {
+        let place = self.ids.place(id)?;
+        let interval = self.intervals.get(place).copied()?;
+        Some(FoundEvent { place, interval })
+    }
+
     /// The event that a retraction is about, or the retraction's least fault.
-    pub(crate) fn find(&self, id: u64, end: Time) -> Result<Retracted, GuardFault>
+    pub(crate) fn find(&self, id: u64, end: Time) -> Result<FoundEvent, GuardFault>
         ensures judged { (before : List EventLine) → StandsFor self.now before → Judges result (fault_behind before (Retract id end)) }
         ensures event { IfOk result (λ found. (before : List EventLine) → StandsFor self.now before → IsEventOf id before found) }
         ensures within { IfOk result (λ found. found.place < length self.now.intervals.items) }
     {
-        let Some(place) = self.ids.place(id) else {
+        let Some(found) = self.event(id) else {
             return Err(GuardFault::Line(LineFault::UnknownId));
         };
-        let Some(interval) = self.intervals.get(place).copied() else {
-            return Err(GuardFault::Line(LineFault::UnknownId));
-        };
-        match retraction_fault(interval, end, self.mark) {
+        match retraction_fault(found.interval, end, self.mark) {
             Some(fault) => Err(GuardFault::Line(fault)),
-            None => Ok(Retracted { place, interval }),
+            None => Ok(found),
+        }
+    }
+
+    /// The event that a revision with this begin is about, or the revision's least fault.
+    pub(crate) fn find_revised(&self, id: u64, begin: Time) -> Result<FoundEvent, GuardFault>
+        ensures judged { (before : List EventLine) (row : Row) → StandsFor self.now before → row.begin ≡ begin → Judges result (fault_behind before (Revise id row)) }
+        ensures event { IfOk result (λ found. (before : List EventLine) → StandsFor self.now before → IsEventOf id before found) }
+        ensures within { IfOk result (λ found. found.place < length self.now.intervals.items) }
+    {
+        let Some(found) = self.event(id) else {
+            return Err(GuardFault::Line(LineFault::UnknownId));
+        };
+        match revision_fault(found.interval, begin, self.mark) {
+            Some(fault) => Err(GuardFault::Line(fault)),
+            None => Ok(found),
         }
     }
 
@@ -107,6 +146,15 @@ impl Judge {
             → StandsFor self.new (before ++ Retract id end ∷ []) }
     {
         self.intervals[place].end = end;
+    }
+
+    /// Makes the event at this place valid in this interval instead.
+    pub(crate) fn replace(&mut self, place: usize, interval: Interval)
+        requires { place < length self.old.intervals.items }
+        ensures { (before : List EventLine) (id : ℕ) (row : Row) → StandsFor self.old before → place_of_event id before ≡ Some place → interval_of row ≡ interval
+            → StandsFor self.new (before ++ Revise id row ∷ []) }
+    {
+        self.intervals[place] = interval;
     }
 
     /// Takes a guarantee, and answers whether it is above the greatest earlier one, or above 0 where there was
@@ -130,7 +178,7 @@ impl Judge {
     /// The valid interval of each insertion's event as the accepted lines leave it, in the order of the
     /// insertions.
     pub fn into_intervals(self) -> Vec<Interval>
-        ensures { (lines : List EventLine) → StandsFor self lines → result.items ≡ map interval_of (rows_among lines lines) }
+        ensures { (lines : List EventLine) → StandsFor self lines → result.items ≡ map interval_of (rows_among lines) }
     {
         self.intervals
     }
@@ -158,4 +206,18 @@ fn retraction_fault(interval: Interval, end: Time, mark: Time) -> Option<LineFau
         });
     }
     guarantee_fault(end, mark)
+}
+
+/// The fault of a revision with this begin, for an event with this valid interval: its sync is the lesser begin,
+/// or its own where the event is withdrawn.
+fn revision_fault(interval: Interval, begin: Time, mark: Time) -> Option<LineFault>
+    ensures { (row : Row) → interval_of row ≡ interval → result ≡ revision_fault (Some row) begin mark }
+{
+    let lives = interval.begin < interval.end;
+    let sync = if lives {
+        interval.begin.min(begin)
+    } else {
+        begin
+    };
+    guarantee_fault(sync, mark)
 }

@@ -7,7 +7,7 @@ ghost use Rattle.cedr_guard.specs.declared.guard.Guard.{Guard};
 ghost use Rattle.cedr_guard.specs.declared.refusal.TheConstants.{FILE_LIMIT};
 ghost use Rattle.cedr_guard.specs.Judging.{AreAccepted};
 ghost use Rattle.cedr_guard.specs.History.{history_of};
-ghost use Rattle.cedr_guard.specs.Messages.{message_of, messages_behind, messages_in};
+ghost use Rattle.cedr_guard.specs.Messages.{line_messages, messages_behind, messages_in};
 ghost use Rattle.cedr_guard.specs.Standing.{Guards};
 ghost use Rattle.cedr_guard.specs.Sources.{line_reading, messages_of, messages_by_line, history_of_bytes};
 
@@ -18,7 +18,7 @@ use cedr_text::{line_limit, reading_law};
 /// those of the lines before its first fault, and then `End` where it has none. Line by line they are the same.
 pub fn message_laws()
     ensures guard { (guard : Guard) (lines : List EventLine) → Guards guard lines → IsLegal (messages_behind [] lines) × IsTableOf (messages_behind [] lines) (history_of lines) }
-    ensures answers { (lines : List EventLine) (line : EventLine) → messages_behind [] (lines ++ line ∷ []) ≡ messages_behind [] lines ++ message_of lines line }
+    ensures answers { (lines : List EventLine) (line : EventLine) → messages_behind [] (lines ++ line ∷ []) ≡ messages_behind [] lines ++ line_messages lines line }
     ensures legal { (lines : List EventLine) → AreAccepted lines → IsLegal (messages_behind [] lines) }
     ensures table { (lines : List EventLine) → AreAccepted lines → IsTableOf (messages_behind [] lines) (history_of lines) }
     ensures source_legal { (shape : Shape) (bytes : List ℕ) → IsLegal (messages_of shape bytes) }

@@ -1,7 +1,7 @@
 -- Lines that are accepted one after the other: each event has the next id, is cut at once if at all, and none
 -- begins before a guarantee.
 use Rattle.std.proofs.Common.{◌≡◌, ◌==◌, ◌+◌, ◌*◌, ◌<◌, ◌≤◌, ℕ, List, [], ◌∷◌, ◌++◌, Bool, true, false, cond, ltb, ◌&&◌, length, refl, ap, sym, ◌∙◌, subst, length-append, append_assoc, append-nil, arith, Option, None, Some, Ok}
-use Rattle.std.specs.Prelude.{All, is_some}
+use Rattle.std.specs.Prelude.{All, option_map, is_some}
 use Rattle.std.proofs.lemmas.Bool.{le-ltb, lt-ltb, le-leb, eq-eqb, ne_eqb, or_parts}
 use Rattle.std.proofs.lemmas.List.Elements.{All-nil, All-cons}
 use Rattle.std.proofs.lemmas.List.Splits.{slice_split_at}
@@ -13,9 +13,9 @@ use Rattle.cedr_text.specs.declared.fault.LineFault.TheVariants.{KnownId, BadEnd
 use Rattle.cedr_text.specs.Lines.{without_empty_end, raw_lines}
 use Rattle.cedr_base.specs.Bytes.{line_feed}
 use Rattle.cedr_text.specs.Parts.{parts_of}
-use Rattle.cedr_guard.specs.Judging.{guarantee_of, ends_of, least_end, row_after, event_among, guarantee_fault, event_with, retraction_fault, fault_behind}
+use Rattle.cedr_guard.specs.Judging.{guarantee_of, guarantee_fault, event_with, retraction_fault, fault_behind}
 use Rattle.cedr_guard.specs.Sources.{with_event, with_reading, line_reading, go_on, judged_behind}
-use Rattle.cedr_guard.proofs.EventLemmas.{ends_of-append, guarantee_of-append}
+use Rattle.cedr_guard.proofs.EventLemmas.{guarantee_of-append, ended, event_and, event-push}
 use Rattle.cedr_make.proofs.FieldTexts.{has_byte}
 use Rattle.cedr_text.proofs.LineLemmas.{end_dropped}
 
@@ -58,8 +58,7 @@ pub record Stands (shape : Shape) (text : List ℕ) (next mark most : ℕ) : Typ
   pub size : length text ≤ 133 * length lines
   pub few : length lines ≤ most
   pub guarantee : guarantee_of events ≤ mark
-  pub no_ends : (id : ℕ) → next ≤ id → ends_of id events ≡ []
-  pub no_event : (id : ℕ) (all : List EventLine) → next ≤ id → event_among id all events ≡ None
+  pub no_event : (id : ℕ) → next ≤ id → event_with id events ≡ None
 
 -- a line that says an event without a fault goes to the accepted ones
 one_judged : (shape : Shape) (count : ℕ) (before : List EventLine) (line : List ℕ) (event : EventLine) (more : List (List ℕ)) → line_reading shape line ≡ Ok (Some event) → fault_behind before event ≡ None
@@ -96,18 +95,6 @@ few_more line lines most few = let c = length-append lines (line ∷ []) in omeg
 not_late : (sync mark : ℕ) → mark ≤ sync → guarantee_fault sync mark ≡ None
 not_late sync mark from = ap (λ test. cond test (Some (BeforeGuarantee sync mark)) None) (le-ltb sync mark from)
 
--- an event that isn't among some lines is looked for in those after them
-passed_over : (test : Bool) (row : Row) (before behind other : Option Row) → (before ≡ None → behind ≡ other) → cond test (Some row) before ≡ None → cond test (Some row) behind ≡ other
-passed_over true row before behind other same none = cc
-passed_over false row before behind other same none = same none
-
-event_among-append : (id : ℕ) (all xs ys : List EventLine) → event_among id all xs ≡ None → event_among id all (xs ++ ys) ≡ event_among id all ys
-event_among-append id all [] ys none = refl
-event_among-append id all (Insert other row ∷ xs) ys none =
-    passed_over (other == id) (row_after other row all) (event_among id all xs) (event_among id all (xs ++ ys)) (event_among id all ys) (event_among-append id all xs ys) none
-event_among-append id all (Retract other end ∷ xs) ys none = event_among-append id all xs ys none
-event_among-append id all (Promise time ∷ xs) ys none = event_among-append id all xs ys none
-
 -- what holds of a line that is added to others
 pub record MayStand (shape : Shape) (before : List EventLine) (line : List ℕ) (event : EventLine) : Type 0 where
   pub no_feed : has_byte 10 line ≡ false
@@ -118,10 +105,9 @@ pub record MayStand (shape : Shape) (before : List EventLine) (line : List ℕ) 
 -- a line more, of an event with an id below the next ones
 abbrev stands_more : (shape : Shape) (text : List ℕ) (next next' mark mark' most : ℕ) (line : List ℕ) (event : EventLine) (s : Stands shape text next mark most) → MayStand shape s.events line event
     → next ≤ next' → mark ≤ mark' → guarantee_of (event ∷ []) ≤ mark'
-    → ((id : ℕ) → next' ≤ id → ends_of id (event ∷ []) ≡ [])
-    → ((id : ℕ) (all : List EventLine) → next' ≤ id → event_among id all (event ∷ []) ≡ None)
+    → ((id : ℕ) → next' ≤ id → event_and id event None ≡ None)
     → Stands shape (text ++ (line ++ 10 ∷ [])) next' mark' (most + 1)
-stands_more shape text next next' mark mark' most line event s may grows rises below ends none = record {
+stands_more shape text next next' mark mark' most line event s may grows rises below none = record {
   lines = s.lines ++ line ∷ [];
   events = s.events ++ event ∷ [];
   are = more_lines text (line ++ 10 ∷ []) s.lines (line ∷ []) s.are (one_line line may.no_feed);
@@ -129,8 +115,7 @@ stands_more shape text next next' mark mark' most line event s may grows rises b
   size = size_more text line s.lines s.size may.short;
   few = few_more line s.lines most s.few;
   guarantee = let both = guarantee_of-append s.events (event ∷ []) in let before = s.guarantee in omega arith;
-  no_ends = λ id later. ends_of-append id s.events (event ∷ []) ∙ ap (λ xs. xs ++ ends_of id (event ∷ [])) (s.no_ends id (omega (arith, grows, later))) ∙ ends id later;
-  no_event = λ id all later. event_among-append id all s.events (event ∷ []) (s.no_event id all (omega (arith, grows, later))) ∙ none id all later;
+  no_event = λ id later. event-push id s.events event ∙ ap (event_and id event) (s.no_event id (omega (arith, grows, later))) ∙ none id later;
 }
 
 -- the same text, with greater bounds
@@ -143,7 +128,6 @@ stands_still shape text next mark mark' most most' rises grows s = record {
   size = s.size;
   few = let few = s.few in omega arith;
   guarantee = let before = s.guarantee in omega arith;
-  no_ends = s.no_ends;
   no_event = s.no_event;
 }
 
@@ -153,28 +137,23 @@ pub record Inserted (shape : Shape) (text : List ℕ) (id mark most : ℕ) (row 
   pub event : event_with id stands.events ≡ Some row
 
 -- an insertion is none of another id
-at_other : (id other : ℕ) (row : Row) (all : List EventLine) → id + 1 ≤ other → event_among other all (Insert id row ∷ []) ≡ None
-at_other id other row all later = ap (λ test. cond test (Some (row_after id row all)) None) (ne_eqb id other (λ e. omega (arith, e, later)))
+at_other : (id other : ℕ) (row : Row) → id + 1 ≤ other → event_and other (Insert id row) None ≡ None
+at_other id other row later = ap (λ test. cond test (Some row) None) (ne_eqb id other (λ e. omega (arith, e, later)))
 
 -- it is found by its own id, as it was inserted
-inserted_here : (id : ℕ) (row : Row) (before : List EventLine) → ends_of id before ≡ [] → event_among id (before ++ Insert id row ∷ []) before ≡ None → event_with id (before ++ Insert id row ∷ []) ≡ Some row
-inserted_here id row before no_ends none =
-    let all = before ++ Insert id row ∷ [] in
-    let ends : ends_of id all ≡ [] = ends_of-append id before (Insert id row ∷ []) ∙ ap (λ xs. xs ++ []) no_ends in
-    event_among-append id all before (Insert id row ∷ []) none
-    ∙ ap (λ test. cond test (Some (row_after id row all)) None) (eq-eqb id id refl)
-    ∙ ap (λ xs. Some (record row { end = least_end row.end xs })) ends
+inserted_here : (id : ℕ) (row : Row) (before : List EventLine) → event_with id (before ++ Insert id row ∷ []) ≡ Some row
+inserted_here id row before = event-push id before (Insert id row) ∙ ap (λ test. cond test (Some row) (event_with id before)) (eq-eqb id id refl)
 
 -- an insertion of the next id
 pub stands_insert : (shape : Shape) (text : List ℕ) (id mark most : ℕ) (line : List ℕ) (row : Row) → Stands shape text id mark most → has_byte 10 line ≡ false → length line ≤ 132
     → line_reading shape line ≡ Ok (Some (Insert id row)) → mark ≤ row.begin → Inserted shape (text ++ (line ++ 10 ∷ [])) id mark (most + 1) row
 stands_insert shape text id mark most line row s none few says from =
     let late = not_late row.begin (guarantee_of s.events) (let before = s.guarantee in omega arith) in
-    let faultless = ap (λ (found : Option Row). cond (is_some found) (Some KnownId) (guarantee_fault row.begin (guarantee_of s.events))) (s.no_event id s.events (omega arith)) ∙ late in
+    let faultless = ap (λ (found : Option Row). cond (is_some found) (Some KnownId) (guarantee_fault row.begin (guarantee_of s.events))) (s.no_event id (omega arith)) ∙ late in
     record {
       stands = stands_more shape text id (id + 1) mark mark most line (Insert id row) s (record { no_feed = none; short = few; says = says; faultless = faultless })
-          (omega arith) (omega arith) (omega arith) (λ other later. refl) (λ other all later. at_other id other row all later);
-      event = inserted_here id row s.events (s.no_ends id (omega arith)) (s.no_event id (s.events ++ Insert id row ∷ []) (omega arith));
+          (omega arith) (omega arith) (omega arith) (λ other later. at_other id other row later);
+      event = inserted_here id row s.events;
     }
 
 -- a new end within the row's life and from the guarantee on has no fault
@@ -195,8 +174,7 @@ stands_retract true shape text id mark most line row end at none few says low hi
     let faultless = ap (λ found. retraction_fault found end (guarantee_of events)) at.event ∙ no_bad_end row end (guarantee_of events) low high (omega arith) in
     stands_more shape text (id + 1) (id + 1) mark mark most line (Retract id end) at.stands (record { no_feed = none; short = few; says = says; faultless = faultless })
     (omega arith) (omega arith) (omega arith)
-    (λ other later. ap (λ test. cond test (end ∷ []) []) (ne_eqb id other (λ e. omega (arith, e, later))))
-    (λ other all later. refl)
+    (λ other later. ap (λ test. cond test (option_map (ended end) None) None) (ne_eqb id other (λ e. omega (arith, e, later))))
 
 -- a guarantee that isn't below the earlier ones, or none
 pub stands_promise : (test : Bool) (shape : Shape) (text : List ℕ) (next mark most : ℕ) (line : List ℕ) (time : ℕ) → Stands shape text next mark most → has_byte 10 line ≡ false → length line ≤ 132
@@ -205,4 +183,4 @@ stands_promise false shape text next mark most line time s none few says rises =
     subst (λ (t : List ℕ). Stands shape t next time (most + 1)) (sym (append-nil text)) (stands_still shape text next mark time most (most + 1) rises (omega arith) s)
 stands_promise true shape text next mark most line time s none few says rises =
     stands_more shape text next next mark time most line (Promise time) s (record { no_feed = none; short = few; says = says; faultless = refl })
-    (omega arith) rises (omega arith) (λ id later. refl) (λ id all later. refl)
+    (omega arith) rises (omega arith) (λ id later. refl)

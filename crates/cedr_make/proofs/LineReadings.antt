@@ -19,7 +19,7 @@ use Rattle.cedr_text.specs.declared.lines.TheConstants.{LINE_LIMIT}
 use Rattle.cedr_text.specs.Lines.{without_return}
 use Rattle.cedr_text.specs.Numbers.{id_value, begin_value, time_value}
 use Rattle.cedr_text.specs.Quoting.{byte_order_mark}
-use Rattle.cedr_text.specs.Reading.{event, event_of, event_from, as_some, inserted, retracted, promised, payload_of, typed_payload, with_field, reading}
+use Rattle.cedr_text.specs.Reading.{version, version_by, inserted_by, event_of, event_from, as_some, retracted, promised, payload_of, typed_payload, with_field, reading}
 use Rattle.cedr_text.proofs.ReadingLemmas.{reading_whole}
 use Rattle.cedr_text.proofs.RuleLemmas.{fields_are_cut}
 use Rattle.cedr_guard.specs.Sources.{line_reading}
@@ -54,15 +54,15 @@ fields_say shape field next fields plain few unmarked =
     ∙ reading_whole shape line within some whole
     ∙ ap (λ found. as_some (event_from shape found)) (fields_are_cut line all (are_fields field (next ∷ fields) plain))
 
--- ---- the three kinds of line
+-- ---- the kinds of line that are made
 
 -- an insertion whose parts are in their form
 inserted_is : (a b c : Option ℕ) (p : Result (Option (List Field)) LineFault) (id begin end : ℕ) (payload : List Field) → a ≡ Some id → b ≡ Some begin → c ≡ Some end → p ≡ Ok (Some payload) → begin < end
-    → inserted a b c p ≡ Ok (Insert id (record { end = end; begin = begin; payload = payload }))
+    → inserted_by (version_by a b c p) ≡ Ok (Insert id (record { end = end; begin = begin; payload = payload }))
 inserted_is a b c p id begin end payload id_is begin_is end_is payload_is lives =
-    ap (λ x. inserted x b c p) id_is ∙ ap (λ x. inserted (Some id) x c p) begin_is ∙ ap (λ x. inserted (Some id) (Some begin) x p) end_is
-    ∙ ap (λ x. inserted (Some id) (Some begin) (Some end) x) payload_is
-    ∙ ap (λ test. cond test (event id begin end (Some payload)) (Err EmptyLife)) (lt-ltb begin end lives)
+    ap (λ x. inserted_by (version_by x b c p)) id_is ∙ ap (λ x. inserted_by (version_by (Some id) x c p)) begin_is ∙ ap (λ x. inserted_by (version_by (Some id) (Some begin) x p)) end_is
+    ∙ ap (λ x. inserted_by (version_by (Some id) (Some begin) (Some end) x)) payload_is
+    ∙ ap (λ test. inserted_by (cond test (version id begin end (Some payload)) (Err EmptyLife))) (lt-ltb begin end lives)
 
 -- a key and a number are a payload of the source's types
 payload_is : (types : Vec FieldType Global) (key : List ℕ) (value : ℕ) → types.items ≡ event_types → value < 2 ^ 63

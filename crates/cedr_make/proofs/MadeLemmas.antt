@@ -1,5 +1,5 @@
 -- Each source that is made is accepted.
-use Rattle.std.proofs.Common.{◌≡◌, ◌+◌, ◌-◌, ◌*◌, ◌<◌, ◌≤◌, ◌^◌, ◌/◌, ◌%◌, ℕ, zero, suc, List, [], ◌∷◌, ◌++◌, Bool, cond, length, take, refl, ap, sym, ◌∙◌, subst, append_assoc, append-nil, arith, None}
+use Rattle.std.proofs.Common.{◌≡◌, ◌+◌, ◌*◌, ◌<◌, ◌≤◌, ◌^◌, ◌/◌, ◌%◌, ℕ, zero, suc, List, [], ◌∷◌, ◌++◌, Bool, cond, length, take, refl, ap, sym, ◌∙◌, subst, append_assoc, append-nil, arith, None}
 use Rattle.std.specs.Prelude.{nat_eq, Vec}
 use Rattle.std.specs.declared.alloc.Global.{Global}
 use Rattle.std.specs.Fmt.{decimal}
@@ -106,8 +106,7 @@ made_stands types source zero are few = record {
   size = omega arith;
   few = omega arith;
   guarantee = omega arith;
-  no_ends = λ id later. refl;
-  no_event = λ id all later. refl;
+  no_event = λ id later. refl;
 }
 made_stands types source (suc n) are few =
     let next : n + 1 ≡ suc n = omega arith in

@@ -5,6 +5,7 @@ pub mod RunLemmas
 pub mod NewLemmas
 pub mod AnswerLemmas
 pub mod NetLemmas
+pub mod FeedLemmas
 pub mod PortLemmas
 pub mod ScheduleLemmas
 pub mod PlaceLemmas

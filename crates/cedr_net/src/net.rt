@@ -1,5 +1,5 @@
 ghost use Rattle.std.specs.Prelude.{ℕ, ◌≡◌, ◌<◌, ◌↔◌, ◌++◌, ◌∷◌, [], List, All, true, false, OnOk, IfOk, IsErrOf, length, map, replicate};
-ghost use Rattle.cedr_base.specs.Messages.{MayCome, changes_of, mark_of, IsTableOf};
+ghost use Rattle.cedr_base.specs.Messages.{MayCome, IsLegal, changes_of, mark_of, IsTableOf};
 ghost use Rattle.node_laws.specs.Kept.{forgot};
 ghost use Rattle.node_laws.specs.Lawful.{all_over};
 ghost use Rattle.node_laws.specs.Lists.{Lists, list_at, with_more};
@@ -89,6 +89,24 @@ impl SerialNet {
                 Err(NetFault::OutOfMemory)
             }
         }
+    }
+
+    /// Messages of a source, one after the other, as [`SerialNet::feed`] takes each. At an error some of them may wait.
+    pub fn feed_all(
+        &mut self,
+        alloc: Global,
+        node: usize,
+        messages: Vec<Message>,
+    ) -> Result<(), NetFault>
+        requires { is_net_spent self.old ≡ false → (nodes : List PlanNode) × (ports : List Lists) × (given : Lists) × NetStands nodes self.old ports given × (node < length nodes) × IsSourceAt nodes node × IsLegal (list_at given node ++ messages.items) }
+        ensures fed { OnOk result ((nodes : List PlanNode) (ports : List Lists) (given : Lists) → NetStands nodes self.old ports given → node < length nodes → IsSourceAt nodes node → IsLegal (list_at given node ++ messages.items) → NetStands nodes self.new ports (with_more given node messages.items)) }
+        ensures stays_spent { is_net_spent self.old ≡ true → is_net_spent self.new ≡ true }
+        ensures keeps { keeps_changes self.new ≡ keeps_changes self.old }
+    {
+        for message in messages {
+            self.feed(alloc, node, message)?;
+        }
+        Ok(())
     }
 
     /// The node takes the first message of its first port on which one waits, and what it gives waits on the ports that

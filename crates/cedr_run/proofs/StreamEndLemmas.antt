@@ -15,7 +15,7 @@ use Rattle.cedr_plan.specs.declared.plan.Plan.{Plan}
 use Rattle.cedr_plan.specs.declared.plan.PlanNode.{PlanNode}
 use Rattle.cedr_plan.specs.Rules.{IsPlan}
 use Rattle.plan_runs.specs.Without.{forgot_in, Remembers}
-use Rattle.plan_answer.specs.Queries.{changes_text, given_text, source_nodes, IsStrong}
+use Rattle.plan_answer.specs.Queries.{changes_text, given_text, IsStrong}
 use Rattle.cedr_plan.specs.Places.{source_count}
 use Rattle.plan_answer.specs.Answers.{tail_text}
 use Rattle.plan_answer.specs.Sources.{AreTold, source_files}

@@ -19,10 +19,12 @@ use Rattle.node_laws.specs.Lawful.{has_broken}
 use Rattle.node_laws.specs.Lists.{Lists, list_at}
 use Rattle.node_laws.specs.Pass.{added}
 use Rattle.change_laws.proofs.Legal.{legal_first}
-use Rattle.node_laws.proofs.Ends.{broken-append}
+use Rattle.node_laws.proofs.Ends.{broken-append, open_unbroken}
 use Rattle.plan_runs.proofs.PlanNodes.{split, Split}
 use Rattle.plan_runs.proofs.Output.{output_kind}
-use Rattle.plan_live.proofs.SoFarLemmas.{lines_go}
+use Rattle.cedr_guard.proofs.MessageLemmas.{accepted_messages}
+use Rattle.cedr_guard.proofs.SourceLemmas.{good_accepted}
+use Rattle.cedr_text.proofs.ReadingLemmas.{reading_event}
 use Rattle.cedr_plan.specs.declared.plan.Plan.{Plan}
 use Rattle.cedr_plan.specs.declared.plan.PlanNode.{PlanNode}
 use Rattle.cedr_plan.specs.Rules.{IsPlan}
@@ -57,7 +59,9 @@ ending_unbroken (Some refusal) = refl
 -- no message of a source is a break
 messages_unbroken : (shape : Shape) (bytes : List ℕ) → has_broken (messages_of shape bytes) ≡ false
 messages_unbroken shape bytes =
-    broken-append (messages_behind [] (judged shape bytes).good) (ending (judged shape bytes).fault) (lines_go [] (judged shape bytes).good).1 ∙ ending_unbroken (judged shape bytes).fault
+    let good = (judged shape bytes).good in
+    let opened = (accepted_messages good (good_accepted reading_event shape bytes)).all.goes_on in
+    broken-append (messages_behind [] good) (ending (judged shape bytes).fault) (open_unbroken (messages_behind [] good) opened) ∙ ending_unbroken (judged shape bytes).fault
 
 -- ---- the sources of a plan
 

@@ -20,7 +20,7 @@ use Rattle.cedr_run.specs.declared.refusal.JudgeFault.TheVariants as judge_fault
 -- the valid interval of each event of these lines, and its payload
 pub record AreEventsOf (events : Events) (lines : List EventLine) : Type 0 where
   pub judge : StandsFor events.judge lines
-  pub payloads : events.payloads.items ≡ map row_payload (rows_among lines lines)
+  pub payloads : events.payloads.items ≡ map row_payload (rows_among lines)
 
 -- the rows with these valid intervals and payloads, without the empty ones
 abbrev pub living_rows : List Interval → List (List Field) → List Row

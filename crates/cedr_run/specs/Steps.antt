@@ -10,7 +10,7 @@ use Rattle.cedr_plan.specs.Plans.{plan_of}
 use Rattle.cedr_plan.specs.declared.plan.Plan.{Plan}
 use Rattle.cedr_plan.specs.declared.plan.PlanNode.{PlanNode}
 use Rattle.plan_answer.specs.Sources.{AreTold, source_files}
-use Rattle.plan_serial.specs.declared.entries.Entries.{Entries}
+use Rattle.cedr_source.specs.declared.entries.Entries.{Entries}
 use Rattle.plan_serial.specs.Rounds.{ByLine}
 use Rattle.plan_serial.specs.Sources.{AreReadByLine}
 use Rattle.plan_answer.specs.declared.faulty.FaultySource.{FaultySource}

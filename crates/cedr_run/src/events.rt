@@ -1,8 +1,8 @@
 ghost use Rattle.std.specs.Prelude.{◌≡◌, ◌++◌, ◌∷◌, [], List, IfOk, OnOk, filter};
 ghost use Rattle.cedr_text.specs.declared.event_line.EventLine.{EventLine};
 ghost use Rattle.cedr_text.specs.EventTexts.{as_line};
-ghost use Rattle.cedr_guard.specs.Judging.{fault_behind};
-ghost use Rattle.cedr_guard.specs.History.{row_lives, rows_among};
+ghost use Rattle.cedr_guard.specs.Judging.{fault_behind, row_lives};
+ghost use Rattle.cedr_guard.specs.History.{rows_among};
 ghost use Rattle.cedr_guard.specs.Standing.{Judges};
 ghost use Rattle.cedr_run.specs.Events.{AreEventsOf, living_rows};
 
@@ -16,7 +16,7 @@ use std::alloc::Global;
 #[derive(Drop)]
 pub(crate) struct Events<'a> {
     judge: Judge,
-    /// One for each insertion, in order.
+    /// One for each insertion, in order: that of its event's last version.
     payloads: Vec<PayloadText<'a>>,
 }
 
@@ -43,6 +43,13 @@ impl<'a> Events<'a> {
                 Ok(())
             }
             EventText::Retract { id, end } => self.judge.retract(id, end),
+            EventText::Revise { id, row } => {
+                let place = self.judge.revise(id, row.begin, row.end)?;
+                if place < self.payloads.len() {
+                    self.payloads[place] = row.payload;
+                }
+                Ok(())
+            }
             EventText::Promise(time) => {
                 self.judge.promise(time);
                 Ok(())
@@ -52,7 +59,7 @@ impl<'a> Events<'a> {
 
     /// The rows of the events that are left, in the order of their insertions.
     pub(crate) fn into_rows(self, alloc: Global) -> Result<Vec<TextRow<'a>>, OutOfMemory>
-        ensures { IfOk result (λ rows. (lines : List EventLine) → AreEventsOf self.entry lines → rows.items ≡ filter row_lives (rows_among lines lines)) }
+        ensures { IfOk result (λ rows. (lines : List EventLine) → AreEventsOf self.entry lines → rows.items ≡ filter row_lives (rows_among lines)) }
     {
         living_rows(alloc, self.judge.into_intervals(), self.payloads)
     }

@@ -17,8 +17,9 @@ use cedr_base::OutOfMemory;
 use cedr_io::{Files, MemFiles, Sink};
 use cedr_make::{made_bytes, made_plan, made_sources, write_summary};
 use cedr_plan::Plan;
+use cedr_source::Entries;
 use plan_answer::accepted_sources;
-use plan_serial::{Entries, SourcesFault, answer_rows, read_sources};
+use plan_serial::{SourcesFault, answer_rows, read_sources};
 use std::alloc::Global;
 
 /// Writes the summary of the answer to a workload of so many events a source.

@@ -18,8 +18,9 @@ use crate::saying::{refuse_sources, write_text};
 use cedr_base::OutOfMemory;
 use cedr_io::{Files, Sink};
 use cedr_plan::Plan;
+use cedr_source::Entries;
 use plan_answer::accepted_sources;
-use plan_serial::{Entries, SourcesFault, answer_sources, read_sources};
+use plan_serial::{SourcesFault, answer_sources, read_sources};
 use std::alloc::Global;
 
 /// All messages of a plan's sources line by line, or how the command ends without them.

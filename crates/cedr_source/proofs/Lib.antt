@@ -1,4 +1,5 @@
 pub mod TakenLemmas
 pub mod ReadsLemmas
 pub mod WholeLemmas
+mod EntryLemmas
 pub mod ByLineLemmas

@@ -1,10 +1,9 @@
 -- What each answer says of a source.
-use Rattle.std.proofs.Common.{◌≡◌, ◌≢◌, ℕ, ◌+◌, ◌-◌, ◌^◌, ◌<◌, ◌≤◌, List, [], ◌∷◌, ◌++◌, Bool, true, false, cond, length, take, min, Option, None, Some, Result, Ok, Err, refl, ap, sym, ◌∙◌, subst, append_assoc, append-nil, arith}
-use Rattle.std.specs.Prelude.{nat_lt, IfOk, OnOk}
+use Rattle.std.proofs.Common.{◌≡◌, ◌≢◌, ℕ, ◌+◌, ◌-◌, ◌^◌, ◌<◌, ◌≤◌, List, [], ◌∷◌, ◌++◌, Bool, true, false, cond, length, take, min, None, Some, Result, Ok, Err, refl, ap, sym, ◌∙◌, subst, append_assoc, append-nil, arith}
+use Rattle.std.specs.Prelude.{drop, nat_lt, OnOk}
 use Rattle.std.proofs.lemmas.Bool.{ltb-true, ltb-false, le-ltb, false≢true}
 use Rattle.std.proofs.lemmas.Bool.Decides.{nat_tests}
 use Rattle.std.proofs.lemmas.List.{length-append, length-take, take_all}
-use Rattle.cedr_base.specs.declared.memory.OutOfMemory.{OutOfMemory}
 use Rattle.cedr_base.specs.declared.change.Message.{Message}
 use Rattle.cedr_base.specs.declared.change.Message.TheVariants as message
 use Rattle.cedr_base.specs.Messages.{IsLegal}
@@ -22,18 +21,18 @@ use Rattle.cedr_guard.specs.declared.fault.GuardFault.{GuardFault}
 use Rattle.cedr_guard.specs.declared.fault.GuardFault.TheVariants as guard_fault
 use Rattle.cedr_guard.specs.declared.refusal.Refusal.{Refusal}
 use Rattle.cedr_guard.specs.declared.refusal.TheConstants.{FILE_LIMIT}
-use Rattle.cedr_guard.specs.Messages.{message_of, messages_behind}
+use Rattle.cedr_guard.specs.Messages.{line_messages, messages_behind}
 use Rattle.cedr_guard.specs.Sources.{with_event, with_reading, line_reading, Judged, go_on, judged_behind, judged_lines, judged, whole_lines, unfinished_line, ending}
 use Rattle.cedr_guard.specs.declared.guard.Guard.{Guard}
 use Rattle.cedr_guard.specs.Judging.{fault_behind}
 use Rattle.cedr_guard.specs.Standing as guard
-use Rattle.cedr_guard.specs.Standing.{Guards, message_list}
+use Rattle.cedr_guard.specs.Standing.{Guards}
 use Rattle.cedr_guard.proofs.MessageLemmas.{accepted_messages, messages-more}
 use Rattle.cedr_source.specs.declared.lines.SourceLines.{SourceLines}
 use Rattle.cedr_source.specs.declared.step.SourceStep.{SourceStep}
 use Rattle.cedr_source.specs.declared.step.SourceStep.TheVariants as step
 use Rattle.cedr_source.specs.Reads.{MayStillCome, AreTaken, ReadsSource}
-use Rattle.cedr_source.specs.Steps.{IsFrontOf, GivesFront, Waits, IsClosedSource, IsRefused, AnswersStep, TellsLine, TakesOne, refused_at, AnswersLine, JudgesLine}
+use Rattle.cedr_source.specs.Steps.{IsFrontOf, GivesFront, Waits, IsClosedSource, IsRefused, AnswersStep, refused_at, JudgesLine}
 use Rattle.cedr_source.proofs.TakenLemmas.{take-more, parts_are, taken_parts, goes_on, no_feed_part, AreGood, lines_behind, whole-taken, unfinished-taken, some_part, Stands, front_behind, holds_behind, line_refused, part_refused, long_reading, long_part, large_part, good_grows, messages-append, few_lines}
 
 -- what was read stands for the lines that were taken
@@ -101,11 +100,19 @@ taken_few fed bytes taken are =
 next_number : (number now count : ℕ) → now ≡ min (number + 1) (2 ^ 64 - 1) → number ≡ count + 1 → count ≤ FILE_LIMIT + 1 → now ≡ count + 1 + 1
 next_number number now count is was few = omega arith
 
--- an accepted line was taken, and its message given if it has one
-pub accepted_line : (old new : SourceLines) (line : List ℕ) (message : Option Message) (shape : Shape) (bytes : List ℕ) (given : List Message) → Takes old new line
-    → ((before : List EventLine) → Guards old.guard before → JudgesLine (Ok message) new.guard before (with_reading before (reading old.shape line)))
-    → ReadsSource old shape bytes given → ReadsSource new shape bytes (given ++ message_list message)
-accepted_line old new line message shape bytes given takes judges reads =
+-- lists that are the same behind the same front
+pub same_behind : (front xs ys : List Message) → front ++ xs ≡ front ++ ys → xs ≡ ys
+same_behind [] xs ys same = same
+same_behind (m ∷ front) xs ys same = same_behind front xs ys (ap (λ (ms : List Message). drop 1 ms) same)
+
+-- how a line was judged after the lines that a guard stands for, which appended to some messages
+abbrev pub Judges : Result (Unit {0}) GuardFault → SourceLines → SourceLines → List ℕ → List Message → List Message → Type 0
+Judges judged old new line before after = (lines : List EventLine) → Guards old.guard lines → JudgesLine judged new.guard lines (with_reading lines (reading old.shape line)) before after
+
+-- an accepted line was taken, and its messages given
+pub accepted_line : (old new : SourceLines) (line : List ℕ) (before after added : List Message) (shape : Shape) (bytes : List ℕ) (given : List Message) → Takes old new line
+    → Judges (Ok tt) old new line before after → after ≡ before ++ added → ReadsSource old shape bytes given → ReadsSource new shape bytes (given ++ added)
+accepted_line old new line before after added shape bytes given takes judges is reads =
     let judged = judges reads.good reads.guards in
     let raw = takes.gives.raw in
     let says = ap (λ s. with_reading reads.good (reading s line)) (sym reads.same_shape) ∙ judged.1 in
@@ -118,18 +125,17 @@ accepted_line old new line message shape bytes given takes judges reads =
       good = judged.0;
       accepted = accepted_more shape reads.taken raw reads.good judged.0 reads.accepted (short_reading shape reads.good raw line takes.gives.short takes.gives.text ∙ says);
       guards = judged.2;
-      messages = ap (λ ms. ms ++ message_list message) reads.messages ∙ sym judged.3;
+      messages = ap (λ ms. ms ++ added) reads.messages ∙ sym (judged.5 ∙ ap (λ ms. messages_behind [] reads.good ++ ms) (same_behind before judged.3 added (sym judged.4 ∙ is)));
       room = takes.room ∙ reads.room;
       over = takes.over ∙ reads.over;
       ended = λ ended. reads.ended (sym takes.finished ∙ ended);
     }
 
 -- with the lines that the guard stands for then
-pub accepted_good : (old new : SourceLines) (line : List ℕ) (message : Option Message) (shape : Shape) (bytes : List ℕ) (given : List Message) (takes : Takes old new line)
-    (judges : (before : List EventLine) → Guards old.guard before → JudgesLine (Ok message) new.guard before (with_reading before (reading old.shape line)))
-    (reads : ReadsSource old shape bytes given) → (accepted_line old new line message shape bytes given takes judges reads).good ≡ (judges reads.good reads.guards).0
+pub accepted_good : (old new : SourceLines) (line : List ℕ) (before after added : List Message) (shape : Shape) (bytes : List ℕ) (given : List Message) (takes : Takes old new line)
+    (judges : Judges (Ok tt) old new line before after) (is : after ≡ before ++ added) (reads : ReadsSource old shape bytes given) → (accepted_line old new line before after added shape bytes given takes judges is reads).good ≡ (judges reads.good reads.guards).0
 unfolding accepted_line
-accepted_good old new line message shape bytes given takes judges reads = refl
+accepted_good old new line before after added shape bytes given takes judges is reads = refl
 
 -- ---- a source is refused
 
@@ -157,10 +163,9 @@ first_part_refused shape count good line [] fault some reads = absurd (some refl
 first_part_refused shape count good line (next ∷ parts) fault some reads = part_refused shape count good line next parts fault reads
 
 -- a line that was taken has a fault
-refused_line : (old new : SourceLines) (line : List ℕ) (fault : LineFault) (shape : Shape) (bytes : List ℕ) (given : List Message) → Takes old new line
-    → ((before : List EventLine) → Guards old.guard before → JudgesLine (Err (guard_fault.Line fault)) new.guard before (with_reading before (reading old.shape line)))
-    → ReadsSource old shape bytes given → IsRefused new shape bytes given (record { line = old.number; fault = fault })
-refused_line old new line fault shape bytes given takes judges reads =
+pub refused_line : (old new : SourceLines) (line : List ℕ) (fault : LineFault) (before after : List Message) (shape : Shape) (bytes : List ℕ) (given : List Message) → Takes old new line
+    → Judges (Err (guard_fault.Line fault)) old new line before after → ReadsSource old shape bytes given → IsRefused new shape bytes given (record { line = old.number; fault = fault })
+refused_line old new line fault before after shape bytes given takes judges reads =
     let count = length reads.taken in
     let raw = takes.gives.raw in
     let says = short_reading shape reads.good raw line takes.gives.short takes.gives.text ∙ (ap (λ s. with_reading reads.good (reading s line)) (sym reads.same_shape) ∙ judges reads.good reads.guards) in
@@ -258,38 +263,10 @@ is_closed source shape bytes given ended nothing reads =
 
 -- ---- the answer for a line
 
--- a message is legal after those before it
-line_message : (old new : SourceLines) (line : List ℕ) (m : Message) (shape : Shape) (bytes : List ℕ) (given : List Message) → ReadsSource new shape bytes (given ++ m ∷ []) → AnswersStep (step.Message m) new shape bytes given
-line_message old new line m shape bytes given reads = (reads, (gives_front new shape bytes (given ++ m ∷ []) reads).legal)
-
--- what the answer for a line says
-pub line_told : (old new : SourceLines) (line : List ℕ) (judged : Result (Option Message) GuardFault) (answer : Result (Option SourceStep) OutOfMemory) → Takes old new line
-    → ((before : List EventLine) → Guards old.guard before → JudgesLine judged new.guard before (with_reading before (reading old.shape line))) → AnswersLine old.number judged answer
-    → IfOk answer (λ said. (shape : Shape) (bytes : List ℕ) (given : List Message) → ReadsSource old shape bytes given → TellsLine said new shape bytes given)
-line_told old new line (Ok None) answer takes judges is =
-    subst (λ a. IfOk a (λ said. (shape : Shape) (bytes : List ℕ) (given : List Message) → ReadsSource old shape bytes given → TellsLine said new shape bytes given)) (sym is)
-    (λ shape bytes given reads. subst (ReadsSource new shape bytes) (append-nil given) (accepted_line old new line None shape bytes given takes judges reads))
-line_told old new line (Ok (Some m)) answer takes judges is =
-    subst (λ a. IfOk a (λ said. (shape : Shape) (bytes : List ℕ) (given : List Message) → ReadsSource old shape bytes given → TellsLine said new shape bytes given)) (sym is)
-    (λ shape bytes given reads. line_message old new line m shape bytes given (accepted_line old new line (Some m) shape bytes given takes judges reads))
-line_told old new line (Err (guard_fault.Line fault)) answer takes judges is =
-    subst (λ a. IfOk a (λ said. (shape : Shape) (bytes : List ℕ) (given : List Message) → ReadsSource old shape bytes given → TellsLine said new shape bytes given)) (sym is)
-    (λ shape bytes given reads. refused_line old new line fault shape bytes given takes judges reads)
-line_told old new line (Err guard_fault.OutOfMemory) (Ok said) takes judges is = absurd (false≢true is)
-line_told old new line (Err guard_fault.OutOfMemory) (Err lack) takes judges is = tt
-
 -- it has one line less
 pub line_falls : (old new : Fed) (line : List ℕ) → GivesLine old new line → length (raw_lines new.kept) < length (raw_lines old.kept)
 line_falls old new line gives =
     omega (arith, ap length (gives.next [] (λ ended. refl)), ap (λ kept. length (raw_lines kept)) (append-nil old.kept), ap (λ kept. length (raw_lines kept)) (append-nil new.kept))
-
--- so a line that was taken is one less
-pub one_less : (number left now : ℕ) (judged : Result (Option Message) GuardFault) (answer : Result (Option SourceStep) OutOfMemory) → AnswersLine number judged answer → now < left → IfOk answer (λ said. TakesOne said left now)
-one_less number left now (Ok None) answer is less = subst (λ a. IfOk a (λ said. TakesOne said left now)) (sym is) less
-one_less number left now (Ok (Some m)) answer is less = subst (λ a. IfOk a (λ said. TakesOne said left now)) (sym is) less
-one_less number left now (Err (guard_fault.Line fault)) answer is less = subst (λ a. IfOk a (λ said. TakesOne said left now)) (sym is) tt
-one_less number left now (Err guard_fault.OutOfMemory) (Ok said) is less = absurd (false≢true is)
-one_less number left now (Err guard_fault.OutOfMemory) (Err lack) is less = tt
 
 -- ---- no bytes, more bytes
 
@@ -372,15 +349,15 @@ more_good old new piece shape bytes given feeds reads = refl
 -- ---- a line after accepted ones
 
 -- a guard's answer for an event is that for its line
-pub event_judged : (result : Result (Option Message) GuardFault) (old new : Guard) (event : EventLine)
+pub event_judged : (result : Result (Unit {0}) GuardFault) (old new : Guard) (event : EventLine) (out out' : List Message)
     → ((before : List EventLine) → Guards old before → guard.Judges result (fault_behind before event))
-    → IfOk result (λ message. (before : List EventLine) → Guards old before → message_list message ≡ message_of before event)
+    → OnOk result ((before : List EventLine) → Guards old before → out' ≡ out ++ line_messages before event)
     → OnOk result ((before : List EventLine) → Guards old before → Guards new (before ++ event ∷ []))
-    → (before : List EventLine) → Guards old before → JudgesLine result new before (with_event before event (fault_behind before event))
-event_judged (Ok message) old new event judged says stands before guards =
-    (before ++ event ∷ [], ap (with_event before event) (judged before guards), stands before guards, messages-more before event ∙ ap (λ ms. messages_behind [] before ++ ms) (sym (says before guards)))
-event_judged (Err (guard_fault.Line fault)) old new event judged says stands before guards = ap (with_event before event) (judged before guards)
-event_judged (Err guard_fault.OutOfMemory) old new event judged says stands before guards = tt
+    → (before : List EventLine) → Guards old before → JudgesLine result new before (with_event before event (fault_behind before event)) out out'
+event_judged (Ok done) old new event out out' judged says stands before guards =
+    (before ++ event ∷ [], ap (with_event before event) (judged before guards), stands before guards, line_messages before event, says before guards, messages-more before event)
+event_judged (Err (guard_fault.Line fault)) old new event out out' judged says stands before guards = ap (with_event before event) (judged before guards)
+event_judged (Err guard_fault.OutOfMemory) old new event out out' judged says stands before guards = tt
 
 -- ---- no line was taken
 
@@ -417,22 +394,22 @@ still_good old new shape bytes given stays reads = refl
 
 -- the answer is that the next line is too long
 pub long_told : (old new : SourceLines) (said : SourceStep) → said ≡ refused_at old.number LineTooLong → Stays old new → IsTooLong old.lines
-    → (shape : Shape) (bytes : List ℕ) (given : List Message) → ReadsSource old shape bytes given → AnswersStep said new shape bytes given
+    → (shape : Shape) (bytes : List ℕ) (given : List Message) → ReadsSource old shape bytes given → AnswersStep said new shape bytes given []
 long_told old new said is stays long shape bytes given reads =
-    subst (λ t. AnswersStep t new shape bytes given) (sym (is ∙ ap (λ n. refused_at n LineTooLong) (sym stays.number)))
+    subst (λ t. AnswersStep t new shape bytes given []) (sym (is ∙ ap (λ n. refused_at n LineTooLong) (sym stays.number)))
     (refused_long new shape bytes given (subst IsTooLong (sym stays.lines) long) (still_reads old new shape bytes given stays reads))
 
 -- the answer is that the source is too large
 pub large_told : (old new : SourceLines) (said : SourceStep) → said ≡ refused_at old.number TooLarge → Stays old new → GivesNone lines.NotYet old.lines → old.over_limit ≡ true
-    → (shape : Shape) (bytes : List ℕ) (given : List Message) → ReadsSource old shape bytes given → AnswersStep said new shape bytes given
+    → (shape : Shape) (bytes : List ℕ) (given : List Message) → ReadsSource old shape bytes given → AnswersStep said new shape bytes given []
 large_told old new said is stays none over shape bytes given reads =
     let still = subst (GivesNone lines.NotYet) (sym stays.lines) none in
-    subst (λ t. AnswersStep t new shape bytes given) (sym (is ∙ ap (λ n. refused_at n TooLarge) (sym stays.number)))
+    subst (λ t. AnswersStep t new shape bytes given []) (sym (is ∙ ap (λ n. refused_at n TooLarge) (sym stays.number)))
     (refused_large new shape bytes given still.0 still.1 still.2 (stays.over ∙ over) (still_reads old new shape bytes given stays reads))
 
 -- more bytes are asked for
 pub waiting_told : (old new : SourceLines) → Stays old new → GivesNone lines.NotYet old.lines → old.over_limit ≡ false
-    → (shape : Shape) (bytes : List ℕ) (given : List Message) → ReadsSource old shape bytes given → AnswersStep step.NotYet new shape bytes given
+    → (shape : Shape) (bytes : List ℕ) (given : List Message) → ReadsSource old shape bytes given → AnswersStep step.NotYet new shape bytes given []
 waiting_told old new stays none over shape bytes given reads =
     let still = subst (GivesNone lines.NotYet) (sym stays.lines) none in
     let reads_on = still_reads old new shape bytes given stays reads in
@@ -440,7 +417,7 @@ waiting_told old new stays none over shape bytes given reads =
 
 -- the answer is that the source is closed
 pub closed_told : (old new : SourceLines) → Stays old new → GivesNone lines.Finished old.lines
-    → (shape : Shape) (bytes : List ℕ) (given : List Message) → ReadsSource old shape bytes given → AnswersStep step.Closed new shape bytes given
+    → (shape : Shape) (bytes : List ℕ) (given : List Message) → ReadsSource old shape bytes given → AnswersStep step.Closed new shape bytes given []
 closed_told old new stays none shape bytes given reads =
     let still = subst (GivesNone lines.Finished) (sym stays.lines) none in
     let reads_on = still_reads old new shape bytes given stays reads in

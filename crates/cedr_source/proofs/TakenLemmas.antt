@@ -18,7 +18,7 @@ use Rattle.cedr_text.specs.declared.fault.LineFault.TheVariants.{LineTooLong, To
 use Rattle.cedr_guard.specs.declared.refusal.Refusal.{Refusal}
 use Rattle.cedr_guard.specs.declared.refusal.TheConstants.{FILE_LIMIT}
 use Rattle.cedr_guard.specs.Judging.{fault_behind}
-use Rattle.cedr_guard.specs.Messages.{message_of, messages_behind}
+use Rattle.cedr_guard.specs.Messages.{line_messages, messages_behind}
 use Rattle.cedr_guard.specs.Sources.{with_event, with_reading, line_reading, Judged, go_on, judged_behind, judged_lines, judged_front, whole_lines, unfinished_line, first_refusal, limit_fault, judged}
 use Rattle.cedr_source.specs.Reads.{MayStillCome, AreTaken}
 use Rattle.cedr_text.proofs.LineLemmas.{end_dropped, kept_front}
@@ -285,9 +285,9 @@ good_grows shape count before (line ∷ lines) =
 pub messages-append : (before lines others : List EventLine) → messages_behind before (lines ++ others) ≡ messages_behind before lines ++ messages_behind (before ++ lines) others
 messages-append before [] others = ap (λ front. messages_behind front others) (sym (append-nil before))
 messages-append before (line ∷ lines) others =
-    ap (λ ms. message_of before line ++ ms) (messages-append (before ++ line ∷ []) lines others
+    ap (λ ms. line_messages before line ++ ms) (messages-append (before ++ line ∷ []) lines others
     ∙ ap (λ front. messages_behind (before ++ line ∷ []) lines ++ messages_behind front others) (append_assoc before (line ∷ []) lines))
-    ∙ sym (append_assoc (message_of before line) (messages_behind (before ++ line ∷ []) lines) (messages_behind (before ++ line ∷ lines) others))
+    ∙ sym (append_assoc (line_messages before line) (messages_behind (before ++ line ∷ []) lines) (messages_behind (before ++ line ∷ lines) others))
 
 -- ---- how many lines there are
 

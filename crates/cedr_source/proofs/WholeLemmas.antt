@@ -1,7 +1,6 @@
 -- A whole source: its blocks, and its end.
-use Rattle.std.proofs.Common.{◌≡◌, ℕ, ◌<◌, ◌≤◌, List, [], ◌++◌, true, false, length, Option, None, Some, Result, Ok, Err, Vec, refl, ap, sym, ◌∙◌, subst, append-nil, inl, inr, ◌⊎◌, arith}
+use Rattle.std.proofs.Common.{◌≡◌, ℕ, ◌<◌, ◌≤◌, List, [], ◌++◌, true, false, length, Option, None, Some, Result, Ok, Err, refl, ap, sym, ◌∙◌, subst, append-nil, inl, inr, ◌⊎◌, arith}
 use Rattle.std.specs.Prelude.{IfSome, unwrap_or}
-use Rattle.std.specs.Global.{Global}
 use Rattle.std.specs.Io.KnownBytes.{IsAtEnd}
 use Rattle.std.proofs.lemmas.Bool.{false≢true}
 use Rattle.std.proofs.lemmas.List.{length-append}
@@ -16,19 +15,19 @@ use Rattle.cedr_source.specs.declared.lines.SourceLines.{SourceLines}
 use Rattle.cedr_source.specs.declared.read.Reading.{Reading}
 use Rattle.cedr_source.specs.Reads.{ReadsByLine}
 use Rattle.cedr_source.specs.Steps.{Waits}
-use Rattle.cedr_source.specs.Whole.{CountsSource, AnswersAll, IsReadWhole, Answered, IsClosedByLine, TookAll, HasRead, ReadBlocks, Closes}
+use Rattle.cedr_source.specs.Whole.{CountsSource, AnswersAll, IsReadWhole, Answered, read_entries, HoldsRead, IsClosedByLine, TookAll, HasRead, ReadBlocks, Closes}
 
 -- ---- a block was taken
 
 -- a source that didn't end has no more bytes than it may have
 pub not_closed : (reading : Reading) (shape : Shape) (bytes : List ℕ) → reading.lines.lines.finished ≡ false → TookAll (Ok tt) reading shape bytes → length bytes ≤ FILE_LIMIT
 not_closed reading shape bytes unended took = either_within took.1 where
-  either_within : Waits reading.lines shape bytes (messages_in reading.entries.items) ⊎ IsClosedByLine reading shape bytes → length bytes ≤ FILE_LIMIT
+  either_within : Waits reading.lines shape bytes (messages_in (read_entries reading)) ⊎ IsClosedByLine reading shape bytes → length bytes ≤ FILE_LIMIT
   either_within (inl waits) = waits.within
   either_within (inr whole) = absurd (false≢true (sym unended ∙ whole.closed.ended))
 
 -- so there is less room after each block
-pub less_room : (old new : SourceLines) (shape : Shape) (bytes part : List ℕ) (before given : List (Option Message)) → ReadsByLine old shape bytes before → ReadsByLine new shape (bytes ++ part) given
+pub less_room : (old new : SourceLines) (shape : Shape) (bytes part : List ℕ) (before given : List (List Message)) → ReadsByLine old shape bytes before → ReadsByLine new shape (bytes ++ part) given
     → 0 < length part → length (bytes ++ part) ≤ FILE_LIMIT → new.room < old.room
 less_room old new shape bytes part before given reads more some within = omega (arith, reads.reads.room, more.reads.room, some, within, length-append bytes part)
 
@@ -49,7 +48,7 @@ none_failed T unread.OutOfMemory reading shape bytes old new took same = same
 -- where no more bytes come, more of them aren't needed
 pub all_taken : (reading : Reading) (shape : Shape) (bytes : List ℕ) → reading.lines.lines.finished ≡ true → TookAll (Ok tt) reading shape bytes → IsClosedByLine reading shape bytes
 all_taken reading shape bytes ended took = either_whole took.1 where
-  either_whole : Waits reading.lines shape bytes (messages_in reading.entries.items) ⊎ IsClosedByLine reading shape bytes → IsClosedByLine reading shape bytes
+  either_whole : Waits reading.lines shape bytes (messages_in (read_entries reading)) ⊎ IsClosedByLine reading shape bytes → IsClosedByLine reading shape bytes
   either_whole (inl waits) = absurd (false≢true (sym waits.goes_on ∙ ended))
   either_whole (inr whole) = whole
 
@@ -67,20 +66,20 @@ at_end None bytes end = sym (append-nil bytes)
 at_end (Some rest) bytes end = sym (ap (λ more. bytes ++ more) end ∙ append-nil bytes)
 
 -- the answer at the end is that for all bytes
-ends_so : (answer : Result (Vec (Option Message) Global) Unread) (shape : Shape) (bytes : List ℕ) → Closes answer shape bytes → AnswersAll answer shape bytes
+ends_so : (answer : Result (List (List Message)) Unread) (shape : Shape) (bytes : List ℕ) → Closes answer shape bytes → AnswersAll answer shape bytes
 ends_so (Ok entries) shape bytes closes = closes
 ends_so (Err (unread.Refused refusal)) shape bytes closes = closes
 ends_so (Err unread.Failed) shape bytes closes = tt
 ends_so (Err unread.OutOfMemory) shape bytes closes = tt
 
 -- and nothing is left then
-read_whole : (answer : Result (Vec (Option Message) Global) Unread) (left : Option (List ℕ)) → IsAtEnd left → IsReadWhole answer left
+read_whole : (answer : Result (List (List Message)) Unread) (left : Option (List ℕ)) → IsAtEnd left → IsReadWhole answer left
 read_whole (Ok entries) left end = end
 read_whole (Err fault) left end = tt
 
 -- all blocks were read, and no more bytes come
-pub closed_answer : (answer : Result (Vec (Option Message) Global) Unread) (reading : Reading) (shape : Shape) (rest left : Option (List ℕ)) → ReadBlocks (Ok reading) shape rest left
-    → ((shape' : Shape) (bytes : List ℕ) → ReadsByLine reading.lines shape' bytes reading.entries.items → length bytes ≤ FILE_LIMIT → Closes answer shape' bytes) → Answered answer shape rest left
+pub closed_answer : (answer : Result (List (List Message)) Unread) (reading : Reading) (shape : Shape) (rest left : Option (List ℕ)) → ReadBlocks (Ok reading) shape rest left
+    → ((shape' : Shape) (bytes : List ℕ) → HoldsRead reading shape' bytes → length bytes ≤ FILE_LIMIT → Closes answer shape' bytes) → Answered answer shape rest left
 closed_answer answer reading shape rest left blocks closes =
     let ends = ends_so answer shape blocks.bytes (closes shape blocks.bytes blocks.read.0 blocks.read.1) in
     record {
@@ -92,8 +91,8 @@ closed_answer answer reading shape rest left blocks closes =
     }
 
 -- and then no read failed
-pub closed_count : (answer : Result (Vec (Option Message) Global) Unread) (reading : Reading) (shape : Shape) (rest left : Option (List ℕ)) (old new : ℕ) → ReadBlocks (Ok reading) shape rest left
-    → ((shape' : Shape) (bytes : List ℕ) → ReadsByLine reading.lines shape' bytes reading.entries.items → length bytes ≤ FILE_LIMIT → Closes answer shape' bytes) → new ≡ old → CountsSource answer old new
+pub closed_count : (answer : Result (List (List Message)) Unread) (reading : Reading) (shape : Shape) (rest left : Option (List ℕ)) (old new : ℕ) → ReadBlocks (Ok reading) shape rest left
+    → ((shape' : Shape) (bytes : List ℕ) → HoldsRead reading shape' bytes → length bytes ≤ FILE_LIMIT → Closes answer shape' bytes) → new ≡ old → CountsSource answer old new
 closed_count (Ok entries) reading shape rest left old new blocks closes same = same
 closed_count (Err (unread.Refused refusal)) reading shape rest left old new blocks closes same = same
 closed_count (Err unread.Failed) reading shape rest left old new blocks closes same = absurd (closes shape blocks.bytes blocks.read.0 blocks.read.1)
@@ -106,7 +105,7 @@ fault_answers unread.Failed shape bytes more read = tt
 fault_answers unread.OutOfMemory shape bytes more read = tt
 
 -- some block had a fault
-pub broken_answer : (answer : Result (Vec (Option Message) Global) Unread) (fault : Unread) (shape : Shape) (rest left : Option (List ℕ)) → answer ≡ Err fault → ReadBlocks (Err fault) shape rest left → Answered answer shape rest left
+pub broken_answer : (answer : Result (List (List Message)) Unread) (fault : Unread) (shape : Shape) (rest left : Option (List ℕ)) → answer ≡ Err fault → ReadBlocks (Err fault) shape rest left → Answered answer shape rest left
 broken_answer answer fault shape rest left is blocks =
     subst (λ a. Answered a shape rest left) (sym is) (record {
       bytes = blocks.bytes;
@@ -117,13 +116,13 @@ broken_answer answer fault shape rest left is blocks =
     })
 
 -- and its count is the answer's
-pub broken_count : (T : Type 0) (answer : Result (Vec (Option Message) Global) Unread) (fault : Unread) (old new : ℕ) → answer ≡ Err fault → CountsSource {T = T} (Err fault) old new → CountsSource answer old new
+pub broken_count : (T : Type 0) (answer : Result (List (List Message)) Unread) (fault : Unread) (old new : ℕ) → answer ≡ Err fault → CountsSource {T = T} (Err fault) old new → CountsSource answer old new
 broken_count T answer (unread.Refused refusal) old new is counts = subst (λ a. CountsSource a old new) (sym is) counts
 broken_count T answer unread.Failed old new is counts = subst (λ a. CountsSource a old new) (sym is) counts
 broken_count T answer unread.OutOfMemory old new is counts = subst (λ a. CountsSource a old new) (sym is) counts
 
 -- the answer for what was read is that for all bytes
-pub answered_all : (answer : Result (Vec (Option Message) Global) Unread) (shape : Shape) (rest left : Option (List ℕ)) → Answered answer shape rest left → IfSome rest (λ all. AnswersAll answer shape all)
+pub answered_all : (answer : Result (List (List Message)) Unread) (shape : Shape) (rest left : Option (List ℕ)) → Answered answer shape rest left → IfSome rest (λ all. AnswersAll answer shape all)
 answered_all answer shape None left answered = tt
 answered_all answer shape (Some all) None answered = absurd answered.took
 answered_all answer shape (Some all) (Some rest) answered = subst (AnswersAll answer shape) (sym answered.took) answered.answers

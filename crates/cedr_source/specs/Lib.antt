@@ -1,3 +1,4 @@
+pub mod Entries
 pub mod Reads
 pub mod Steps
 pub mod Whole

@@ -1,11 +1,11 @@
 -- What was read of a source so far, and what was given for it.
-use Rattle.std.specs.Prelude.{ℕ, ◌≡◌, ◌≤◌, ◌+◌, ◌-◌, Bool, true, List, [], ◌++◌, length, take, nat_lt, Option, None}
+use Rattle.std.specs.Prelude.{ℕ, ◌≡◌, ◌≤◌, ◌+◌, ◌-◌, Bool, true, List, [], ◌++◌, length, take, nat_lt, None}
 use Rattle.cedr_base.specs.declared.change.Message.{Message}
 use Rattle.cedr_text.specs.declared.event_line.EventLine.{EventLine}
 use Rattle.cedr_text.specs.declared.event_line.Shape.{Shape}
 use Rattle.cedr_text.specs.Lines.{Fed, raw_lines}
 use Rattle.cedr_guard.specs.declared.refusal.TheConstants.{FILE_LIMIT}
-use Rattle.cedr_guard.specs.Messages.{messages_behind, line_messages, messages_in}
+use Rattle.cedr_guard.specs.Messages.{messages_behind, entries_behind, messages_in}
 use Rattle.cedr_guard.specs.Sources.{judged_lines}
 use Rattle.cedr_guard.specs.Standing.{Guards}
 use Rattle.cedr_source.specs.declared.lines.SourceLines.{SourceLines}
@@ -40,9 +40,9 @@ pub record ReadsSource (source : SourceLines) (shape : Shape) (bytes : List ℕ)
   pub ended : is_ended source ≡ true → length bytes ≤ FILE_LIMIT
 
 -- these bytes of a source were fed, and the messages of its lines were given line by line
-pub record ReadsByLine (source : SourceLines) (shape : Shape) (bytes : List ℕ) (given : List (Option Message)) : Type 0 where
+pub record ReadsByLine (source : SourceLines) (shape : Shape) (bytes : List ℕ) (given : List (List Message)) : Type 0 where
   pub reads : ReadsSource source shape bytes (messages_in given)
-  pub lines : given ≡ line_messages [] reads.good
+  pub lines : given ≡ entries_behind [] reads.good
 
 -- how many lines the bytes that were fed and not taken are, if no more come
 abbrev pub lines_left : SourceLines → ℕ

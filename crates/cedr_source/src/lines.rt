@@ -1,13 +1,14 @@
-ghost use Rattle.std.specs.Prelude.{◌≡◌, ◌==◌, ◌≤◌, ◌++◌, [], List, ℕ, true, false, length, Option, IfOk, OnOk, OnErr};
+ghost use Rattle.std.specs.Prelude.{◌≡◌, ◌==◌, ◌≤◌, ◌++◌, [], List, ℕ, true, false, length, IfOk, OnOk, OnErr};
 ghost use Rattle.cedr_base.specs.declared.change.Message.{Message};
 ghost use Rattle.cedr_text.specs.declared.event_line.EventLine.{EventLine};
 ghost use Rattle.cedr_text.specs.declared.event_line.Shape.{Shape};
 ghost use Rattle.cedr_text.specs.Reading.{reading};
 ghost use Rattle.cedr_guard.specs.declared.refusal.TheConstants.{FILE_LIMIT};
+ghost use Rattle.cedr_guard.specs.Messages.{Appended};
 ghost use Rattle.cedr_guard.specs.Sources.{with_reading};
 ghost use Rattle.cedr_guard.specs.Standing.{Guards};
-ghost use Rattle.cedr_source.specs.Reads.{ReadsSource, ReadsByLine, is_ended, lines_left};
-ghost use Rattle.cedr_source.specs.Steps.{AnswersStep, TellsLine, TellsEntry, TakesLine, TakesOne, JudgesLine, AnswersLine, refused_at};
+ghost use Rattle.cedr_source.specs.Reads.{ReadsSource, ReadsByLine, is_ended};
+ghost use Rattle.cedr_source.specs.Steps.{LineAnswered, JudgesLine, AnswersLine, refused_at};
 
 use crate::step::SourceStep;
 use cedr_base::{Message, OutOfMemory};
@@ -58,7 +59,7 @@ impl SourceLines {
     pub fn feed(&mut self, piece: &[u8]) -> Result<(), OutOfMemory>
         requires { is_ended self.old ≡ false }
         ensures reads { OnOk result ((shape : Shape) (bytes : List ℕ) (given : List Message) → ReadsSource self.old shape bytes given → ReadsSource self.new shape (bytes ++ piece.now) given) }
-        ensures by_line { OnOk result ((shape : Shape) (bytes : List ℕ) (given : List (Option Message)) → ReadsByLine self.old shape bytes given → ReadsByLine self.new shape (bytes ++ piece.now) given) }
+        ensures by_line { OnOk result ((shape : Shape) (bytes : List ℕ) (given : List (List Message)) → ReadsByLine self.old shape bytes given → ReadsByLine self.new shape (bytes ++ piece.now) given) }
         ensures err { OnErr result (self.new ≡ self.old) }
         ensures goes_on { is_ended self.new ≡ false }
     {
@@ -74,7 +75,7 @@ impl SourceLines {
     /// Says that no more bytes come. It takes no memory.
     pub fn finish(&mut self)
         ensures reads { (shape : Shape) (bytes : List ℕ) (given : List Message) → ReadsSource self.old shape bytes given → ReadsSource self.new shape bytes given }
-        ensures by_line { (shape : Shape) (bytes : List ℕ) (given : List (Option Message)) → ReadsByLine self.old shape bytes given → ReadsByLine self.new shape bytes given }
+        ensures by_line { (shape : Shape) (bytes : List ℕ) (given : List (List Message)) → ReadsByLine self.old shape bytes given → ReadsByLine self.new shape bytes given }
         ensures finished { (shape : Shape) (bytes : List ℕ) (given : List Message) → ReadsSource self.old shape bytes given → length bytes ≤ FILE_LIMIT → is_ended self.new ≡ true }
     {
         if !self.over_limit {
@@ -82,46 +83,29 @@ impl SourceLines {
         }
     }
 
-    /// The next message, or why there is none yet, or none any more. It skips lines that have no message: the
-    /// empty ones, and guarantees that aren't above an earlier one. O(n) in the bytes of the lines that it
-    /// takes, and O(log n) in the insertions before them for each.
+    /// Takes the next line and appends its messages, at most two, or says why there is none yet, or none any more. An
+    /// empty line has none, and neither has a guarantee that isn't above an earlier one. O(n) in the bytes of the line,
+    /// and O(log n) in the insertions before it.
     ///
-    /// After `Refused`, and after want of memory, the lines are only to be dropped.
-    pub fn next(&mut self) -> Result<SourceStep, OutOfMemory>
-        ensures said { IfOk result (λ said. (shape : Shape) (bytes : List ℕ) (given : List Message) → ReadsSource self.old shape bytes given → AnswersStep said self.new shape bytes given) }
-        ensures falls { IfOk result (λ said. TakesLine said (lines_left self.old) (lines_left self.new)) }
-        ensures finished { is_ended self.new ≡ is_ended self.old }
-    {
-        loop {
-            if let Some(step) = self.take_line()? {
-                return Ok(step);
-            }
-        }
-    }
-
-    /// The same of the next line alone: it answers nothing where that line has no message. Whether it is an empty line
-    /// then, [`SourceLines::was_empty`] says.
-    pub fn take_line(&mut self) -> Result<Option<SourceStep>, OutOfMemory>
-        ensures said { IfOk result (λ said. (shape : Shape) (bytes : List ℕ) (given : List Message) → ReadsSource self.old shape bytes given → TellsLine said self.new shape bytes given) }
-        ensures by_line { IfOk result (λ said. (shape : Shape) (bytes : List ℕ) (given : List (Option Message)) → ReadsByLine self.old shape bytes given → TellsEntry said self.new shape bytes given) }
-        ensures falls { IfOk result (λ said. TakesOne said (lines_left self.old) (lines_left self.new)) }
+    /// After `Refused`, and after want of memory, the lines are only to be dropped. Nothing was appended then.
+    pub fn take_line(&mut self, out: &mut Vec<Message>) -> Result<SourceStep, OutOfMemory>
+        ensures answered { IfOk result (λ said. LineAnswered said self.old self.new out.old.items out.new.items) }
+        ensures kept { OnErr result (out.new.items ≡ out.old.items) }
         ensures finished { is_ended self.new ≡ is_ended self.old }
     {
         match self.lines.next_line(&mut self.line)? {
             LineStep::Line => {
                 let alloc = *self.line.allocator();
-                let judged = judge_line(alloc, &mut self.guard, &self.shape, &self.line);
+                let judged = judge_line(alloc, &mut self.guard, &self.shape, &self.line, out);
                 let number = self.number;
                 // No source has so many lines that it stays at its last value.
                 self.number = number.saturating_add(1);
                 step_of(number, judged)
             }
-            LineStep::TooLong => Ok(Some(refused(self.number, LineFault::LineTooLong))),
-            LineStep::NotYet if self.over_limit => {
-                Ok(Some(refused(self.number, LineFault::TooLarge)))
-            }
-            LineStep::NotYet => Ok(Some(SourceStep::NotYet)),
-            LineStep::Finished => Ok(Some(SourceStep::Closed)),
+            LineStep::TooLong => Ok(refused(self.number, LineFault::LineTooLong)),
+            LineStep::NotYet if self.over_limit => Ok(refused(self.number, LineFault::TooLarge)),
+            LineStep::NotYet => Ok(SourceStep::NotYet),
+            LineStep::Finished => Ok(SourceStep::Closed),
         }
     }
 
@@ -134,34 +118,33 @@ impl SourceLines {
 }
 
 /// Judges a line, without its line feed and the carriage return before that, after the accepted ones, and
-/// answers its message if it has one. An error leaves the guard as it was. O(n) in the bytes, and O(log n) in the
-/// insertions before it.
+/// appends its messages, at most two. An error leaves the guard and `out` as they were. O(n) in the bytes, and
+/// O(log n) in the insertions before it.
 pub fn judge_line(
     alloc: Global,
     guard: &mut Guard,
     shape: &Shape,
     line: &[u8],
-) -> Result<Option<Message>, GuardFault>
-    ensures { (before : List EventLine) → Guards guard.old before → JudgesLine result guard.new before (with_reading before (reading shape.now line.now)) }
+    out: &mut Vec<Message>,
+) -> Result<(), GuardFault>
+    ensures judged { (before : List EventLine) → Guards guard.old before → JudgesLine result guard.new before (with_reading before (reading shape.now line.now)) out.old.items out.new.items }
+    ensures appended { Appended out.old.items out.new.items }
+    ensures kept { OnErr result (out.new.items ≡ out.old.items) }
 {
     match read_line(alloc, line, shape) {
-        Ok(Some(event)) => guard.accept(event),
-        Ok(None) => Ok(None),
+        Ok(Some(event)) => guard.accept(&event, out),
+        Ok(None) => Ok(()),
         Err(fault) => Err(GuardFault::from(fault)),
     }
 }
 
 /// The answer for the line of this number.
-fn step_of(
-    number: u64,
-    judged: Result<Option<Message>, GuardFault>,
-) -> Result<Option<SourceStep>, OutOfMemory>
+fn step_of(number: u64, judged: Result<(), GuardFault>) -> Result<SourceStep, OutOfMemory>
     ensures { AnswersLine number judged result }
 {
     match judged {
-        Ok(Some(message)) => Ok(Some(SourceStep::Message(message))),
-        Ok(None) => Ok(None),
-        Err(GuardFault::Line(fault)) => Ok(Some(refused(number, fault))),
+        Ok(()) => Ok(SourceStep::Line),
+        Err(GuardFault::Line(fault)) => Ok(refused(number, fault)),
         Err(GuardFault::OutOfMemory) => Err(OutOfMemory),
     }
 }

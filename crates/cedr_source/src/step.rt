@@ -1,11 +1,10 @@
-use cedr_base::Message;
 use cedr_guard::Refusal;
 
-/// What `SourceLines::next` answers.
+/// What `SourceLines::take_line` answers.
 #[derive(Drop)]
 pub enum SourceStep {
-    /// The next message.
-    Message(Message),
+    /// The next line was taken, and its messages were appended.
+    Line,
     /// All lines that ended were taken, and the next one may still go on: more bytes are needed.
     NotYet,
     /// No more bytes come, and all lines were accepted.

@@ -23,19 +23,20 @@ guarantee_long parts time more are = ap guarantee (are ∙ ap (λ rest. time ∷
 
 -- a first field that is no kind of line
 other_kind : (kind : List ℕ) (fields : List (List ℕ)) → bytes_eq kind (codes "+") ≡ false → bytes_eq kind (codes "-") ≡ false → bytes_eq kind (codes "=") ≡ false
-    → event_of AnyText (kind ∷ fields) ≡ Err BadForm
-other_kind kind fields no_plus no_minus no_equals = rw (no_plus, no_minus, no_equals) refl
+    → bytes_eq kind (codes "~") ≡ false → event_of AnyText (kind ∷ fields) ≡ Err BadForm
+other_kind kind fields no_plus no_minus no_equals no_tilde = rw (no_plus, no_minus, no_equals, no_tilde) refl
 
 -- a kind of line with nothing behind it is in no form, as any other text
-no_fields : (plus minus equals : Bool) → cond plus (Err BadForm) (cond minus (Err BadForm) (cond equals (Err BadForm) (Err BadForm))) ≡ event_of AnyText []
-no_fields true minus equals = refl
-no_fields false true equals = refl
-no_fields false false true = refl
-no_fields false false false = refl
+no_fields : (plus minus equals tilde : Bool) → cond plus (Err BadForm) (cond minus (Err BadForm) (cond equals (Err BadForm) (cond tilde (Err BadForm) (Err BadForm)))) ≡ event_of AnyText []
+no_fields true minus equals tilde = refl
+no_fields false true equals tilde = refl
+no_fields false false true tilde = refl
+no_fields false false false true = refl
+no_fields false false false false = refl
 
 one_at : (test : Bool) (kind : ℕ) → event_of AnyText (cond test ([] ∷ [] ∷ []) ((kind ∷ []) ∷ [])) ≡ Err BadForm
 one_at true kind = refl
-one_at false kind = no_fields (bytes_eq (kind ∷ []) (codes "+")) (bytes_eq (kind ∷ []) (codes "-")) (bytes_eq (kind ∷ []) (codes "="))
+one_at false kind = no_fields (bytes_eq (kind ∷ []) (codes "+")) (bytes_eq (kind ∷ []) (codes "-")) (bytes_eq (kind ∷ []) (codes "=")) (bytes_eq (kind ∷ []) (codes "~"))
 
 -- a line with fewer than two bytes
 pub short_line : (line : List ℕ) → length line < 2 → event_of AnyText (fields_of line) ≡ Err BadForm
@@ -45,7 +46,7 @@ short_line (kind ∷ next ∷ line) short = absurd (omega arith)
 
 long_at : (test : Bool) (kind next : ℕ) (part : List ℕ) (parts : List (List ℕ)) → event_of AnyText (cond test ([] ∷ (next ∷ part) ∷ parts) ((kind ∷ next ∷ part) ∷ parts)) ≡ Err BadForm
 long_at true kind next part parts = refl
-long_at false kind next part parts = other_kind (kind ∷ next ∷ part) parts (and-false (kind == 43)) (and-false (kind == 45)) (and-false (kind == 61))
+long_at false kind next part parts = other_kind (kind ∷ next ∷ part) parts (and-false (kind == 43)) (and-false (kind == 45)) (and-false (kind == 61)) (and-false (kind == 126))
 
 -- a line whose second byte is no comma
 pub other_second : (line : List ℕ) → get_or line 1 0 ≢ comma → event_of AnyText (fields_of line) ≡ Err BadForm

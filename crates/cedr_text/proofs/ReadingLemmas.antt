@@ -7,6 +7,8 @@ use Rattle.std.specs.Str.Parse.{digits_value}
 use Rattle.std.proofs.lemmas.Bool.{and_parts, le-ltb, lt-ltb, ltb-true, leb-true}
 use Rattle.cedr_base.specs.declared.time.TheConstants.{FOREVER}
 use Rattle.cedr_base.specs.declared.field.Field.{Field}
+use Rattle.cedr_base.specs.declared.row.Row.{Row}
+use Rattle.cedr_base.specs.Rows.{IsRow}
 use Rattle.cedr_base.specs.declared.field.Field.TheVariants.{Bytes}
 use Rattle.cedr_base.specs.declared.field.FieldType.{FieldType}
 use Rattle.cedr_text.specs.declared.event_line.EventLine.{EventLine}
@@ -21,7 +23,7 @@ use Rattle.cedr_text.specs.Faults.{line_fault_number}
 use Rattle.cedr_text.specs.Lines.{has_line_feed}
 use Rattle.cedr_text.specs.Numbers.{is_numeral, whole_number, id_value, begin_value, time_value}
 use Rattle.cedr_text.specs.Quoting.{line_fields, byte_order_mark}
-use Rattle.cedr_text.specs.Reading.{has_return, breaks_form, Reads, field_value, with_field, typed_payload, payload_of, event, inserted, insertion, retracted, retraction, promised, guarantee, event_of, event_from, as_some, reading, IsEvent, SaysEvent}
+use Rattle.cedr_text.specs.Reading.{has_return, breaks_form, Reads, field_value, with_field, typed_payload, payload_of, version, version_by, version_of, inserted_by, revised_by, retracted, retraction, promised, guarantee, event_of, event_from, as_some, reading, IsEvent, SaysEvent}
 
 -- a number is at most the last one
 whole_at : (test : Bool) (last value : ℕ) → (test ≡ true → value ≤ last) → IfSome (cond test (Some value) None) (λ n. n ≤ last)
@@ -91,21 +93,34 @@ payload_fault : (shape : Shape) (texts : List (List ℕ)) → HasShortFault (pay
 payload_fault AnyText texts = few_fault (nat_le (length texts) 16) (Some (map (λ text. Bytes text) texts))
 payload_fault (Fields types) texts = typed_fault types.items texts
 
-event_of_payload : (id begin end : ℕ) (payload : Option (List Field)) → begin < FOREVER → end ≤ FOREVER → begin < end → IsEventIfRead (event id begin end payload)
-event_of_payload id begin end None finite low alive = (omega arith, omega arith)
-event_of_payload id begin end (Some payload) finite low alive = record { lives = alive; begins = finite; ends = low }
+-- what was read is a row with an id, if anything was
+abbrev pub IsRowIfRead : Result (ℕ × Row) LineFault → Type 0
+IsRowIfRead (Ok read) = IsRow read.1
+IsRowIfRead (Err fault) = IsShortFault fault
 
-inserted_at : (test : Bool) (id begin end : ℕ) (payload : Option (List Field)) → nat_lt begin end ≡ test → begin < FOREVER → end ≤ FOREVER → IsEventIfRead (cond test (event id begin end payload) (Err EmptyLife))
-inserted_at true id begin end payload is finite low = event_of_payload id begin end payload finite low (ltb-true begin end is)
-inserted_at false id begin end payload is finite low = (omega arith, omega arith)
+row_of_payload : (id begin end : ℕ) (payload : Option (List Field)) → begin < FOREVER → end ≤ FOREVER → begin < end → IsRowIfRead (version id begin end payload)
+row_of_payload id begin end None finite low alive = (omega arith, omega arith)
+row_of_payload id begin end (Some payload) finite low alive = record { lives = alive; begins = finite; ends = low }
 
--- an insertion has a row
-pub inserted_event : (id begin end : Option ℕ) (payload : Result (Option (List Field)) LineFault) → IfSome begin (λ n. n < FOREVER) → IfSome end (λ n. n ≤ FOREVER) → HasShortFault payload → IsEventIfRead (inserted id begin end payload)
-inserted_event id begin end (Err fault) finite low short = short
-inserted_event (Some id) (Some begin) (Some end) (Ok payload) finite low short = inserted_at (nat_lt begin end) id begin end payload refl finite low
-inserted_event (Some id) (Some begin) None (Ok payload) finite low short = bad_number
-inserted_event (Some id) None end (Ok payload) finite low short = bad_number
-inserted_event None begin end (Ok payload) finite low short = bad_number
+row_at : (test : Bool) (id begin end : ℕ) (payload : Option (List Field)) → nat_lt begin end ≡ test → begin < FOREVER → end ≤ FOREVER → IsRowIfRead (cond test (version id begin end payload) (Err EmptyLife))
+row_at true id begin end payload is finite low = row_of_payload id begin end payload finite low (ltb-true begin end is)
+row_at false id begin end payload is finite low = (omega arith, omega arith)
+
+-- an insertion or a revision has a row
+row_by : (id begin end : Option ℕ) (payload : Result (Option (List Field)) LineFault) → IfSome begin (λ n. n < FOREVER) → IfSome end (λ n. n ≤ FOREVER) → HasShortFault payload → IsRowIfRead (version_by id begin end payload)
+row_by id begin end (Err fault) finite low short = short
+row_by (Some id) (Some begin) (Some end) (Ok payload) finite low short = row_at (nat_lt begin end) id begin end payload refl finite low
+row_by (Some id) (Some begin) None (Ok payload) finite low short = bad_number
+row_by (Some id) None end (Ok payload) finite low short = bad_number
+row_by None begin end (Ok payload) finite low short = bad_number
+
+inserted_event : (read : Result (ℕ × Row) LineFault) → IsRowIfRead read → IsEventIfRead (inserted_by read)
+inserted_event (Ok read) row = row
+inserted_event (Err fault) short = short
+
+revised_event : (read : Result (ℕ × Row) LineFault) → IsRowIfRead read → IsEventIfRead (revised_by read)
+revised_event (Ok read) row = row
+revised_event (Err fault) short = short
 
 -- a retraction's new end is a time
 pub retracted_event : (id end : Option ℕ) → IfSome end (λ n. n ≤ FOREVER) → IsEventIfRead (retracted id end)
@@ -118,11 +133,11 @@ pub promised_event : (time : Option ℕ) → IfSome time (λ n. n ≤ FOREVER) �
 promised_event (Some time) low = low
 promised_event None low = bad_number
 
-insertion_event : (shape : Shape) (fields : List (List ℕ)) → IsEventIfRead (insertion shape fields)
-insertion_event shape [] = bad_form
-insertion_event shape (id ∷ []) = bad_form
-insertion_event shape (id ∷ begin ∷ []) = bad_form
-insertion_event shape (id ∷ begin ∷ end ∷ texts) = inserted_event (id_value id) (begin_value begin) (time_value end) (payload_of shape texts) (begin_finite begin) (time_low end) (payload_fault shape texts)
+version_row : (shape : Shape) (fields : List (List ℕ)) → IsRowIfRead (version_of shape fields)
+version_row shape [] = bad_form
+version_row shape (id ∷ []) = bad_form
+version_row shape (id ∷ begin ∷ []) = bad_form
+version_row shape (id ∷ begin ∷ end ∷ texts) = row_by (id_value id) (begin_value begin) (time_value end) (payload_of shape texts) (begin_finite begin) (time_low end) (payload_fault shape texts)
 
 retraction_event : (fields : List (List ℕ)) → IsEventIfRead (retraction fields)
 retraction_event [] = bad_form
@@ -146,9 +161,14 @@ fields_event shape (kind ∷ fields) =
     let plus = bytes_eq kind (codes "+") in
     let minus = bytes_eq kind (codes "-") in
     let equals = bytes_eq kind (codes "=") in
-    kind_event plus (insertion shape fields) (cond minus (retraction fields) (cond equals (guarantee fields) (Err BadForm))) (insertion_event shape fields)
-    (kind_event minus (retraction fields) (cond equals (guarantee fields) (Err BadForm)) (retraction_event fields)
-    (kind_event equals (guarantee fields) (Err BadForm) (guarantee_event fields) bad_form))
+    let tilde = bytes_eq kind (codes "~") in
+    let read = version_of shape fields in
+    let row = version_row shape fields in
+    let last = cond tilde (revised_by read) (Err BadForm) in
+    kind_event plus (inserted_by read) (cond minus (retraction fields) (cond equals (guarantee fields) last)) (inserted_event read row)
+    (kind_event minus (retraction fields) (cond equals (guarantee fields) last) (retraction_event fields)
+    (kind_event equals (guarantee fields) last (guarantee_event fields)
+    (kind_event tilde (revised_by read) (Err BadForm) (revised_event read row) bad_form)))
 
 -- what a line that isn't too long says
 abbrev SaysShort : Result (Option EventLine) LineFault → Type 0

@@ -12,6 +12,7 @@ use Rattle.cedr_text.specs.declared.fault.ReadLineFault.TheVariants as read_faul
 abbrev pub as_line : EventText → EventLine
 as_line (text.Insert id row) = line.Insert id row
 as_line (text.Retract id end) = line.Retract id end
+as_line (text.Revise id row) = line.Revise id row
 as_line (text.Promise time) = line.Promise time
 
 -- the same of a reading: its event as an event line, or its fault

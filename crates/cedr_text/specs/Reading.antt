@@ -4,13 +4,14 @@ use Rattle.std.specs.List.{list_any, starts_with}
 use Rattle.std.specs.Str.{bytes_eq}
 use Rattle.std.specs.Global.{Global}
 use Rattle.cedr_base.specs.declared.time.TheConstants.{FOREVER}
+use Rattle.cedr_base.specs.declared.row.Row.{Row}
 use Rattle.cedr_base.specs.Rows.{IsRow}
 use Rattle.cedr_base.specs.declared.field.Field.{Field}
 use Rattle.cedr_base.specs.declared.field.Field.TheVariants.{Number, Bytes}
 use Rattle.cedr_base.specs.declared.field.FieldType.{FieldType}
 use Rattle.cedr_base.specs.declared.field.FieldType.TheVariants as types
 use Rattle.cedr_text.specs.declared.event_line.EventLine.{EventLine}
-use Rattle.cedr_text.specs.declared.event_line.EventLine.TheVariants.{Insert, Retract, Promise}
+use Rattle.cedr_text.specs.declared.event_line.EventLine.TheVariants.{Insert, Retract, Revise, Promise}
 use Rattle.cedr_text.specs.declared.event_line.Shape.{Shape}
 use Rattle.cedr_text.specs.declared.event_line.Shape.TheVariants.{AnyText, Fields}
 use Rattle.cedr_text.specs.declared.fault.LineFault.{LineFault}
@@ -50,27 +51,37 @@ typed_payload [] (text ∷ texts) = Err BadForm
 typed_payload (type ∷ types) [] = Err BadForm
 typed_payload (type ∷ types) (text ∷ texts) = with_field (field_value type text) (typed_payload types texts)
 
--- the fields of an insertion: as many as the shape says, or nothing where one isn't in its form
+-- the fields of a payload: as many as the shape says, or nothing where one isn't in its form
 abbrev pub payload_of : Shape → List (List ℕ) → Result (Option (List Field)) LineFault
 payload_of AnyText texts = if nat_le (length texts) 16 then Ok (Some (map (λ text. Bytes text) texts)) else Err BadForm
 payload_of (Fields types) texts = typed_payload types.items texts
 
--- after `+`: an id, a begin, an end and a payload
-abbrev pub event : ℕ → ℕ → ℕ → Option (List Field) → Result EventLine LineFault
-event id begin end None = Err BadField
-event id begin end (Some payload) = Ok (Insert id (record { end = end; begin = begin; payload = payload }))
+-- after `+` or `~`: an id, and a row by its begin, its end and its payload
+abbrev pub version : ℕ → ℕ → ℕ → Option (List Field) → Result (ℕ × Row) LineFault
+version id begin end None = Err BadField
+version id begin end (Some payload) = Ok (id, record { end = end; begin = begin; payload = payload })
 
--- an insertion by its id, times and payload. Which fault counts: one of the payload as a whole, then a number
--- that isn't in form, then an empty interval, then a field that isn't in form
-abbrev pub inserted : Option ℕ → Option ℕ → Option ℕ → Result (Option (List Field)) LineFault → Result EventLine LineFault
-inserted id begin end (Err fault) = Err fault
-inserted (Some id) (Some begin) (Some end) (Ok payload) = if nat_lt begin end then event id begin end payload else Err EmptyLife
-inserted id begin end (Ok payload) = Err BadNumber
+-- an insertion or a revision by its id, times and payload. Which fault counts: one of the payload as a whole, then a
+-- number that isn't in form, then an empty interval, then a field that isn't in form
+abbrev pub version_by : Option ℕ → Option ℕ → Option ℕ → Result (Option (List Field)) LineFault → Result (ℕ × Row) LineFault
+version_by id begin end (Err fault) = Err fault
+version_by (Some id) (Some begin) (Some end) (Ok payload) = if nat_lt begin end then version id begin end payload else Err EmptyLife
+version_by id begin end (Ok payload) = Err BadNumber
 
--- the insertion that the fields after `+` say: three of them, and then those of the payload
-abbrev pub insertion : Shape → List (List ℕ) → Result EventLine LineFault
-insertion shape (id ∷ begin ∷ end ∷ texts) = inserted (id_value id) (begin_value begin) (time_value end) (payload_of shape texts)
-insertion shape fields = Err BadForm
+-- the id and the row that the fields after `+` or `~` say: three of them, and then those of the payload
+abbrev pub version_of : Shape → List (List ℕ) → Result (ℕ × Row) LineFault
+version_of shape (id ∷ begin ∷ end ∷ texts) = version_by (id_value id) (begin_value begin) (time_value end) (payload_of shape texts)
+version_of shape fields = Err BadForm
+
+-- the insertion of an id and a row that were read
+abbrev pub inserted_by : Result (ℕ × Row) LineFault → Result EventLine LineFault
+inserted_by (Ok read) = Ok (Insert read.0 read.1)
+inserted_by (Err fault) = Err fault
+
+-- the revision of an id and a row that were read
+abbrev pub revised_by : Result (ℕ × Row) LineFault → Result EventLine LineFault
+revised_by (Ok read) = Ok (Revise read.0 read.1)
+revised_by (Err fault) = Err fault
 
 -- after `-`: an id and the new end
 abbrev pub retracted : Option ℕ → Option ℕ → Result EventLine LineFault
@@ -106,9 +117,10 @@ promised_by (Err fault) = Err fault
 abbrev pub event_of : Shape → List (List ℕ) → Result EventLine LineFault
 event_of shape [] = Err BadForm
 event_of shape (kind ∷ fields) =
-    if bytes_eq kind (codes "+") then insertion shape fields
+    if bytes_eq kind (codes "+") then inserted_by (version_of shape fields)
     else if bytes_eq kind (codes "-") then retraction fields
     else if bytes_eq kind (codes "=") then guarantee fields
+    else if bytes_eq kind (codes "~") then revised_by (version_of shape fields)
     else Err BadForm
 
 -- what a line says that was read as an event, or its fault
@@ -153,10 +165,11 @@ pushed fields field = None
 
 -- ---- what is read is in range
 
--- an insertion has a row, and no time is above FOREVER
+-- an insertion and a revision have a row, and no time is above FOREVER
 abbrev pub IsEvent : EventLine → Type 0
 IsEvent (Insert id row) = IsRow row
 IsEvent (Retract id end) = end ≤ FOREVER
+IsEvent (Revise id row) = IsRow row
 IsEvent (Promise time) = time ≤ FOREVER
 
 -- what a line says is an event, if it says anything. A fault that a line has by itself is one of the first five

@@ -1,7 +1,7 @@
 ghost use Rattle.std.specs.Prelude.{◌≡◌, length, nat_le, option_map};
 ghost use Rattle.cedr_base.specs.Bytes.{comma};
 ghost use Rattle.cedr_text.specs.Parts.{parts_of, parts_left};
-ghost use Rattle.cedr_text.specs.Reading.{event_of, insertion, retraction, guarantee};
+ghost use Rattle.cedr_text.specs.Reading.{event_of, version_of, retraction, guarantee};
 ghost use Rattle.cedr_text.specs.declared.event_line.Shape.TheVariants.{AnyText};
 ghost use Rattle.cedr_text.specs.EventTexts.{as_reading};
 
@@ -22,16 +22,23 @@ pub(crate) fn read_bare(line: &[u8]) -> Result<EventText<'_>, LineFault>
         return Err(LineFault::BadForm);
     };
     match kind {
-        b'+' => read_bare_insertion(fields),
+        b'+' => {
+            let (id, row) = read_bare_version(fields)?;
+            Ok(EventText::Insert { id, row })
+        }
         b'-' => read_bare_retraction(fields),
         b'=' => read_bare_guarantee(fields),
+        b'~' => {
+            let (id, row) = read_bare_version(fields)?;
+            Ok(EventText::Revise { id, row })
+        }
         _ => Err(LineFault::BadForm),
     }
 }
 
 #[inline(always)]
-fn read_bare_insertion(fields: &[u8]) -> Result<EventText<'_>, LineFault>
-    ensures { as_reading result ≡ insertion AnyText (parts_of comma fields.now) }
+fn read_bare_version(fields: &[u8]) -> Result<(u64, TextRow<'_>), LineFault>
+    ensures { result ≡ version_of AnyText (parts_of comma fields.now) }
 {
     let (id, Some(rest)) = cut_number(fields, u64::MAX) else {
         return Err(LineFault::BadForm);
@@ -55,7 +62,7 @@ fn read_bare_insertion(fields: &[u8]) -> Result<EventText<'_>, LineFault>
         begin,
         payload,
     };
-    Ok(EventText::Insert { id, row })
+    Ok((id, row))
 }
 
 #[inline(always)]

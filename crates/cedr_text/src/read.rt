@@ -5,7 +5,7 @@ ghost use Rattle.cedr_text.specs.declared.fault.LineFault.TheVariants.{LineTooLo
 ghost use Rattle.cedr_text.specs.declared.lines.TheConstants.{LINE_LIMIT};
 ghost use Rattle.cedr_text.specs.EventTexts.{ReadsText};
 ghost use Rattle.cedr_text.specs.Quoting.{has_quote, line_fields};
-ghost use Rattle.cedr_text.specs.Reading.{breaks_form, Reads, reading, event_of, event_from, insertion, retraction, guarantee, retracted_by, promised_by, payload_of, typed_payload, field_value, items_in, pushed, IsEvent, SaysEvent};
+ghost use Rattle.cedr_text.specs.Reading.{breaks_form, Reads, reading, event_of, event_from, inserted_by, revised_by, retraction, guarantee, retracted_by, promised_by, version_of, payload_of, typed_payload, field_value, items_in, pushed, IsEvent, SaysEvent};
 
 use crate::bare::read_bare;
 use crate::event_line::{EventLine, Shape};
@@ -72,7 +72,7 @@ pub fn read_text_line(alloc: Global, line: &[u8]) -> Result<Option<EventText<'_>
     }
 }
 
-/// The law of what lines say: an insertion has a row, no time is above `FOREVER`, and a fault is one of the
+/// The law of what lines say: an insertion and a revision have a row, no time is above `FOREVER`, and a fault is one of the
 /// first five.
 pub fn reading_law()
     ensures { (shape : Shape) (line : List ℕ) → SaysEvent (reading shape line) }
@@ -137,22 +137,30 @@ fn read_event(
     ensures { Reads result (event_of shape.now fields.entry) }
 {
     match fields.next() {
-        Some(b"+") => read_insertion(alloc, fields, shape),
+        Some(b"+") => {
+            let (id, row) = read_version(alloc, fields, shape)?;
+            Ok(EventLine::Insert { id, row })
+        }
         Some(b"-") => {
             let (id, end) = read_retraction(fields)?;
             Ok(EventLine::Retract { id, end })
         }
         Some(b"=") => Ok(EventLine::Promise(read_guarantee(fields)?)),
+        Some(b"~") => {
+            let (id, row) = read_version(alloc, fields, shape)?;
+            Ok(EventLine::Revise { id, row })
+        }
         _ => Err(ReadLineFault::Line(LineFault::BadForm)),
     }
 }
 
-fn read_insertion(
+/// The id and the row of an insertion or a revision.
+fn read_version(
     alloc: Global,
     mut fields: Parts<'_>,
     shape: &Shape,
-) -> Result<EventLine, ReadLineFault>
-    ensures { Reads result (insertion shape.now fields.entry) }
+) -> Result<(u64, Row), ReadLineFault>
+    ensures { Reads result (version_of shape.now fields.entry) }
 {
     let (Some(id), Some(begin), Some(end)) = (fields.next(), fields.next(), fields.next()) else {
         return Err(ReadLineFault::Line(LineFault::BadForm));
@@ -172,10 +180,10 @@ fn read_insertion(
         begin,
         payload,
     };
-    Ok(EventLine::Insert { id, row })
+    Ok((id, row))
 }
 
-/// The fields of an insertion, or nothing where one isn't in its form.
+/// The fields of an insertion's or a revision's payload, or nothing where one isn't in its form.
 fn read_payload(
     alloc: Global,
     fields: Parts<'_>,

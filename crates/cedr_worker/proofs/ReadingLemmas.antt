@@ -1,28 +1,26 @@
 -- What a step of a source's worker answers.
-use Rattle.std.proofs.Common.{◌≡◌, ◌≢◌, ℕ, ◌+◌, ◌<◌, ◌≤◌, ◌⊎◌, inl, inr, Bool, true, false, true≢false, List, [], ◌∷◌, ◌++◌, length, Option, None, Some, Result, Ok, Err, refl, sym, ap, ◌∙◌, subst, append_assoc, append-nil, arith}
-use Rattle.std.specs.Prelude.{nat_lt, IfOk, if◌then◌else◌}
+use Rattle.std.proofs.Common.{◌≡◌, ◌≢◌, ℕ, ◌+◌, ◌<◌, ◌≤◌, ◌⊎◌, inl, inr, Bool, true, false, true≢false, List, [], ◌++◌, length, Option, Some, Result, Ok, Err, Vec, refl, sym, ap, ◌∙◌, subst, append_assoc, append-nil, arith}
+use Rattle.std.specs.Prelude.{nat_lt, IfOk}
+use Rattle.std.specs.Global.{Global}
 use Rattle.std.specs.Io.KnownBytes.{Consumes, Keeps, IsAtEnd}
 use Rattle.std.proofs.KnownBytes.{Consumes-nil, Consumes-kept}
 use Rattle.std.proofs.lemmas.Bool.{ltb-false, le-ltb}
 use Rattle.std.proofs.lemmas.List.{length-append}
 use Rattle.cedr_base.specs.declared.change.Message.{Message}
-use Rattle.cedr_base.specs.declared.change.Message.TheVariants as message
-use Rattle.cedr_text.specs.declared.event_line.EventLine.{EventLine}
-use Rattle.cedr_text.specs.declared.event_line.EventLine.TheVariants.{Insert, Retract, Promise}
+use Rattle.cedr_base.specs.Messages.{IsLegal}
 use Rattle.cedr_text.specs.declared.event_line.Shape.{Shape}
-use Rattle.cedr_base.specs.declared.row.Row.{Row}
 use Rattle.cedr_guard.specs.declared.refusal.Refusal.{Refusal}
 use Rattle.cedr_guard.specs.declared.refusal.TheConstants.{FILE_LIMIT}
-use Rattle.cedr_guard.specs.Judging.{guarantee_of, event_with}
-use Rattle.cedr_guard.specs.Messages.{cut_of, message_of, messages_behind}
+use Rattle.cedr_guard.specs.Messages.{messages_behind}
+use Rattle.cedr_guard.proofs.MessageLemmas.{accepted_messages}
 use Rattle.cedr_guard.specs.Sources.{judged}
 use Rattle.node_laws.specs.Lawful.{is_over}
-use Rattle.cedr_edge.proofs.Lists.{not_over_append}
+use Rattle.node_laws.proofs.Ends.{over_open}
 use Rattle.cedr_source.specs.declared.lines.SourceLines.{SourceLines}
 use Rattle.cedr_source.specs.declared.step.SourceStep.{SourceStep}
 use Rattle.cedr_source.specs.declared.step.SourceStep.TheVariants as step
 use Rattle.cedr_source.specs.Reads.{ReadsSource, is_ended}
-use Rattle.cedr_source.specs.Steps.{IsFrontOf, AnswersStep, TellsLine, IsClosedSource, IsRefused}
+use Rattle.cedr_source.specs.Steps.{IsFrontOf, AnswersStep, IsClosedSource, IsRefused}
 use Rattle.cedr_source.proofs.ReadsLemmas.{gives_front}
 use Rattle.cedr_worker.specs.declared.reading.TheConstants.{BLOCK}
 use Rattle.cedr_worker.specs.declared.stop.SourceStop.{SourceStop}
@@ -30,32 +28,13 @@ use Rattle.cedr_worker.specs.declared.stop.SourceStop.TheVariants as stop
 use Rattle.cedr_worker.specs.Stops.{IsGiven, StoppedAs, CountedSo}
 use Rattle.cedr_worker.specs.SourceSteps.{BlockCame, Advanced, TellsStep, TookStep, stop_of}
 
--- ---- no line's message is a last one
-
-cut_goes : (row : Option Row) (end : ℕ) → is_over (cut_of row end) ≡ false
-cut_goes None end = refl
-cut_goes (Some row) end = refl
-
-mark_goes : (test : Bool) (time : ℕ) → is_over (if test then message.Mark time ∷ [] else []) ≡ false
-mark_goes true time = refl
-mark_goes false time = refl
-
-message_goes : (before : List EventLine) (line : EventLine) → is_over (message_of before line) ≡ false
-message_goes before (Insert id row) = refl
-message_goes before (Retract id end) = cut_goes (event_with id before) end
-message_goes before (Promise time) = mark_goes (nat_lt (guarantee_of before) time) time
-
-messages_go : (before lines : List EventLine) → is_over (messages_behind before lines) ≡ false
-messages_go before [] = refl
-messages_go before (line ∷ lines) = not_over_append (message_of before line) (messages_behind (before ++ line ∷ []) lines) (message_goes before line) (messages_go (before ++ line ∷ []) lines)
-
 -- ---- what was given
 
 -- what was given for the lines that were taken
 pub reads_given : (lines : SourceLines) (shape : Shape) (bytes : List ℕ) (given : List Message) → ReadsSource lines shape bytes given → IsGiven shape bytes given (is_ended lines)
 reads_given lines shape bytes given reads =
     let law = gives_front lines shape bytes given reads in
-    record { front = law.front; legal = law.legal; goes = ap (λ (ms : List Message). is_over ms) reads.messages ∙ messages_go [] reads.good }
+    record { front = law.front; legal = law.legal; goes = ap (λ (ms : List Message). is_over ms) reads.messages ∙ over_open (messages_behind [] reads.good) (accepted_messages reads.good reads.guards.accepted).all.goes_on }
 
 -- it stays so where bytes were read
 pub given_behind : (shape : Shape) (bytes piece : List ℕ) (given : List Message) → IsGiven shape bytes given false → IsGiven shape (bytes ++ piece) given false
@@ -73,11 +52,17 @@ given_still shape bytes given before now same is =
 still : (lines : SourceLines) (shape : Shape) (bytes : List ℕ) (given : List Message) → ReadsSource lines shape bytes given → ReadsSource lines shape (bytes ++ []) given
 still lines shape bytes given reads = subst (λ (all : List ℕ). ReadsSource lines shape all given) (sym (append-nil bytes)) reads
 
+-- nothing more was given, and it is legal
+told_none : (lines : SourceLines) (shape : Shape) (bytes : List ℕ) (given : List Message) (messages : Vec Message Global) → messages.items ≡ [] → ReadsSource lines shape bytes given → TellsStep (Ok messages) lines shape bytes given
+told_none lines shape bytes given messages none reads =
+    let same : given ≡ given ++ messages.items = sym (append-nil given) ∙ ap (λ (ms : List Message). given ++ ms) (sym none) in
+    subst (λ (all : List Message). ReadsSource lines shape bytes all × IsLegal all) same (reads, (gives_front lines shape bytes given reads).legal)
+
 -- ---- a line is taken
 
 -- what is said of a line where the answer is this step
-pub told_as : (lines : SourceLines) (shape : Shape) (bytes : List ℕ) (given : List Message) (said : Option SourceStep) (now s : SourceStep) → said ≡ Some now → now ≡ s → TellsLine said lines shape bytes given → AnswersStep s lines shape bytes given
-told_as lines shape bytes given said now s is is_now tells = subst (λ (t : SourceStep). AnswersStep t lines shape bytes given) is_now (subst (λ (t : Option SourceStep). TellsLine t lines shape bytes given) is tells)
+pub told_as : (lines : SourceLines) (shape : Shape) (bytes : List ℕ) (given added : List Message) (said s : SourceStep) → said ≡ s → AnswersStep said lines shape bytes given added → AnswersStep s lines shape bytes given added
+told_as lines shape bytes given added said s is tells = subst (λ (t : SourceStep). AnswersStep t lines shape bytes given added) is tells
 
 -- what a stop says stays so when no byte was read
 stopped_still : (s : SourceStop) (shape : Shape) (bytes : List ℕ) (given : List Message) (ended : Bool) → StoppedAs s shape bytes given ended → StoppedAs s shape (bytes ++ []) given ended
@@ -99,7 +84,7 @@ block_more bytes piece within few = omega (arith, within, few, length-append byt
 
 module _ (old new : SourceLines) (rest : Option (List ℕ)) (count : ℕ) (shape : Shape) (bytes : List ℕ) (given : List Message) (reads : ReadsSource old shape bytes given) (same : is_ended new ≡ is_ended old) where
   -- a step that reads no byte
-  no_byte : (answer : Result (Option Message) SourceStop) → CountedSo (stop_of answer) count count → TellsStep answer new shape (bytes ++ []) given → TookStep answer old new rest rest count count shape bytes given
+  no_byte : (answer : Result (Vec Message Global) SourceStop) → CountedSo (stop_of answer) count count → TellsStep answer new shape (bytes ++ []) given → TookStep answer old new rest rest count count shape bytes given
   no_byte answer counted tells = record {
     piece = [];
     few = no_more bytes;
@@ -110,21 +95,19 @@ module _ (old new : SourceLines) (rest : Option (List ℕ)) (count : ℕ) (shape
     is_given = given_still shape bytes given (is_ended old) (is_ended new) same (reads_given old shape bytes given reads);
   }
 
-  -- a line without a message
-  pub skipped : TellsLine None new shape bytes given → TookStep (Ok None) old new rest rest count count shape bytes given
-  skipped tells = no_byte (Ok None) refl (still new shape bytes given tells)
-
-  -- a line's message
-  pub gave : (m : Message) → AnswersStep (step.Message m) new shape bytes given → TookStep (Ok (Some m)) old new rest rest count count shape bytes given
-  gave m tells = no_byte (Ok (Some m)) refl (still new shape bytes (given ++ m ∷ []) tells.0, tells.1)
+  -- a line's messages
+  pub gave : (messages : Vec Message Global) (added : List Message) → messages.items ≡ added → AnswersStep step.Line new shape bytes given added → TookStep (Ok messages) old new rest rest count count shape bytes given
+  gave messages added is tells =
+      no_byte (Ok messages) refl
+      (subst (λ (ms : List Message). ReadsSource new shape (bytes ++ []) (given ++ ms) × IsLegal (given ++ ms)) (sym is) (still new shape bytes (given ++ added) tells.0, tells.1))
 
   -- no line is left, and none comes
-  pub closed : AnswersStep step.Closed new shape bytes given → TookStep (Err stop.Closed) old new rest rest count count shape bytes given
-  closed tells = no_byte (Err stop.Closed) refl (stopped_still stop.Closed shape bytes given (is_ended new) (closed_as new shape bytes given tells.1))
+  pub closed : (added : List Message) → AnswersStep step.Closed new shape bytes given added → TookStep (Err stop.Closed) old new rest rest count count shape bytes given
+  closed added tells = no_byte (Err stop.Closed) refl (stopped_still stop.Closed shape bytes given (is_ended new) (closed_as new shape bytes given tells.1))
 
   -- a line with a fault
-  pub refused : (refusal : Refusal) → AnswersStep (step.Refused refusal) new shape bytes given → TookStep (Err (stop.Refused refusal.line refusal.fault)) old new rest rest count count shape bytes given
-  refused refusal tells =
+  pub refused : (refusal : Refusal) (added : List Message) → AnswersStep (step.Refused refusal) new shape bytes given added → TookStep (Err (stop.Refused refusal.line refusal.fault)) old new rest rest count count shape bytes given
+  refused refusal added tells =
       let s = stop.Refused refusal.line refusal.fault in
       no_byte (Err s) refl (stopped_still s shape bytes given (is_ended new) (refused_as new shape bytes given refusal tells))
 
@@ -148,15 +131,15 @@ read_failed lines rest left count now shape bytes given reads goes_on keeps coun
 }
 
 -- a read that gave 0
-pub end_met : (old new : SourceLines) (rest left : Option (List ℕ)) (count now : ℕ) (shape : Shape) (bytes : List ℕ) (given : List Message) → ReadsSource new shape bytes given → is_ended new ≡ true → Consumes rest left [] → IsAtEnd left → now ≡ count
-    → TookStep (Ok None) old new rest left count now shape bytes given
-end_met old new rest left count now shape bytes given reads ended consumed at counted = record {
+pub end_met : (old new : SourceLines) (messages : Vec Message Global) (rest left : Option (List ℕ)) (count now : ℕ) (shape : Shape) (bytes : List ℕ) (given : List Message) → messages.items ≡ [] → ReadsSource new shape bytes given → is_ended new ≡ true → Consumes rest left [] → IsAtEnd left → now ≡ count
+    → TookStep (Ok messages) old new rest left count now shape bytes given
+end_met old new messages rest left count now shape bytes given none reads ended consumed at counted = record {
   piece = [];
   few = no_more bytes;
   read = consumed;
   at_end = λ _ _. at;
   counted = counted;
-  tells = still new shape bytes given reads;
+  tells = told_none new shape (bytes ++ []) given messages none (still new shape bytes given reads);
   is_given = given_still shape bytes given (is_ended new) (is_ended new) refl (reads_given new shape bytes given reads);
 }
 
@@ -175,15 +158,15 @@ room_falls old new shape bytes piece given reads more within some true over = in
 room_falls old new shape bytes piece given reads more within some false over = inl (omega (arith, reads.room, more.room, some, ltb-false FILE_LIMIT (length (bytes ++ piece)) over, length-append bytes piece))
 
 -- a block that was fed
-pub block_read : (old new : SourceLines) (rest left : Option (List ℕ)) (count now : ℕ) (shape : Shape) (bytes piece : List ℕ) (given : List Message) → ReadsSource new shape (bytes ++ piece) given → is_ended new ≡ false → length bytes ≤ FILE_LIMIT → length piece ≤ BLOCK → Consumes rest left piece → now ≡ count
-    → TookStep (Ok None) old new rest left count now shape bytes given
-block_read old new rest left count now shape bytes piece given more goes_on within few consumed counted = record {
+pub block_read : (old new : SourceLines) (messages : Vec Message Global) (rest left : Option (List ℕ)) (count now : ℕ) (shape : Shape) (bytes piece : List ℕ) (given : List Message) → messages.items ≡ [] → ReadsSource new shape (bytes ++ piece) given → is_ended new ≡ false → length bytes ≤ FILE_LIMIT → length piece ≤ BLOCK → Consumes rest left piece → now ≡ count
+    → TookStep (Ok messages) old new rest left count now shape bytes given
+block_read old new messages rest left count now shape bytes piece given none more goes_on within few consumed counted = record {
   piece = piece;
   few = λ _. block_more bytes piece within few;
   read = consumed;
   at_end = λ at ended. absurd (true≢false (sym ended ∙ goes_on));
   counted = counted;
-  tells = more;
+  tells = told_none new shape (bytes ++ piece) given messages none more;
   is_given = reads_given new shape (bytes ++ piece) given more;
 }
 
@@ -209,7 +192,7 @@ block_lost old new rest left count now shape bytes piece given reads went_on goe
 -- ---- after the last line that was there
 
 -- where no line was left before it, a step is one of the lines that were there
-pub step_behind : (answer : Result (Option Message) SourceStop) (old mid new : SourceLines) (rest left : Option (List ℕ)) (count now : ℕ) (shape : Shape) (bytes : List ℕ) (given : List Message) → is_ended mid ≡ is_ended old
+pub step_behind : (answer : Result (Vec Message Global) SourceStop) (old mid new : SourceLines) (rest left : Option (List ℕ)) (count now : ℕ) (shape : Shape) (bytes : List ℕ) (given : List Message) → is_ended mid ≡ is_ended old
     → TookStep answer mid new rest left count now shape bytes given → TookStep answer old new rest left count now shape bytes given
 step_behind answer old mid new rest left count now shape bytes given same took = record {
   piece = took.piece;
@@ -231,7 +214,7 @@ came_behind old mid new rest left shape bytes given reads more same (inl read) =
 came_behind old mid new rest left shape bytes given reads more same (inr met) = inr (sym same ∙ met.0, met.1)
 
 -- and so is the block that came
-pub advanced_behind : (answer : Result (Option Message) SourceStop) (old mid new : SourceLines) (rest left : Option (List ℕ)) (shape : Shape) (bytes : List ℕ) (given : List Message) → ReadsSource old shape bytes given → ReadsSource mid shape bytes given → is_ended mid ≡ is_ended old
+pub advanced_behind : (answer : Result (Vec Message Global) SourceStop) (old mid new : SourceLines) (rest left : Option (List ℕ)) (shape : Shape) (bytes : List ℕ) (given : List Message) → ReadsSource old shape bytes given → ReadsSource mid shape bytes given → is_ended mid ≡ is_ended old
     → IfOk answer (λ _. BlockCame rest left mid new) → IfOk answer (λ _. Advanced rest left old new)
 advanced_behind (Ok m) old mid new rest left shape bytes given reads more same came = inr (came_behind old mid new rest left shape bytes given reads more same came)
 advanced_behind (Err s) old mid new rest left shape bytes given reads more same came = tt

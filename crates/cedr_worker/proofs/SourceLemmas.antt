@@ -1,6 +1,7 @@
 -- A worker that reads a source keeps its record.
-use Rattle.std.proofs.Common.{◌≡◌, ℕ, ◌+◌, ◌<◌, ◌≤◌, ◌⊎◌, inl, inr, Bool, true, false, true≢false, not, ◌&&◌, ◌||◌, List, [], ◌∷◌, ◌++◌, length, map, get_or, Option, None, Some, Result, Ok, Err, refl, sym, ap, ◌∙◌, subst, arith}
+use Rattle.std.proofs.Common.{◌≡◌, ℕ, ◌+◌, ◌<◌, ◌≤◌, ◌⊎◌, inl, inr, Bool, true, false, true≢false, not, ◌&&◌, ◌||◌, List, [], ◌∷◌, ◌++◌, length, map, get_or, Option, None, Some, Result, Ok, Err, Vec, refl, sym, ap, ◌∙◌, subst, arith}
 use Rattle.std.specs.Prelude.{IfOk, IsSome, is_none, is_some}
+use Rattle.std.specs.Global.{Global}
 use Rattle.std.specs.Io.KnownBytes.{Consumes, IsAtEnd}
 use Rattle.std.proofs.KnownBytes.{Consumes-nil, Consumes-trans}
 use Rattle.cedr_base.specs.declared.change.Message.{Message}
@@ -111,17 +112,13 @@ module _ {S : Type 0} (rest : S → Option (List ℕ)) (faults : S → ℕ) (sha
     going_count : faults old.source ≡ count
     going_count = subst (λ (s : Option SourceStop). CountedSo s count (faults old.source)) none works.counted
 
-    step_stands : (answer : Result (Option Message) SourceStop) (took : TookStep answer old.lines now.lines (rest old.source) (rest now.source) (faults old.source) (faults now.source) shape works.bytes works.given)
+    step_stands : (answer : Result (Vec Message Global) SourceStop) (took : TookStep answer old.lines now.lines (rest old.source) (rest now.source) (faults old.source) (faults now.source) shape works.bytes works.given)
         → Passed answer now.stop works.given now.outlets → 0 < length now.outlets → length now.block.items ≡ BLOCK → SourceWorks rest faults shape content count now
-    step_stands (Ok None) took passed some room =
+    step_stands (Ok messages) took (inl passed) some room =
         let bytes = works.bytes ++ took.piece in
-        stands now None bytes works.given (took.few works.few) passed.0 (Consumes-trans _ _ _ works.bytes took.piece works.read took.read) (took.at_end works.at_end) took.is_given
-        (λ _. (took.tells, passed.2)) passed.1 tt (took.counted ∙ going_count) some room
-    step_stands (Ok (Some m)) took (inl passed) some room =
-        let bytes = works.bytes ++ took.piece in
-        stands now None bytes (works.given ++ m ∷ []) (took.few works.few) passed.0 (Consumes-trans _ _ _ works.bytes took.piece works.read took.read) (took.at_end works.at_end) (reads_given now.lines shape bytes (works.given ++ m ∷ []) took.tells.0)
+        stands now None bytes (works.given ++ messages.items) (took.few works.few) passed.0 (Consumes-trans _ _ _ works.bytes took.piece works.read took.read) (took.at_end works.at_end) (reads_given now.lines shape bytes (works.given ++ messages.items) took.tells.0)
         (λ _. (took.tells.0, passed.2)) passed.1 tt (took.counted ∙ going_count) some room
-    step_stands (Ok (Some m)) took (inr passed) some room =
+    step_stands (Ok messages) took (inr passed) some room =
         let bytes = works.bytes ++ took.piece in
         stands now (Some stop.OutOfMemory) bytes works.given (took.few works.few) passed.0 (Consumes-trans _ _ _ works.bytes took.piece works.read took.read) (took.at_end works.at_end) took.is_given
         (λ e. absurd (some_none e)) passed.1 tt (took.counted ∙ going_count) some room where
@@ -135,7 +132,7 @@ module _ {S : Type 0} (rest : S → Option (List ℕ)) (faults : S → ℕ) (sha
           some_none e = cc
 
     -- a step, and what becomes of its answer
-    pub step_works : (answer : Result (Option Message) SourceStop)
+    pub step_works : (answer : Result (Vec Message Global) SourceStop)
         → ((shape : Shape) (bytes : List ℕ) (given : List Message) → ReadsSource old.lines shape bytes given → TookStep answer old.lines now.lines (rest old.source) (rest now.source) (faults old.source) (faults now.source) shape bytes given)
         → ((given : List Message) → AllTotal given old.outlets → AllStaged [] old.outlets → Passed answer now.stop given now.outlets) → length now.outlets ≡ length old.outlets → length now.block.items ≡ length old.block.items → SourceWorks rest faults shape content count now
     step_works answer took passed edges block =
@@ -143,13 +140,12 @@ module _ {S : Type 0} (rest : S → Option (List ℕ)) (faults : S → ℕ) (sha
         step_stands answer (took shape works.bytes works.given goes.0) (passed works.given going_total goes.1) (omega (arith, works.some_edge, edges)) (block ∙ works.room)
 
 -- what a step gives may be passed on
-pub may_pass : (answer : Result (Option Message) SourceStop) (old new : SourceLines) (rest left : Option (List ℕ)) (faults now : ℕ) (shape : Shape) (bytes : List ℕ) (given : List Message) → TookStep answer old new rest left faults now shape bytes given → MayPass answer given
-may_pass (Ok None) old new rest left faults now shape bytes given took = tt
-may_pass (Ok (Some m)) old new rest left faults now shape bytes given took = took.tells.1
+pub may_pass : (answer : Result (Vec Message Global) SourceStop) (old new : SourceLines) (rest left : Option (List ℕ)) (faults now : ℕ) (shape : Shape) (bytes : List ℕ) (given : List Message) → TookStep answer old new rest left faults now shape bytes given → MayPass answer given
+may_pass (Ok messages) old new rest left faults now shape bytes given took = took.tells.1
 may_pass (Err s) old new rest left faults now shape bytes given took = tt
 
 -- a step that was taken changed something
-pub step_seen : {S : Type 0} (rest : S → Option (List ℕ)) (old now : SourceWorker S) (answer : Result (Option Message) SourceStop) (given : List Message) → old.stop ≡ None → IfOk answer (λ _. Advanced (rest old.source) (rest now.source) old.lines now.lines) → Passed answer now.stop given now.outlets
+pub step_seen : {S : Type 0} (rest : S → Option (List ℕ)) (old now : SourceWorker S) (answer : Result (Vec Message Global) SourceStop) (given : List Message) → old.stop ≡ None → IfOk answer (λ _. Advanced (rest old.source) (rest now.source) old.lines now.lines) → Passed answer now.stop given now.outlets
     → Stepped rest old now
 step_seen rest old now (Ok m) given none advanced passed = inl advanced
 step_seen rest old now (Err s) given none advanced passed = inr (none, subst IsSome (sym passed.0) refl)

@@ -1,5 +1,6 @@
 -- A step of a source's worker: the next line of what was read, or the next block.
-use Rattle.std.specs.Prelude.{ℕ, ◌≡◌, ◌≢◌, ◌<◌, ◌≤◌, ◌+◌, ◌⊎◌, length, true, false, List, [], ◌∷◌, ◌++◌, Option, None, Some, Result, Ok, Err}
+use Rattle.std.specs.Prelude.{ℕ, ◌≡◌, ◌≢◌, ◌<◌, ◌≤◌, ◌+◌, ◌⊎◌, length, true, false, List, [], ◌∷◌, ◌++◌, Option, None, Some, Result, Ok, Err, Vec}
+use Rattle.std.specs.Global.{Global}
 use Rattle.std.specs.Io.KnownBytes.{Consumes, IsAtEnd}
 use Rattle.cedr_base.specs.declared.change.Message.{Message}
 use Rattle.cedr_base.specs.declared.change.Message.TheVariants as message
@@ -44,20 +45,19 @@ Advanced rest left old new = LineTaken old new ⊎ BlockCame rest left old new
 -- ---- what a step answers
 
 -- why the source stopped, by a step's answer, where it did
-abbrev pub stop_of : Result (Option Message) SourceStop → Option SourceStop
-stop_of (Ok message) = None
+abbrev pub stop_of : Result (Vec Message Global) SourceStop → Option SourceStop
+stop_of (Ok messages) = None
 stop_of (Err s) = Some s
 
--- a message, nothing, or that the source stopped
-abbrev pub TellsStep : Result (Option Message) SourceStop → SourceLines → Shape → List ℕ → List Message → Type 0
-TellsStep (Ok (Some m)) lines shape bytes given = ReadsSource lines shape bytes (given ++ m ∷ []) × IsLegal (given ++ m ∷ [])
-TellsStep (Ok None) lines shape bytes given = ReadsSource lines shape bytes given
+-- the messages that the source gave, if any, or that it stopped
+abbrev pub TellsStep : Result (Vec Message Global) SourceStop → SourceLines → Shape → List ℕ → List Message → Type 0
+TellsStep (Ok messages) lines shape bytes given = ReadsSource lines shape bytes (given ++ messages.items) × IsLegal (given ++ messages.items)
 TellsStep (Err s) lines shape bytes given = StoppedAs s shape bytes given (is_ended lines)
 
 -- What a step did, where these bytes were read and these messages given before it: from what was left of the source to
 -- what is left, and from the count of its faults to what that is now. Where at most a block more was read than a source may have, that
 -- is so still.
-pub record TookStep (answer : Result (Option Message) SourceStop) (old new : SourceLines) (rest left : Option (List ℕ)) (faults count : ℕ) (shape : Shape) (bytes : List ℕ) (given : List Message) : Type 0 where
+pub record TookStep (answer : Result (Vec Message Global) SourceStop) (old new : SourceLines) (rest left : Option (List ℕ)) (faults count : ℕ) (shape : Shape) (bytes : List ℕ) (given : List Message) : Type 0 where
   pub piece : List ℕ
   pub few : length bytes ≤ FILE_LIMIT + BLOCK → length (bytes ++ piece) ≤ FILE_LIMIT + BLOCK
   pub read : Consumes rest left piece
@@ -68,15 +68,13 @@ pub record TookStep (answer : Result (Option Message) SourceStop) (old new : Sou
 
 -- ---- what becomes of the answer
 
--- a message may come after what was given
-abbrev pub MayPass : Result (Option Message) SourceStop → List Message → Type 0
-MayPass (Ok (Some m)) given = IsLegal (given ++ m ∷ [])
-MayPass (Ok None) given = Unit {0}
+-- the messages may come after what was given
+abbrev pub MayPass : Result (Vec Message Global) SourceStop → List Message → Type 0
+MayPass (Ok messages) given = IsLegal (given ++ messages.items)
 MayPass (Err s) given = Unit {0}
 
--- Where there was memory for the message, it is meant for each out edge. Where there was none, or the source stops, the
--- last message is. The answer says whether the source stops.
-abbrev pub Passed : Result (Option Message) SourceStop → Option SourceStop → List Message → List Outgoing → Type 0
-Passed (Ok None) now given outlets = (now ≡ None) × AllTotal given outlets × AllStaged [] outlets
-Passed (Ok (Some m)) now given outlets = ((now ≡ None) × AllTotal (given ++ m ∷ []) outlets × AllStaged [] outlets) ⊎ ((now ≡ Some stop.OutOfMemory) × AllTotal (given ++ message.Broken ∷ []) outlets)
+-- Where there was memory for the messages, they are meant for each out edge. Where there was none, or the source stops,
+-- the last message is. The answer says whether the source stops.
+abbrev pub Passed : Result (Vec Message Global) SourceStop → Option SourceStop → List Message → List Outgoing → Type 0
+Passed (Ok messages) now given outlets = ((now ≡ None) × AllTotal (given ++ messages.items) outlets × AllStaged [] outlets) ⊎ ((now ≡ Some stop.OutOfMemory) × AllTotal (given ++ message.Broken ∷ []) outlets)
 Passed (Err s) now given outlets = (now ≡ Some s) × AllTotal (given ++ last_message (last_at s) ∷ []) outlets

@@ -136,7 +136,12 @@ impl<S: Source + Drop> SourceWorker<S> {
         ensures bare { map bare self.new.outlets ≡ map bare self.old.outlets }
         ensures stepped { Stepped S.rest self.old self.new }
     {
-        let answer = take_step(&mut self.source, &mut self.lines, &mut self.block);
+        let answer = take_step(
+            self.alloc,
+            &mut self.source,
+            &mut self.lines,
+            &mut self.block,
+        );
         self.stop = give_answer(self.alloc, &mut self.outlets, answer);
     }
 

@@ -67,7 +67,7 @@ fn tell_fault(rt: &impl Print, fault: LineFault) -> Result<()> {
     Ok(())
 }
 
-/// The id and the row of an insertion, the id and the end of a retraction, or the time of a guarantee.
+/// The id and the row of an insertion or a revision, the id and the end of a retraction, or the time of a guarantee.
 fn event_text(alloc: Global, event: Option<&EventText<'_>>) -> Result<Vec<u8>, OutOfMemory> {
     let mut out = Vec::new(alloc);
     match event {
@@ -80,6 +80,11 @@ fn event_text(alloc: Global, event: Option<&EventText<'_>>) -> Result<Vec<u8>, O
         Some(EventText::Retract { id, end }) => {
             write_number(*id, &mut out)?;
             put_time(b" ends at ", *end, &mut out)?;
+        }
+        Some(EventText::Revise { id, row }) => {
+            write_number(*id, &mut out)?;
+            out.extend_from_slice(b" is now ")?;
+            write_text_rows(slice::from_ref(row), &mut out)?;
         }
         Some(EventText::Promise(time)) => put_time(b"from ", *time, &mut out)?,
     }

@@ -1,5 +1,5 @@
 use crate::bytes::{bytes, shown};
-use crate::source::put_message;
+use crate::source::put_messages;
 use anyhow::{Result, bail};
 use cedr_base::{Interval, Message, OutOfMemory};
 use cedr_guard::{Guard, GuardFault, Judge};
@@ -7,30 +7,42 @@ use cedr_source::judge_line;
 use cedr_text::{EventLine, LineFault, Shape, read_line};
 use std::alloc::{AllocError, Global};
 
-/// Judges lines one after the other, and writes the message or the fault of each, and the mark after it.
+/// Judges lines one after the other, and writes the messages or the fault of each, and the mark after it.
 pub(crate) fn guard(rt: &impl Print, alloc: Global, lines: &[&str]) -> Result<()> {
     let mut guard = Guard::new(alloc);
     for line in lines {
         let line = bytes(alloc, line)?;
-        let judged = judge_line(alloc, &mut guard, &Shape::AnyText, line.as_slice());
-        println!(rt; "  {}, mark {}", judged_text(alloc, judged)?, guard.mark())?;
+        let mut messages = Vec::new(alloc);
+        let judged = judge_line(
+            alloc,
+            &mut guard,
+            &Shape::AnyText,
+            line.as_slice(),
+            &mut messages,
+        );
+        let text = judged_text(alloc, judged, messages.as_slice())?;
+        println!(rt; "  {text}, mark {}", guard.mark())?;
     }
     Ok(())
 }
 
-/// The message, or the fault.
-fn judged_text(alloc: Global, judged: Result<Option<Message>, GuardFault>) -> Result<String> {
+/// The messages, or the fault.
+fn judged_text(
+    alloc: Global,
+    judged: Result<(), GuardFault>,
+    messages: &[Message],
+) -> Result<String> {
     match judged {
-        Ok(Some(message)) => Ok(message_text(alloc, &message)?),
-        Ok(None) => Ok(String::from_str(alloc, "no message")?),
+        Ok(()) if messages.is_empty() => Ok(String::from_str(alloc, "no message")?),
+        Ok(()) => Ok(messages_text(alloc, messages)?),
         Err(GuardFault::Line(fault)) => Ok(fault_text(alloc, fault)?),
         Err(GuardFault::OutOfMemory) => bail!("out of memory"),
     }
 }
 
-fn message_text(alloc: Global, message: &Message) -> Result<String, OutOfMemory> {
+fn messages_text(alloc: Global, messages: &[Message]) -> Result<String, OutOfMemory> {
     let mut text = Vec::new(alloc);
-    put_message(message, &mut text)?;
+    put_messages(messages, &mut text)?;
     Ok(shown(alloc, text.as_slice())?)
 }
 
@@ -59,6 +71,10 @@ fn judge_event(alloc: Global, judge: &mut Judge, line: &[u8]) -> Result<bool, Gu
         }
         Some(EventLine::Retract { id, end }) => {
             judge.retract(id, end)?;
+            Ok(true)
+        }
+        Some(EventLine::Revise { id, row }) => {
+            judge.revise(id, row.begin, row.end)?;
             Ok(true)
         }
         Some(EventLine::Promise(time)) => Ok(judge.promise(time)),

@@ -7,14 +7,15 @@
 //!
 //! - `read SHAPE LINE`: what an event line says, or its fault. The shape is `any` for fields that are texts, `bare` for the
 //!   same where they stay in the line, or the types of the fields, as `int,text`.
-//! - `guard LINE..`: the lines are judged one after the other, each with its message or its fault, and the mark after it.
+//! - `guard LINE..`: the lines are judged one after the other, each with its messages or its fault, and the mark after it.
+//!   Where a line has two messages, `&` stands before the second one.
 //! - `judge LINE..`: the same by ids and times alone, and then the valid intervals that all of them leave.
 //! - `cut PIECE..`: bytes in pieces are cut into lines. After each piece and at the end all lines that there are are taken:
 //!   each stands in brackets, `?` says that more is needed, and a dot that all were taken.
 //! - `source SHAPE ASKS LAST PIECE..`: a source is fed with the pieces. It is asked so often after each piece, and so often
 //!   after the end, which doesn't come where that is 0. Each time it gives all messages that there are, and then `?`
 //!   where more is needed, `closed`, or the line and the fault. `\*COUNT*PIECE` is a piece that comes so often.
-//! - `memory SHAPE BYTES`: a source in memory is read whole, and gives the message of each line that isn't empty, or an
+//! - `memory SHAPE BYTES`: a source in memory is read whole, and gives the messages of each line that isn't empty, or an
 //!   underscore where that line has none. `file SHAPE PIECE REFUSED BYTES` has reads of at most so many bytes, of which the
 //!   one of this number is refused.
 //! - `rows FRONT ROW..`: the rows are written behind these bytes. `changes FRONT CHANGE..` does so with changes, and

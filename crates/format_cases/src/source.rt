@@ -7,7 +7,7 @@ use anyhow::{Result, bail};
 use cedr_base::{Message, OutOfMemory};
 use cedr_guard::Refusal;
 use cedr_io::{Files, MemFiles, MemSource, Source};
-use cedr_source::{SourceLines, SourceStep, Unread, read_by_line};
+use cedr_source::{Entries, SourceLines, SourceStep, Unread, read_by_line};
 use cedr_text::{write_change, write_number, write_time};
 use std::alloc::Global;
 
@@ -79,8 +79,9 @@ fn take_messages(lines: &mut SourceLines, text: &mut Vec<u8>) -> Result<(), OutO
     ensures { is_ended lines.new ≡ is_ended lines.old }
 {
     for _ in 0..u64::MAX {
-        match lines.next()? {
-            SourceStep::Message(message) => put_message(&message, text)?,
+        let mut messages = Vec::new(*text.allocator());
+        match lines.take_line(&mut messages)? {
+            SourceStep::Line => put_messages(messages.as_slice(), text)?,
             SourceStep::NotYet => {
                 text.push(b'?')?;
                 break;
@@ -105,8 +106,21 @@ fn put_refusal(refusal: &Refusal, text: &mut Vec<u8>) -> Result<(), OutOfMemory>
     write_number(refusal.fault.number(), text)
 }
 
+/// Appends the messages of a line, with `&` before each but the first.
+pub(crate) fn put_messages(messages: &[Message], text: &mut Vec<u8>) -> Result<(), OutOfMemory> {
+    let mut first = true;
+    for message in messages {
+        if !first {
+            text.push(b'&')?;
+        }
+        put_message(message, text)?;
+        first = false;
+    }
+    Ok(())
+}
+
 /// Appends a change as its line, a guarantee as `=` and its time, and the end as a dot.
-pub(crate) fn put_message(message: &Message, text: &mut Vec<u8>) -> Result<(), OutOfMemory> {
+fn put_message(message: &Message, text: &mut Vec<u8>) -> Result<(), OutOfMemory> {
     match message {
         Message::Change(change) => return write_change(change, text),
         Message::Mark(time) => {
@@ -155,9 +169,9 @@ fn read_whole<S: Source>(
     source: &mut S,
 ) -> Result<()> {
     match read_by_line(alloc, shape_of(alloc, shape)?, source) {
-        Ok(entries) => {
+        Ok(mut entries) => {
             let mut text = Vec::new(alloc);
-            put_entries(entries.as_slice(), &mut text)?;
+            put_entries(alloc, &mut entries, &mut text)?;
             tell(rt, alloc, text.as_slice())
         }
         Err(Unread::Refused(refusal)) => tell_refusal(rt, &refusal),
@@ -169,13 +183,20 @@ fn read_whole<S: Source>(
     }
 }
 
-/// Appends the message of each line, and an underscore for a line that has none.
-fn put_entries(entries: &[Option<Message>], text: &mut Vec<u8>) -> Result<(), OutOfMemory> {
-    for entry in entries {
-        match entry {
-            Some(message) => put_message(message, text)?,
-            None => text.push(b'_')?,
+/// Appends the messages of each line, and an underscore for a line that has none.
+fn put_entries(
+    alloc: Global,
+    entries: &mut Entries,
+    text: &mut Vec<u8>,
+) -> Result<(), OutOfMemory> {
+    for _ in 0..u64::MAX {
+        let Some(messages) = entries.pop(alloc)? else {
+            break;
+        };
+        if messages.is_empty() {
+            text.push(b'_')?;
         }
+        put_messages(messages.as_slice(), text)?;
     }
     Ok(())
 }

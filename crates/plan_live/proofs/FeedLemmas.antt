@@ -1,5 +1,5 @@
 -- A network to which the messages of accepted lines are fed.
-use Rattle.std.proofs.Common.{◌≡◌, ◌≢◌, ◌⊎◌, inl, inr, ℕ, zero, suc, ◌<◌, List, [], ◌∷◌, ◌++◌, length, set, get_or, Result, Err, refl, ap, sym, ◌∙◌, subst, arith, append-nil, get_or-set_same, get_or-set_other}
+use Rattle.std.proofs.Common.{◌≡◌, ◌≢◌, ◌⊎◌, inl, inr, ℕ, zero, suc, ◌<◌, List, [], ◌∷◌, ◌++◌, length, set, get_or, Result, Err, refl, ap, sym, ◌∙◌, subst, arith, get_or-set_same, get_or-set_other}
 use Rattle.std.specs.Prelude.{map, replicate}
 use Rattle.std.proofs.lemmas.List.{length-set}
 use Rattle.cedr_base.specs.declared.change.Message.{Message}
@@ -17,7 +17,7 @@ use Rattle.cedr_net.specs.Flows.{IsSourceAt, reads_of}
 use Rattle.cedr_net.specs.Networks.{NetStands, HasSettled, waiting_at}
 use Rattle.cedr_net.proofs.FlowLemmas.{same_or_not}
 use Rattle.node_laws.proofs.ListLemmas.{at_more_other, at_more}
-use Rattle.cedr_net.proofs.SettleLemmas.{grow_none, grow_along, grow_more}
+use Rattle.cedr_net.proofs.SettleLemmas.{grow_along, grow_more}
 use Rattle.cedr_plan.specs.declared.plan.PlanNode.{PlanNode}
 use Rattle.plan_runs.specs.Runs.{lists_at}
 use Rattle.cedr_source.specs.Steps.{JudgesLine}
@@ -30,40 +30,24 @@ use Rattle.cedr_net.proofs.NewLemmas.{no_list}
 
 -- ---- one source gave more
 
--- where there is no message all is as before
-at_none : (given : Lists) (place k : ℕ) → place < length given → list_at (with_more given place []) k ≡ list_at given k
-at_none given place k within = at (same_or_not k place) where
-  at : (k ≡ place) ⊎ (k ≢ place) → list_at (with_more given place []) k ≡ list_at given k
-  at (inl e) = ap (list_at (with_more given place [])) e ∙ (at_more given place [] within ∙ (append-nil (list_at given place) ∙ ap (list_at given) (sym e)))
-  at (inr ne) = at_more_other given place k [] ne
-
 -- a settled network has a list for each node of what it gave
 pub given_count : (nodes : List PlanNode) (net : SerialNet) (given : Lists) → IsSettledNet nodes net given → length given ≡ length nodes
 given_count nodes net given s = s.stands.stands.flows.given_count
 
--- a network that was fed nothing
-pub fed_none : (nodes : List PlanNode) (net : SerialNet) (given : Lists) (place : ℕ) → IsSettledNet nodes net given → place < length nodes → IsFedOn nodes net given place []
-fed_none nodes net given place s within = record {
-  given' = given;
-  settled = s;
-  sources = λ k source. sym (at_none given place k (omega (arith, given_count nodes net given s, within)));
-  grow = grow_none given;
-}
-
--- one that was fed a message and settled
-pub fed_settled : (nodes : List PlanNode) (net : SerialNet) (taken : List Lists) (given : Lists) (place : ℕ) (m : Message) → length given ≡ length nodes → place < length nodes → HasSettled nodes net taken (with_more given place (m ∷ [])) → IsFedOn nodes net given place (m ∷ [])
-fed_settled nodes net taken given place m count within s = record {
+-- a network that was fed messages and settled
+pub fed_settled : (nodes : List PlanNode) (net : SerialNet) (taken : List Lists) (given : Lists) (place : ℕ) (ms : List Message) → length given ≡ length nodes → place < length nodes → HasSettled nodes net taken (with_more given place ms) → IsFedOn nodes net given place ms
+fed_settled nodes net taken given place ms count within s = record {
   given' = s.given';
   settled = record { ports = s.ports; stands = s.stands; empty = s.empty };
   sources = s.sources;
-  grow = grow_along given (with_more given place (m ∷ [])) s.given' (grow_more given place (m ∷ []) (omega (arith, count, within))) s.grow;
+  grow = grow_along given (with_more given place ms) s.given' (grow_more given place ms (omega (arith, count, within))) s.grow;
 }
 
 -- ---- a line was accepted
 
 -- a fault of the line
 pub fault_passes : (fault : GuardFault) (nodes : List PlanNode) (player : Player) (shown : Lists) (guard : Guard) (before : Accepted) (place : ℕ) (now : Result (List EventLine) LineFault)
-    → JudgesLine (Err fault) guard (lines_at before place) now → PlaysLine (Err fault) nodes player shown (with_lines before place now)
+    → JudgesLine (Err fault) guard (lines_at before place) now [] [] → PlaysLine (Err fault) nodes player shown (with_lines before place now)
 fault_passes (guard_fault.Line fault) nodes player shown guard before place now h = ap (with_lines before place) h
 fault_passes guard_fault.OutOfMemory nodes player shown guard before place now h = tt
 

@@ -1,9 +1,8 @@
 -- What is shown of a network, and what was written of it.
-use Rattle.std.proofs.Common.{◌≡◌, ℕ, zero, suc, ◌+◌, ◌<◌, List, [], ◌∷◌, ◌++◌, Bool, true, false, cond, length, get_or, take, Option, None, Some, refl, ap, sym, ◌∙◌, subst, arith, append_assoc, append-nil}
+use Rattle.std.proofs.Common.{◌≡◌, ℕ, zero, suc, ◌+◌, List, [], ◌∷◌, ◌++◌, length, get_or, take, Option, None, Some, refl, ap, sym, ◌∙◌, subst, append_assoc, append-nil}
 use Rattle.std.specs.Prelude.{Result, Ok, Err, OnOk, OnErr}
 use Rattle.std.specs.Io.KnownBytes.{Appends}
 use Rattle.std.proofs.Math.Seq.{take-append-add}
-use Rattle.cedr_base.specs.declared.change.Message.{Message}
 use Rattle.cedr_guard.specs.Messages.{messages_behind}
 use Rattle.cedr_io.specs.Asked.{AppendsFront}
 use Rattle.cedr_io.specs.declared.fault.OutsideFault.{OutsideFault}

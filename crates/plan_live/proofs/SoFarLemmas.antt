@@ -2,20 +2,17 @@
 use Rattle.std.proofs.Common.{◌≡◌, ℕ, zero, suc, ◌+◌, ◌<◌, List, [], ◌∷◌, ◌++◌, Bool, true, false, cond, length, set, get_or, take, refl, ap, sym, ◌∙◌, subst, arith}
 use Rattle.std.specs.Prelude.{map, nat_lt, Option, None, Some, Result, Ok, Err}
 use Rattle.cedr_base.specs.declared.row.Row.{Row}
-use Rattle.cedr_base.specs.declared.change.Message.TheVariants as message
 use Rattle.cedr_base.specs.Messages.{IsTableOf, mark_of}
 use Rattle.cedr_guard.specs.History.{history_of}
 use Rattle.cedr_guard.specs.declared.refusal.TheConstants.{FILE_LIMIT}
-use Rattle.cedr_guard.specs.Judging.{guarantee_of, event_with, AreAccepted}
-use Rattle.cedr_guard.specs.Messages.{cut_of, message_of, messages_behind}
+use Rattle.cedr_guard.specs.Judging.{guarantee_of, AreAccepted}
+use Rattle.cedr_guard.specs.Messages.{messages_behind}
 use Rattle.cedr_guard.specs.Sources.{with_reading, whole_lines}
 use Rattle.cedr_guard.proofs.MessageLemmas.{accepted_messages, table_is_history}
 use Rattle.cedr_guard.proofs.SourceLemmas.{reading_accepted, Law, AreAcceptedNow}
-use Rattle.node_laws.specs.Lawful.{has_broken}
 use Rattle.node_laws.specs.Lists.{Lists, list_at, AreTables}
-use Rattle.node_laws.specs.Pass.{has_end}
-use Rattle.node_laws.proofs.Ends.{broken-append}
-use Rattle.node_laws.proofs.Grows.{end-append}
+use Rattle.node_laws.proofs.Ends.{open_unbroken}
+use Rattle.node_laws.proofs.Holds.{open_is}
 use Rattle.plan_runs.proofs.PlanNodes.{split, place_within}
 use Rattle.plan_runs.proofs.Output.{output_kind, input, output_mark, output_table}
 use Rattle.cedr_plan.specs.declared.plan.NodeKind.TheVariants as kind
@@ -30,7 +27,6 @@ use Rattle.plan_runs.specs.Runs.{lists_at, sources_in, IsRun}
 use Rattle.plan_runs.proofs.Going.{going_table}
 use Rattle.cedr_table.specs.Operators.{Tables, table_at, mark_at}
 use Rattle.cedr_text.specs.declared.event_line.EventLine.{EventLine}
-use Rattle.cedr_text.specs.declared.event_line.EventLine.TheVariants.{Insert, Retract, Promise}
 use Rattle.cedr_text.specs.declared.event_line.Shape.{Shape}
 use Rattle.cedr_text.specs.declared.event_line.Shape.TheVariants.{AnyText}
 use Rattle.cedr_text.specs.declared.fault.LineFault.{LineFault}
@@ -72,32 +68,11 @@ source_are (n ∷ nodes) (l ∷ lines) are k = chosen_lines (is_source n.kind) l
 
 -- ---- messages that go on
 
-cut_goes : (event : Option Row) (end : ℕ) → (has_end (cut_of event end) ≡ false) × (has_broken (cut_of event end) ≡ false)
-cut_goes None end = (refl, refl)
-cut_goes (Some row) end = (refl, refl)
-
-mark_goes : (b : Bool) (time : ℕ) → (has_end (cond b (message.Mark time ∷ []) []) ≡ false) × (has_broken (cond b (message.Mark time ∷ []) []) ≡ false)
-mark_goes true time = (refl, refl)
-mark_goes false time = (refl, refl)
-
--- no line ends or breaks its source
-line_goes : (before : List EventLine) (line : EventLine) → (has_end (message_of before line) ≡ false) × (has_broken (message_of before line) ≡ false)
-line_goes before (Insert id row) = (refl, refl)
-line_goes before (Retract id end) = cut_goes (event_with id before) end
-line_goes before (Promise time) = mark_goes (nat_lt (guarantee_of before) time) time
-
--- no lines do
-pub lines_go : (before lines : List EventLine) → (has_end (messages_behind before lines) ≡ false) × (has_broken (messages_behind before lines) ≡ false)
-lines_go before [] = (refl, refl)
-lines_go before (line ∷ lines) =
-    let one = line_goes before line in
-    let more = lines_go (before ++ line ∷ []) lines in (
-      end-append (message_of before line) (messages_behind (before ++ line ∷ []) lines) one.0 ∙ more.0,
-      broken-append (message_of before line) (messages_behind (before ++ line ∷ []) lines) one.1 ∙ more.1,
-    )
-
 going_lines : (lines : List EventLine) → AreAccepted lines → IsGoing (messages_behind [] lines)
-going_lines lines accepted = record { legal = (accepted_messages lines accepted).legal; going = (lines_go [] lines).0; unbroken = (lines_go [] lines).1 }
+going_lines lines accepted =
+    let are = accepted_messages lines accepted in
+    let ms = messages_behind [] lines in
+    record { legal = are.legal; going = open_is ms are.all.goes_on; unbroken = open_unbroken ms are.all.goes_on }
 
 all_go : (count : ℕ) (lines : Accepted) → AreLines lines → AllGoing count (messages_so_far lines)
 all_go count lines are k within = subst IsGoing (sym (messages_at lines k)) (going_lines (lines_at lines k) (are k))

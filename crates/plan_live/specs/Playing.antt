@@ -1,5 +1,6 @@
 -- A script that is played line by line: what the network and the guards stand for, and what one line does.
-use Rattle.std.specs.Prelude.{ℕ, ◌≡◌, ◌<◌, ◌+◌, ◌&&◌, Bool, true, false, List, [], ◌++◌, length, slice_index_or, slice_set, nat_lt, if◌then◌else◌, Option, None, Some, Result, Ok, Err}
+use Rattle.std.specs.Prelude.{ℕ, ◌≡◌, ◌<◌, ◌+◌, ◌&&◌, Bool, true, false, List, [], ◌++◌, length, slice_index_or, slice_set, nat_lt, if◌then◌else◌, Option, None, Some, Result, Ok, Err, Vec}
+use Rattle.std.specs.Global.{Global}
 use Rattle.std.specs.Io.KnownBytes.{Appends}
 use Rattle.std.specs.Str.{bytes_eq}
 use Rattle.cedr_base.specs.declared.row.Row.{Row}
@@ -60,11 +61,16 @@ IsShownText nodes ports given text = (rows : List Row) × IsTableOf (list_at giv
 
 -- ---- the guards
 
+-- a line after accepted ones, whose messages are answered where it is accepted
+abbrev pub GivesMessages : Result (Vec Message Global) GuardFault → Guard → List EventLine → Result (List EventLine) LineFault → Type 0
+GivesMessages (Ok messages) guard before now = JudgesLine (Ok tt) guard before now [] messages.items
+GivesMessages (Err fault) guard before now = JudgesLine (Err fault) guard before now [] []
+
 -- the guard of one place judged a line, and the others are as before
-pub record JudgesAt (answer : Result (Option Message) GuardFault) (old new : List Guard) (place : ℕ) (said : Result (Option EventLine) LineFault) : Type 0 where
+pub record JudgesAt (answer : Result (Vec Message Global) GuardFault) (old new : List Guard) (place : ℕ) (said : Result (Option EventLine) LineFault) : Type 0 where
   pub now : Guard
   pub set_to : new ≡ slice_set old place now
-  pub judged : (d : Guard) (before : List EventLine) → Guards (slice_index_or old place d) before → JudgesLine answer now before (with_reading before said)
+  pub judged : (d : Guard) (before : List EventLine) → Guards (slice_index_or old place d) before → GivesMessages answer now before (with_reading before said)
 
 -- ---- what is played
 

@@ -1,7 +1,7 @@
 ghost use Rattle.std.specs.Prelude.{ℕ, ◌≡◌, ◌<◌, ◌++◌, [], List, IfOk, OnOk, length, slice_index_or};
 ghost use Rattle.cedr_base.specs.Messages.{IsLegal};
 ghost use Rattle.cedr_guard.specs.Sources.{with_reading};
-ghost use Rattle.cedr_guard.specs.Standing.{Guards, message_list};
+ghost use Rattle.cedr_guard.specs.Standing.{Guards};
 ghost use Rattle.cedr_io.specs.Counts.{Counts};
 ghost use Rattle.node_laws.specs.Lists.{Lists, list_at};
 ghost use Rattle.cedr_net.specs.Flows.{IsSourceAt};
@@ -48,18 +48,20 @@ fn guards_of(alloc: Global, count: usize) -> Result<Vec<Guard>, OutOfMemory>
     Ok(guards)
 }
 
-/// Judges an event line of the source at a place.
+/// The messages of an event line of the source at a place, which is judged.
 fn judge_at(
     alloc: Global,
     guards: &mut Vec<Guard>,
     place: usize,
     shape: &Shape,
     line: &[u8],
-) -> Result<Option<Message>, GuardFault>
+) -> Result<Vec<Message>, GuardFault>
     requires { place < length guards.old.items }
     ensures { JudgesAt result guards.old.items guards.new.items place (reading shape.now line.now) }
 {
-    judge_line(alloc, &mut guards[place], shape, line)
+    let mut messages = Vec::new(alloc);
+    judge_line(alloc, &mut guards[place], shape, line, &mut messages)?;
+    Ok(messages)
 }
 
 fn settle(alloc: Global, net: &mut SerialNet) -> Result<(), OutOfMemory>
@@ -72,20 +74,17 @@ fn settle(alloc: Global, net: &mut SerialNet) -> Result<(), OutOfMemory>
     }
 }
 
-/// Feeds the message of a source, where there is one, and then the network settles.
+/// Feeds the messages of a source, and then the network settles.
 fn feed_on(
     alloc: Global,
     net: &mut SerialNet,
     place: usize,
-    message: Option<Message>,
+    messages: Vec<Message>,
 ) -> Result<(), OutOfMemory>
-    requires { (nodes : List PlanNode) × (given : Lists) × IsSettledNet nodes net.old given × (place < length nodes) × IsSourceAt nodes place × IsLegal (list_at given place ++ message_list message) }
-    ensures { OnOk result ((nodes : List PlanNode) (given : Lists) → IsSettledNet nodes net.old given → place < length nodes → IsSourceAt nodes place → IsLegal (list_at given place ++ message_list message) → IsFedOn nodes net.new given place (message_list message)) }
+    requires { (nodes : List PlanNode) × (given : Lists) × IsSettledNet nodes net.old given × (place < length nodes) × IsSourceAt nodes place × IsLegal (list_at given place ++ messages.items) }
+    ensures { OnOk result ((nodes : List PlanNode) (given : Lists) → IsSettledNet nodes net.old given → place < length nodes → IsSourceAt nodes place → IsLegal (list_at given place ++ messages.items) → IsFedOn nodes net.new given place messages.items) }
 {
-    let Some(message) = message else {
-        return Ok(());
-    };
-    match net.feed(alloc, place, message) {
+    match net.feed_all(alloc, place, messages) {
         Ok(()) => settle(alloc, net),
         Err(_) => Err(OutOfMemory),
     }
@@ -130,7 +129,7 @@ impl Player {
         Ok(Player { guards, net })
     }
 
-    /// An event line of the source at a place: its message goes over the network.
+    /// An event line of the source at a place: its messages go over the network.
     fn take_event(
         &mut self,
         alloc: Global,
@@ -142,8 +141,8 @@ impl Player {
         requires stands { (nodes : List PlanNode) × (before : Accepted) × (shown : Lists) × PlaysStand nodes self.old before shown × (place < length nodes) × IsSourceAt nodes place }
         ensures { (nodes : List PlanNode) (before : Accepted) (shown : Lists) → PlaysStand nodes self.old before shown → place < length nodes → IsSourceAt nodes place → PlaysLine result nodes self.new shown (with_lines before place (with_reading (lines_at before place) (reading (slice_index_or shapes.now place AnyText) line.now))) }
     {
-        let message = judge_at(alloc, &mut self.guards, place, &shapes[place], line)?;
-        feed_on(alloc, &mut self.net, place, message)?;
+        let messages = judge_at(alloc, &mut self.guards, place, &shapes[place], line)?;
+        feed_on(alloc, &mut self.net, place, messages)?;
         Ok(())
     }
 

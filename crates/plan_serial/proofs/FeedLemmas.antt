@@ -1,11 +1,12 @@
 -- Sources that are fed, line by line.
-use Rattle.std.specs.Prelude.{◌||◌, map, Option, None, Some}
+use Rattle.std.specs.Prelude.{◌||◌, map, Option, Some, IfSome, Vec}
+use Rattle.std.specs.Global.{Global}
 use Rattle.std.proofs.lemmas.Bool.{cases_lt}
 use Rattle.std.proofs.Common.{◌≡◌, ◌≢◌, ◌⊎◌, ◌≤◌, ◌+◌, ℕ, zero, suc, ◌<◌, inl, inr, Bool, true, false, refl, List, [], ◌∷◌, ◌++◌, length, take, set, get_or, ap, sym, ◌∙◌, subst, arith, append_assoc, append-nil, get_or-set_same, get_or-set_other}
 use Rattle.std.proofs.lemmas.List.{length-set, length-append, set-get_or}
 use Rattle.std.proofs.lemmas.List.Sums.{sum_by-cons}
 use Rattle.cedr_base.specs.declared.change.Message.{Message}
-use Rattle.cedr_base.specs.Messages.{IsLegal, MayCome}
+use Rattle.cedr_base.specs.Messages.{IsLegal}
 use Rattle.cedr_guard.specs.Messages.{messages_in}
 use Rattle.node_laws.specs.Lists.{Lists, list_at, with_more}
 use Rattle.cedr_plan.specs.declared.plan.PlanNode.{PlanNode}
@@ -15,7 +16,7 @@ use Rattle.cedr_net.specs.Networks.{NetStands}
 use Rattle.node_laws.proofs.ListLemmas.{at_more_other, at_more}
 use Rattle.cedr_net.proofs.FlowLemmas.{same_or_not}
 use Rattle.cedr_net.proofs.PlaceLemmas.{source_here}
-use Rattle.change_laws.proofs.Legal.{may_come_in}
+use Rattle.change_laws.proofs.Legal.{legal_first}
 use Rattle.cedr_plan.specs.Places.{is_source}
 use Rattle.plan_serial.specs.Rounds.{ByLine, entries_at}
 use Rattle.plan_serial.specs.Feeding.{MayBeFed, FeedsOne, FeedsEach, behind_first, left_count}
@@ -23,16 +24,15 @@ use Rattle.plan_serial.specs.Feeding.{MayBeFed, FeedsOne, FeedsEach, behind_firs
 -- ---- one entry fewer
 
 -- one entry fewer is left
-pub one_fewer : (left : ByLine) (place : ℕ) (entry : Option Message) (more : List (Option Message)) → entries_at left place ≡ entry ∷ more → left_count (set left place more) < left_count left
-one_fewer [] place entry more front = absurd (let e = ap (λ (es : List (Option Message)). length es) front in omega arith)
-one_fewer (l ∷ left) zero entry more front = let e = ap (λ (es : List (Option Message)). length es) front in omega (arith, e, sum_by-cons (λ (x : List (Option Message)). length x) l left, sum_by-cons (λ (x : List (Option Message)). length x) more left)
-one_fewer (l ∷ left) (suc place) entry more front = omega (arith, one_fewer left place entry more front, sum_by-cons (λ (x : List (Option Message)). length x) l left, sum_by-cons (λ (x : List (Option Message)). length x) l (set left place more))
+pub one_fewer : (left : ByLine) (place : ℕ) (entry : List Message) (more : List (List Message)) → entries_at left place ≡ entry ∷ more → left_count (set left place more) < left_count left
+one_fewer [] place entry more front = absurd (let e = ap (λ (es : List (List Message)). length es) front in omega arith)
+one_fewer (l ∷ left) zero entry more front = let e = ap (λ (es : List (List Message)). length es) front in omega (arith, e, sum_by-cons (λ (x : List (List Message)). length x) l left, sum_by-cons (λ (x : List (List Message)). length x) more left)
+one_fewer (l ∷ left) (suc place) entry more front = omega (arith, one_fewer left place entry more front, sum_by-cons (λ (x : List (List Message)). length x) l left, sum_by-cons (λ (x : List (List Message)). length x) l (set left place more))
 
 -- the first entry and those behind it hold what all hold
-pub first_and_behind : (entries : List (Option Message)) → messages_in (take 1 entries) ++ messages_in (behind_first entries) ≡ messages_in entries
+pub first_and_behind : (entries : List (List Message)) → messages_in (take 1 entries) ++ messages_in (behind_first entries) ≡ messages_in entries
 first_and_behind [] = refl
-first_and_behind (None ∷ entries) = refl
-first_and_behind (Some m ∷ entries) = refl
+first_and_behind (entry ∷ entries) = ap (λ (ms : List Message). ms ++ messages_in entries) (append-nil entry)
 
 -- there are no entries behind the last node
 pub no_entries : (left : ByLine) (k : ℕ) → length left ≤ k → entries_at left k ≡ []
@@ -53,17 +53,17 @@ module _ (nodes : List PlanNode) (given given' : Lists) (left left' : ByLine) (p
   all_as_before k (inl e) =
       ap (λ (j : ℕ). list_at given' j ++ messages_in (entries_at left' j)) e
       ∙ (ap (λ (ms : List Message). ms ++ messages_in (entries_at left' place)) fed
-      ∙ (ap (λ (es : List (Option Message)). (list_at given place ++ messages_in (take 1 (entries_at left place))) ++ messages_in es) own_left
+      ∙ (ap (λ (es : List (List Message)). (list_at given place ++ messages_in (take 1 (entries_at left place))) ++ messages_in es) own_left
       ∙ (append_assoc (list_at given place) (messages_in (take 1 (entries_at left place))) (messages_in (behind_first (entries_at left place)))
       ∙ (ap (λ (ms : List Message). list_at given place ++ ms) (first_and_behind (entries_at left place)) ∙ ap (λ (j : ℕ). list_at given j ++ messages_in (entries_at left j)) (sym e)))))
-  all_as_before k (inr ne) = ap (λ (ms : List Message). ms ++ messages_in (entries_at left' k)) (others k ne) ∙ ap (λ (es : List (Option Message)). list_at given k ++ messages_in es) (other_left k ne)
+  all_as_before k (inr ne) = ap (λ (ms : List Message). ms ++ messages_in (entries_at left' k)) (others k ne) ∙ ap (λ (es : List (List Message)). list_at given k ++ messages_in es) (other_left k ne)
 
-  still_source : (k : ℕ) (entry : Option Message) (more : List (Option Message)) → entries_at left' k ≡ entry ∷ more → (k ≡ place) ⊎ (k ≢ place) → IsSourceAt nodes k
+  still_source : (k : ℕ) (entry : List Message) (more : List (List Message)) → entries_at left' k ≡ entry ∷ more → (k ≡ place) ⊎ (k ≢ place) → IsSourceAt nodes k
   still_source k entry more e (inl same) = subst (IsSourceAt nodes) (sym same) (has_some (entries_at left place) refl) where
     here : behind_first (entries_at left place) ≡ entry ∷ more
     here = sym own_left ∙ (ap (entries_at left') (sym same) ∙ e)
 
-    has_some : (es : List (Option Message)) → entries_at left place ≡ es → IsSourceAt nodes place
+    has_some : (es : List (List Message)) → entries_at left place ≡ es → IsSourceAt nodes place
     has_some [] is = absurd (let none = sym (ap behind_first is) ∙ here in cc)
     has_some (x ∷ es) is = h.others place x es is
   still_source k entry more e (inr ne) = h.others k entry more (sym (other_left k ne) ∙ e)
@@ -76,40 +76,41 @@ module _ (nodes : List PlanNode) (given given' : Lists) (left left' : ByLine) (p
     others = λ k entry more e. still_source k entry more e (same_or_not k place);
   }
 
--- the node at a place was fed a message
-module _ (nodes : List PlanNode) (net : SerialNet) (ports : List Lists) (given : Lists) (left left' : ByLine) (place : ℕ) (m : Message) (h : MayBeFed nodes given left) (within : place < length nodes)
-    (front : entries_at left place ≡ Some m ∷ entries_at left' place) (rest : left' ≡ set left place (entries_at left' place)) where
+-- the node at a place was fed the messages of its first entry
+module _ (nodes : List PlanNode) (net : SerialNet) (ports : List Lists) (given : Lists) (left left' : ByLine) (place : ℕ) (ms : List Message) (h : MayBeFed nodes given left) (within : place < length nodes)
+    (front : entries_at left place ≡ ms ∷ entries_at left' place) (rest : left' ≡ set left place (entries_at left' place)) where
   -- it is a source
   pub next_source : IsSourceAt nodes place
-  next_source = h.others place (Some m) (entries_at left' place) front
+  next_source = h.others place ms (entries_at left' place) front
 
-  -- the message may come
-  pub next_may_come : MayCome (list_at given place) m
-  next_may_come = may_come_in (list_at given place) (messages_in (entries_at left' place)) m (subst IsLegal (ap (λ (es : List (Option Message)). list_at given place ++ messages_in es) front) (h.legal place within next_source))
+  -- the messages may come
+  pub next_legal : IsLegal (list_at given place ++ ms)
+  next_legal =
+      let rest = messages_in (entries_at left' place) in
+      legal_first [] (list_at given place ++ ms) rest
+      (subst IsLegal (ap (λ (es : List (List Message)). list_at given place ++ messages_in es) front ∙ sym (append_assoc (list_at given place) ms rest)) (h.legal place within next_source))
 
-  -- and is fed
-  pub fed_message : length given ≡ length nodes → NetStands nodes net ports (with_more given place (m ∷ [])) → FeedsOne nodes net ports given place left left'
-  fed_message wide stands =
+  -- and are fed
+  pub fed_line : length given ≡ length nodes → NetStands nodes net ports (with_more given place ms) → FeedsOne nodes net ports given place left left'
+  fed_line wide stands =
       let same : left' ≡ set left place (behind_first (entries_at left place)) = rest ∙ ap (set left place) (sym (ap behind_first front)) in
-      let own : list_at (with_more given place (m ∷ [])) place ≡ list_at given place ++ messages_in (take 1 (entries_at left place)) =
-      at_more given place (m ∷ []) (omega (arith, wide)) ∙ ap (λ (es : List (Option Message)). list_at given place ++ messages_in (take 1 es)) (sym front) in
-      let apart : (k : ℕ) → k ≢ place → list_at (with_more given place (m ∷ [])) k ≡ list_at given k = λ k ne. at_more_other given place k (m ∷ []) ne in
+      let own : list_at (with_more given place ms) place ≡ list_at given place ++ messages_in (take 1 (entries_at left place)) =
+      at_more given place ms (omega (arith, wide))
+      ∙ (ap (λ (xs : List Message). list_at given place ++ xs) (sym (append-nil ms))
+      ∙ ap (λ (es : List (List Message)). list_at given place ++ messages_in (take 1 es)) (sym front)) in
+      let apart : (k : ℕ) → k ≢ place → list_at (with_more given place ms) k ≡ list_at given k = λ k ne. at_more_other given place k ms ne in
       record {
-        given' = with_more given place (m ∷ []);
+        given' = with_more given place ms;
         stands = stands;
-        may = may_still nodes given (with_more given place (m ∷ [])) left left' place h same within own apart;
+        may = may_still nodes given (with_more given place ms) left left' place h same within own apart;
         fed = own;
         others = apart;
       }
 
--- the entry of the node at a place holds no message
-pub fed_nothing : (nodes : List PlanNode) (net : SerialNet) (ports : List Lists) (given : Lists) (left left' : ByLine) (place : ℕ) → NetStands nodes net ports given → MayBeFed nodes given left → place < length nodes
-    → entries_at left place ≡ None ∷ entries_at left' place → left' ≡ set left place (entries_at left' place) → FeedsOne nodes net ports given place left left'
-fed_nothing nodes net ports given left left' place stands h within front rest =
-    let same : left' ≡ set left place (behind_first (entries_at left place)) = rest ∙ ap (set left place) (sym (ap behind_first front)) in
-    let own : list_at given place ≡ list_at given place ++ messages_in (take 1 (entries_at left place)) =
-    sym (append-nil (list_at given place)) ∙ ap (λ (es : List (Option Message)). list_at given place ++ messages_in (take 1 es)) (sym front) in
-    record { given' = given; stands = stands; may = may_still nodes given given left left' place h same within own (λ k ne. refl); fed = own; others = λ k ne. refl }
+-- the entry that was taken of the node at a place
+pub taken_some : (left now : ByLine) (place : ℕ) (entry : Option (Vec Message Global)) (messages : Vec Message Global) → entry ≡ Some messages → IfSome entry (λ ms. (entries_at left place ≡ ms.items ∷ entries_at now place) × (now ≡ set left place (entries_at now place)))
+    → (entries_at left place ≡ messages.items ∷ entries_at now place) × (now ≡ set left place (entries_at now place))
+taken_some left now place entry messages is some = subst (λ (e : Option (Vec Message Global)). IfSome e (λ ms. (entries_at left place ≡ ms.items ∷ entries_at now place) × (now ≡ set left place (entries_at now place)))) is some
 
 -- the node at a place has no entry
 pub fed_none : (nodes : List PlanNode) (net : SerialNet) (ports : List Lists) (given : Lists) (left left' : ByLine) (place : ℕ) → NetStands nodes net ports given → MayBeFed nodes given left → entries_at left place ≡ [] → left' ≡ left → FeedsOne nodes net ports given place left left'
@@ -117,7 +118,7 @@ fed_none nodes net ports given left left' place stands h none same = record {
   given' = given;
   stands = stands;
   may = subst (MayBeFed nodes given) (sym same) h;
-  fed = sym (append-nil (list_at given place)) ∙ ap (λ (es : List (Option Message)). list_at given place ++ messages_in (take 1 es)) (sym none);
+  fed = sym (append-nil (list_at given place)) ∙ ap (λ (es : List (List Message)). list_at given place ++ messages_in (take 1 es)) (sym none);
   others = λ k ne. refl;
 }
 
@@ -146,7 +147,7 @@ fed_further nodes net net' ports given left now now' place u f taken = record {
         ap (list_at f.given') here
         ∙ (f.fed
         ∙ (ap (λ (ms : List Message). ms ++ messages_in (take 1 (entries_at now place))) (u.rest place (omega arith))
-        ∙ (ap (λ (es : List (Option Message)). list_at given place ++ messages_in (take 1 es)) (u.rest_left place (omega arith)) ∙ ap (λ (j : ℕ). list_at given j ++ messages_in (take 1 (entries_at left j))) (sym here))))
+        ∙ (ap (λ (es : List (List Message)). list_at given place ++ messages_in (take 1 es)) (u.rest_left place (omega arith)) ∙ ap (λ (j : ℕ). list_at given j ++ messages_in (take 1 (entries_at left j))) (sym here))))
   ];
   rest = λ k later. f.others k (λ e. absurd (omega arith)) ∙ u.rest k (omega arith);
   rest_left = λ k later. ap (λ (ls : ByLine). entries_at ls k) taken ∙ (get_or-set_other now place k (behind_first (entries_at now place)) [] (λ e. absurd (omega arith)) ∙ u.rest_left k (omega arith));
@@ -160,7 +161,7 @@ fed_each nodes net ports given left now place all u = record {
   may = u.may;
   fed = λ k. elim (cases_lt k place) [
     | inl h ↦ u.fed k h
-    | inr h ↦ u.rest k h ∙ (sym (append-nil (list_at given k)) ∙ ap (λ (es : List (Option Message)). list_at given k ++ messages_in (take 1 es)) (sym (no_entries left k (omega arith))))
+    | inr h ↦ u.rest k h ∙ (sym (append-nil (list_at given k)) ∙ ap (λ (es : List (List Message)). list_at given k ++ messages_in (take 1 es)) (sym (no_entries left k (omega arith))))
   ];
 }
 
@@ -227,7 +228,7 @@ pub taken_all : (k : ℕ) (ls now : ByLine) → k ≡ length ls → now ≡ take
 taken_all k ls now end is = is ∙ (ap (λ (n : ℕ). taken_up_to n ls) end ∙ all_taken ls)
 
 -- where an entry of a source was taken, its list is without its first entry
-pub one_behind : (old new : ByLine) (k : ℕ) (entry : Option Message) → entries_at old k ≡ entry ∷ entries_at new k → new ≡ set old k (entries_at new k) → new ≡ set old k (behind_first (entries_at old k))
+pub one_behind : (old new : ByLine) (k : ℕ) (entry : List Message) → entries_at old k ≡ entry ∷ entries_at new k → new ≡ set old k (entries_at new k) → new ≡ set old k (behind_first (entries_at old k))
 one_behind old new k entry front rest = rest ∙ ap (set old k) (sym (ap behind_first front))
 
 -- where a source had no entry, its list is as it was, which is the same without a first entry
@@ -236,7 +237,7 @@ none_behind old new k none same = same ∙ (sym (set-get_or old k []) ∙ ap (se
 
 -- ---- sources, node by node
 
-push_cases : (left : ByLine) (x : List (Option Message)) (k : ℕ) (m : Option Message) (more : List (Option Message)) → entries_at (left ++ x ∷ []) k ≡ m ∷ more → (entries_at left k ≡ m ∷ more) ⊎ ((k ≡ length left) × (x ≡ m ∷ more))
+push_cases : (left : ByLine) (x : List (List Message)) (k : ℕ) (m : List Message) (more : List (List Message)) → entries_at (left ++ x ∷ []) k ≡ m ∷ more → (entries_at left k ≡ m ∷ more) ⊎ ((k ≡ length left) × (x ≡ m ∷ more))
 push_cases [] x zero m more e = inr (refl, e)
 push_cases [] x (suc k) m more e = cc
 push_cases (l ∷ left) x zero m more e = inl e
@@ -245,7 +246,7 @@ push_cases (l ∷ left) x (suc k) m more e = elim (push_cases left x k m more e)
   | inr h ↦ inr (ap (λ j. suc j) h.0, h.1)
 ]
 
-legal_push : (left : ByLine) (x : List (Option Message)) → ((k : ℕ) → IsLegal (messages_in (entries_at left k))) → IsLegal (messages_in x) → (k : ℕ) → IsLegal (messages_in (entries_at (left ++ x ∷ []) k))
+legal_push : (left : ByLine) (x : List (List Message)) → ((k : ℕ) → IsLegal (messages_in (entries_at left k))) → IsLegal (messages_in x) → (k : ℕ) → IsLegal (messages_in (entries_at (left ++ x ∷ []) k))
 legal_push [] x all one zero = one
 legal_push [] x all one (suc k) = tt
 legal_push (l ∷ left) x all one zero = all 0
@@ -255,10 +256,10 @@ legal_push (l ∷ left) x all one (suc k) = legal_push left x (λ j. all (suc j)
 pub record SourcesUpTo (nodes : List PlanNode) (place : ℕ) (whole : ByLine) : Type 0 where
   pub count : length whole ≡ place
   pub legal : (k : ℕ) → IsLegal (messages_in (entries_at whole k))
-  pub others : (k : ℕ) (m : Option Message) (more : List (Option Message)) → entries_at whole k ≡ m ∷ more → IsSourceAt nodes k
+  pub others : (k : ℕ) (m : List Message) (more : List (List Message)) → entries_at whole k ≡ m ∷ more → IsSourceAt nodes k
 
 -- and so has one node more
-pub sources_push : (nodes : List PlanNode) (whole : ByLine) (x : List (Option Message)) (n : PlanNode) (place : ℕ) → SourcesUpTo nodes place whole → place < length nodes → get_or nodes place n ≡ n → IsLegal (messages_in x) → (is_source n.kind ≡ false → x ≡ []) → SourcesUpTo nodes (place + 1) (whole ++ x ∷ [])
+pub sources_push : (nodes : List PlanNode) (whole : ByLine) (x : List (List Message)) (n : PlanNode) (place : ℕ) → SourcesUpTo nodes place whole → place < length nodes → get_or nodes place n ≡ n → IsLegal (messages_in x) → (is_source n.kind ≡ false → x ≡ []) → SourcesUpTo nodes (place + 1) (whole ++ x ∷ [])
 sources_push nodes whole x n place h within here legal none = record {
   count = omega (arith, length-append whole (x ∷ []), h.count);
   legal = legal_push whole x h.legal legal;
@@ -267,6 +268,6 @@ sources_push nodes whole x n place h within here legal none = record {
     | inr new ↦ subst (IsSourceAt nodes) (sym (new.0 ∙ h.count)) (at (is_source n.kind) refl m more new.1)
   ];
 } where
-  at : (b : Bool) → is_source n.kind ≡ b → (m : Option Message) (more : List (Option Message)) → x ≡ m ∷ more → IsSourceAt nodes place
+  at : (b : Bool) → is_source n.kind ≡ b → (m : List Message) (more : List (List Message)) → x ≡ m ∷ more → IsSourceAt nodes place
   at true is m more e = source_here nodes place n within here is
   at false is m more e = absurd (let z = none is in cc)

@@ -1,5 +1,5 @@
 -- The rounds in which sources are fed.
-use Rattle.std.specs.Prelude.{map, drop, Option}
+use Rattle.std.specs.Prelude.{map, drop}
 use Rattle.std.proofs.Common.{◌≡◌, ◌+◌, ℕ, zero, suc, ◌<◌, false, refl, List, [], ◌∷◌, ◌++◌, length, take, ap, sym, ◌∙◌, subst, arith, append-nil}
 use Rattle.std.proofs.lemmas.List.{take-append-drop}
 use Rattle.std.proofs.Math.Seq.{drop-nil}
@@ -21,12 +21,12 @@ use Rattle.plan_serial.specs.Feeding.{MayBeFed, FeedsEach, StandsAfterRounds, Is
 
 -- ---- the entry of a round
 
-take_one : (n : ℕ) (entries : List (Option Message)) → take n entries ++ take 1 (drop n entries) ≡ take (suc n) entries
+take_one : (n : ℕ) (entries : List (List Message)) → take n entries ++ take 1 (drop n entries) ≡ take (suc n) entries
 take_one zero entries = refl
 take_one (suc n) [] = refl
-take_one (suc n) (e ∷ entries) = ap (λ (es : List (Option Message)). e ∷ es) (take_one n entries)
+take_one (suc n) (e ∷ entries) = ap (λ (es : List (List Message)). e ∷ es) (take_one n entries)
 
-drop_one : (n : ℕ) (entries : List (Option Message)) → drop 1 (drop n entries) ≡ drop (suc n) entries
+drop_one : (n : ℕ) (entries : List (List Message)) → drop 1 (drop n entries) ≡ drop (suc n) entries
 drop_one zero entries = refl
 drop_one (suc n) [] = refl
 drop_one (suc n) (e ∷ entries) = drop_one n entries
@@ -39,7 +39,7 @@ behind_at [] k = refl
 behind_at (l ∷ left) zero = refl
 behind_at (l ∷ left) (suc k) = behind_at left k
 
-some_before : (n : ℕ) (entries : List (Option Message)) (entry : Option Message) (more : List (Option Message)) → drop n entries ≡ entry ∷ more → (first : Option Message) × (rest : List (Option Message)) × (entries ≡ first ∷ rest)
+some_before : (n : ℕ) (entries : List (List Message)) (entry : List Message) (more : List (List Message)) → drop n entries ≡ entry ∷ more → (first : List Message) × (rest : List (List Message)) × (entries ≡ first ∷ rest)
 some_before n [] entry more is = absurd (let none = sym (drop-nil n) ∙ is in cc)
 some_before n (e ∷ entries) entry more is = (e, entries, refl)
 
@@ -58,7 +58,7 @@ module _ (nodes : List PlanNode) (old : SerialNet) (left whole : ByLine) (rounds
   all_there : (k : ℕ) → k < length nodes → IsSourceAt nodes k → list_at s.given k ++ messages_in (entries_at left k) ≡ messages_in (entries_at whole k)
   all_there k within source =
       ap (λ (ms : List Message). ms ++ messages_in (entries_at left k)) (gave k within source)
-      ∙ (ap (λ (es : List (Option Message)). messages_in (take rounds (entries_at whole k)) ++ messages_in es) (s.left_are k)
+      ∙ (ap (λ (es : List (List Message)). messages_in (take rounds (entries_at whole k)) ++ messages_in es) (s.left_are k)
       ∙ (sym (held_append (take rounds (entries_at whole k)) (drop rounds (entries_at whole k))) ∙ ap messages_in (take-append-drop rounds (entries_at whole k))))
 
   -- after some rounds what is left may be fed
@@ -77,13 +77,13 @@ module _ (nodes : List PlanNode) (old : SerialNet) (left whole : ByLine) (rounds
         h.sources k source
         ∙ (f.fed k
         ∙ (ap (λ (ms : List Message). ms ++ messages_in (take 1 (entries_at left k))) (gave k within source)
-        ∙ (ap (λ (es : List (Option Message)). messages_in (take rounds (entries_at whole k)) ++ messages_in (take 1 es)) (s.left_are k)
+        ∙ (ap (λ (es : List (List Message)). messages_in (take rounds (entries_at whole k)) ++ messages_in (take 1 es)) (s.left_are k)
         ∙ (sym (held_append (take rounds (entries_at whole k)) (take 1 (drop rounds (entries_at whole k))))
         ∙ ap messages_in (take_one rounds (entries_at whole k) ∙ ap (λ (n : ℕ). take n (entries_at whole k)) (more_rounds rounds))))))
 
     nothing_fed : (before after : List PlanNode) (n : PlanNode) → nodes ≡ before ++ n ∷ after → is_source n.kind ≡ false → list_at f.given' (length before) ≡ list_at s.given (length before)
-    nothing_fed before after n is isnt = f.fed (length before) ∙ (ap (λ (es : List (Option Message)). list_at s.given (length before) ++ messages_in (take 1 es)) (none (entries_at left (length before)) refl) ∙ append-nil (list_at s.given (length before))) where
-      none : (es : List (Option Message)) → entries_at left (length before) ≡ es → entries_at left (length before) ≡ []
+    nothing_fed before after n is isnt = f.fed (length before) ∙ (ap (λ (es : List (List Message)). list_at s.given (length before) ++ messages_in (take 1 es)) (none (entries_at left (length before)) refl) ∙ append-nil (list_at s.given (length before))) where
+      none : (es : List (List Message)) → entries_at left (length before) ≡ es → entries_at left (length before) ≡ []
       none [] e = e
       none (x ∷ es) e = absurd (let source = may_be_fed.others (length before) x es e before after n is refl in cc)
 

@@ -1,6 +1,6 @@
 -- The run of a plan whose sources gave all that they had.
 use Rattle.std.proofs.Common.{◌≡◌, ◌≤◌, ℕ, zero, suc, List, [], ◌∷◌, length, get_or, refl, ap, sym, ◌∙◌, subst, arith}
-use Rattle.std.specs.Prelude.{map, replicate, Option}
+use Rattle.std.specs.Prelude.{map, replicate}
 use Rattle.std.proofs.lemmas.List.{length-drop, take_all}
 use Rattle.cedr_base.specs.declared.change.Message.{Message}
 use Rattle.cedr_guard.specs.Messages.{messages_in}
@@ -39,7 +39,7 @@ fed_first nodes net whole stands sources = record {
 -- sources that gave all
 module _ (nodes : List PlanNode) (net : SerialNet) (left whole : ByLine) (rounds : ℕ) (s : StandsAfterRounds nodes net left whole rounds) (none : (k : ℕ) → entries_at left k ≡ []) where
   few : (k : ℕ) → length (entries_at whole k) ≤ rounds
-  few k = let gone = ap (λ (es : List (Option Message)). length es) (sym (s.left_are k) ∙ none k) in omega (arith, gone, length-drop rounds (entries_at whole k))
+  few k = let gone = ap (λ (es : List (List Message)). length es) (sym (s.left_are k) ∙ none k) in omega (arith, gone, length-drop rounds (entries_at whole k))
 
   all_given : sources_in nodes s.given ≡ sources_in nodes (all_messages whole)
   all_given = same_sources nodes s.given (all_messages whole) (λ k d within is.

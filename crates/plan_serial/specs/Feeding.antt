@@ -1,5 +1,5 @@
 -- Sources that are fed to a network, each line of a source after the one before it.
-use Rattle.std.specs.Prelude.{ℕ, ◌≡◌, ◌≢◌, ◌<◌, Bool, Option, List, ◌∷◌, ◌++◌, length, take, drop, sum_by}
+use Rattle.std.specs.Prelude.{ℕ, ◌≡◌, ◌≢◌, ◌<◌, Bool, List, ◌∷◌, ◌++◌, length, take, drop, sum_by}
 use Rattle.cedr_base.specs.declared.change.Message.{Message}
 use Rattle.cedr_base.specs.Messages.{IsLegal}
 use Rattle.cedr_guard.specs.Messages.{messages_in}
@@ -18,14 +18,14 @@ use Rattle.plan_serial.specs.Rounds.{ByLine, entries_at, all_messages, CameInRou
 pub record AreSources (nodes : List PlanNode) (whole : ByLine) : Type 0 where
   pub count : length whole ≡ length nodes
   pub legal : (k : ℕ) → IsLegal (messages_in (entries_at whole k))
-  pub others : (k : ℕ) (entry : Option Message) (more : List (Option Message)) → entries_at whole k ≡ entry ∷ more → IsSourceAt nodes k
+  pub others : (k : ℕ) (entry : List Message) (more : List (List Message)) → entries_at whole k ≡ entry ∷ more → IsSourceAt nodes k
 
 -- how many entries are left
 abbrev pub left_count : ByLine → ℕ
-left_count left = sum_by (λ (entries : List (Option Message)). length entries) left
+left_count left = sum_by (λ (entries : List (List Message)). length entries) left
 
 -- entries without the first one
-abbrev pub behind_first : List (Option Message) → List (Option Message)
+abbrev pub behind_first : List (List Message) → List (List Message)
 behind_first entries = drop 1 entries
 
 -- nothing waits on any port of a network
@@ -64,9 +64,9 @@ pub record AnswersInRounds (always : Bool) (nodes : List PlanNode) (lines : ByLi
 pub record MayBeFed (nodes : List PlanNode) (given : Lists) (left : ByLine) : Type 0 where
   pub count : length left ≡ length nodes
   pub legal : (k : ℕ) → k < length nodes → IsSourceAt nodes k → IsLegal (list_at given k ++ messages_in (entries_at left k))
-  pub others : (k : ℕ) (entry : Option Message) (more : List (Option Message)) → entries_at left k ≡ entry ∷ more → IsSourceAt nodes k
+  pub others : (k : ℕ) (entry : List Message) (more : List (List Message)) → entries_at left k ≡ entry ∷ more → IsSourceAt nodes k
 
--- the node at a place was fed the message of its first entry, if it holds one
+-- the node at a place was fed the messages of its first entry
 pub record FeedsOne (nodes : List PlanNode) (net : SerialNet) (ports : List Lists) (given : Lists) (place : ℕ) (left left' : ByLine) : Type 0 where
   pub given' : Lists
   pub stands : NetStands nodes net ports given'

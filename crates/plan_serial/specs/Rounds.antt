@@ -1,5 +1,5 @@
 -- In which rounds the sources of a plan were fed.
-use Rattle.std.specs.Prelude.{ℕ, ◌≡◌, ◌≤◌, ◌<◌, ◌+◌, zero, suc, Option, List, [], length, map, take, slice_index_or}
+use Rattle.std.specs.Prelude.{ℕ, ◌≡◌, ◌≤◌, ◌<◌, ◌+◌, zero, suc, List, [], length, map, take, slice_index_or}
 use Rattle.cedr_base.specs.declared.change.Message.{Message}
 use Rattle.cedr_guard.specs.Messages.{messages_in}
 use Rattle.node_laws.specs.Lists.{Lists, list_at}
@@ -10,10 +10,10 @@ use Rattle.cedr_net.specs.Networks.{AllGrow, AllTake}
 
 -- the messages of each node of a plan line by line, by its place: what is no source has none
 abbrev pub ByLine : Type 0
-ByLine = List (List (Option Message))
+ByLine = List (List (List Message))
 
 -- the entries of the node at a place
-abbrev pub entries_at : ByLine → ℕ → List (Option Message)
+abbrev pub entries_at : ByLine → ℕ → List (List Message)
 entries_at lines place = slice_index_or lines place []
 
 -- the messages that the entries of each node hold
@@ -21,7 +21,7 @@ abbrev pub all_messages : ByLine → Lists
 all_messages lines = map messages_in lines
 
 -- From the lists of a run to those after one round more, of this number. Each source that has an entry of this number gave
--- the message that it holds, if it holds one. Each other node took what came to it port by port. The lists went on, and
+-- the messages that it holds. Each other node took what came to it port by port. The lists went on, and
 -- are those of a run of the plan over what the sources gave so far.
 pub record IsRound (nodes : List PlanNode) (lines : ByLine) (number : ℕ) (ports : List Lists) (given : Lists) (ports' : List Lists) (given' : Lists) : Type 0 where
   pub fed : (k : ℕ) → k < length nodes → IsSourceAt nodes k → list_at given' k ≡ messages_in (take (number + 1) (entries_at lines k))

@@ -14,7 +14,6 @@ use Rattle.cedr_text.specs.declared.event_line.Shape.{Shape}
 use Rattle.cedr_text.specs.Shapes.{ShapeHasTypes}
 use Rattle.plan_answer.specs.declared.faulty.FaultySource.{FaultySource}
 use Rattle.plan_answer.specs.Sources.{faulty_from, file_of}
-use Rattle.plan_serial.specs.declared.entries.Entries.{Entries}
 use Rattle.plan_serial.specs.Rounds.{ByLine}
 use Rattle.plan_serial.specs.declared.sources.ReadSoFar.{ReadSoFar}
 use Rattle.plan_serial.specs.declared.sources.SourcesFault.{SourcesFault}
@@ -24,7 +23,7 @@ use Rattle.plan_serial.specs.declared.sources.SourcesFault.TheVariants as source
 
 -- What was read of a node line by line: of a source its first fault, or without one all its messages; of any other node
 -- nothing.
-pub record HasLines (told : List ℕ → List ℕ) (node : PlanNode) (entries : List (Option Message)) (fault : Option Refusal) : Type 0 where
+pub record HasLines (told : List ℕ → List ℕ) (node : PlanNode) (entries : List (List Message)) (fault : Option Refusal) : Type 0 where
   pub source : is_source node.kind ≡ true → (shape : Shape) × ShapeHasTypes shape node.types.items × ((judged shape (told (file_of node.kind))).fault ≡ fault) × (fault ≡ None → entries ≡ messages_by_line shape (told (file_of node.kind)))
   pub other : is_source node.kind ≡ false → (entries ≡ []) × (fault ≡ None)
 
@@ -44,14 +43,14 @@ pub record AreReadByLine (told : List ℕ → List ℕ) (nodes : List PlanNode) 
   pub faulty_are : faulty ≡ faulty_from 0 faults
 
 -- a file of these types: all messages of its bytes line by line, or their first fault
-abbrev pub AnswersFile : Result (Vec (Option Message) Global) Unread → List FieldType → List ℕ → Type 0
-AnswersFile (Ok entries) types all = (shape : Shape) × ShapeHasTypes shape types × ((judged shape all).fault ≡ None) × (entries.items ≡ messages_by_line shape all)
+abbrev pub AnswersFile : Result (List (List Message)) Unread → List FieldType → List ℕ → Type 0
+AnswersFile (Ok entries) types all = (shape : Shape) × ShapeHasTypes shape types × ((judged shape all).fault ≡ None) × (entries ≡ messages_by_line shape all)
 AnswersFile (Err (unread.Refused refusal)) types all = (shape : Shape) × ShapeHasTypes shape types × ((judged shape all).fault ≡ Some refusal)
 AnswersFile (Err unread.Failed) types all = Unit {0}
 AnswersFile (Err unread.OutOfMemory) types all = Unit {0}
 
 -- all sources are accepted and give their messages line by line, or these are faulty
-abbrev pub AnswersSources : Result (Vec Entries Global) SourcesFault → (List ℕ → List ℕ) → List PlanNode → Type 0
+abbrev pub AnswersSources : Result (Vec (List (List Message)) Global) SourcesFault → (List ℕ → List ℕ) → List PlanNode → Type 0
 AnswersSources (Ok left) told nodes = AreReadByLine told nodes left.items []
 AnswersSources (Err (sources_fault.Events faulty)) told nodes = (lines : ByLine) × AreReadByLine told nodes lines faulty.items × (0 < length faulty.items)
 AnswersSources (Err sources_fault.Read) told nodes = Unit {0}
@@ -67,19 +66,19 @@ CountsSources (Err sources_fault.OutOfMemory) old new = new ≡ old
 -- ---- node by node
 
 -- what is no source gives nothing
-abbrev pub IsNothing : Result (Vec (Option Message) Global) Unread → Type 0
-IsNothing (Ok entries) = entries.items ≡ []
+abbrev pub IsNothing : Result (List (List Message)) Unread → Type 0
+IsNothing (Ok entries) = entries ≡ []
 IsNothing (Err fault) = ⊥
 
 -- the entries or the fault of one node more are noted
-abbrev pub Notes : Result (Vec (Option Message) Global) Unread → ReadSoFar → ReadSoFar → ℕ → Type 0
-Notes (Ok entries) old new place = (new.left.items ≡ old.left.items ++ entries.items ∷ []) × (new.faulty.items ≡ old.faulty.items)
+abbrev pub Notes : Result (List (List Message)) Unread → ReadSoFar → ReadSoFar → ℕ → Type 0
+Notes (Ok entries) old new place = (new.left.items ≡ old.left.items ++ entries ∷ []) × (new.faulty.items ≡ old.faulty.items)
 Notes (Err (unread.Refused refusal)) old new place = (new.left.items ≡ old.left.items ++ [] ∷ []) × (new.faulty.items ≡ old.faulty.items ++ record { place = place; refusal = refusal } ∷ [])
 Notes (Err unread.Failed) old new place = ⊥
 Notes (Err unread.OutOfMemory) old new place = ⊥
 
 -- a read that failed is answered, and anything else is want of memory
-abbrev pub PassesOn : Result (Unit {0}) SourcesFault → Result (Vec (Option Message) Global) Unread → Type 0
+abbrev pub PassesOn : Result (Unit {0}) SourcesFault → Result (List (List Message)) Unread → Type 0
 PassesOn (Ok done) read = Unit {0}
 PassesOn (Err (sources_fault.Events faulty)) read = ⊥
 PassesOn (Err sources_fault.Read) read = read ≡ Err unread.Failed

@@ -1,17 +1,29 @@
-ghost use Rattle.std.specs.Prelude.{ℕ, ◌≡◌, ◌<◌, ◌+◌, [], List, true, false, OnOk, IfOk, length, map, slice_set};
+ghost use Rattle.std.specs.Prelude.{ℕ, ◌≡◌, ◌<◌, ◌+◌, ◌∷◌, [], List, true, false, OnOk, IfOk, IfSome, IfNone, length, map, slice_set};
 ghost use Rattle.node_laws.specs.Lists.{Lists};
 ghost use Rattle.cedr_plan.specs.declared.plan.PlanNode.{PlanNode};
 ghost use Rattle.cedr_net.specs.Networks.{NetStands};
 ghost use Rattle.plan_serial.specs.Rounds.{ByLine, entries_at};
 ghost use Rattle.plan_serial.specs.Feeding.{MayBeFed, FeedsOne, FeedsEach, StandsAfterRounds, IsSettledAt, behind_first, left_count};
 
-use crate::entries::{Entries, pop_at};
-use cedr_base::OutOfMemory;
+use cedr_base::{Message, OutOfMemory};
 use cedr_net::SerialNet;
+use cedr_source::Entries;
 use std::alloc::Global;
 
-/// Feeds the next line of the node at a place, where it has one: the line's message, if it has one. Whether there was a
-/// line.
+/// Takes the first entry of the node at a place.
+fn pop_at(
+    alloc: Global,
+    left: &mut Vec<Entries>,
+    place: usize,
+) -> Result<Option<Vec<Message>>, OutOfMemory>
+    requires { place < length left.old.items }
+    ensures some { IfOk result (λ entry. IfSome entry (λ messages. (entries_at left.old.items place ≡ messages.items ∷ entries_at left.new.items place) × (left.new.items ≡ slice_set left.old.items place (entries_at left.new.items place)))) }
+    ensures none { IfOk result (λ entry. IfNone entry ((entries_at left.old.items place ≡ []) × (left.new.items ≡ left.old.items))) }
+{
+    left[place].pop(alloc)
+}
+
+/// Feeds the next line of the node at a place, where it has one: the line's messages, in order. Whether there was a line.
 fn feed_one(
     alloc: Global,
     net: &mut SerialNet,
@@ -24,13 +36,12 @@ fn feed_one(
     ensures none { IfOk result (λ fed. fed ≡ false → (entries_at remaining.old.items place ≡ []) × (remaining.new.items ≡ remaining.old.items)) }
     ensures taken { OnOk result (remaining.new.items ≡ slice_set remaining.old.items place (behind_first (entries_at remaining.old.items place))) }
 {
-    match pop_at(remaining, place) {
-        None => Ok(false),
-        Some(None) => Ok(true),
-        Some(Some(message)) => match net.feed(alloc, place, message) {
-            Ok(()) => Ok(true),
-            Err(_) => Err(OutOfMemory),
-        },
+    let Some(messages) = pop_at(alloc, remaining, place)? else {
+        return Ok(false);
+    };
+    match net.feed_all(alloc, place, messages) {
+        Ok(()) => Ok(true),
+        Err(_) => Err(OutOfMemory),
     }
 }
 
@@ -53,8 +64,8 @@ fn feed_each(
     Ok(fed)
 }
 
-/// A round: feeds the next line of each source that has one, in the order of the plan, and then the network settles. A line
-/// without a message takes its turn like any other. Whether a source had a line. Where memory runs out the network and
+/// A round: feeds the next line of each source that has one, in the order of the plan, and then the network settles. All
+/// messages of a line are fed, and a line without a message takes its turn like any other. Whether a source had a line. Where memory runs out the network and
 /// what remains are only to be dropped.
 pub fn feed_round(
     alloc: Global,

@@ -7,14 +7,12 @@
 #![tactic(auto)]
 
 mod answer;
-mod entries;
 mod feeding;
 mod law;
 mod query;
 mod sources;
 
 pub use answer::write_answer;
-pub use entries::Entries;
 pub use feeding::{feed_all, feed_round};
 pub use law::{fed_sources, lines_read};
 pub use query::{answer_rows, answer_sources};

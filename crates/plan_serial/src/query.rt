@@ -12,12 +12,12 @@ ghost use Rattle.plan_serial.specs.Feeding.{AreSources, AnswersInRounds, IsWhole
 ghost use Rattle.plan_serial.specs.Rounds.{all_messages};
 
 use crate::answer::write_answer;
-use crate::entries::Entries;
 use crate::feeding::feed_all;
 use crate::law::fed_sources;
 use cedr_base::{OutOfMemory, Row};
 use cedr_net::{SerialNet, network_runs};
 use cedr_plan::{Plan, PlanNode};
+use cedr_source::Entries;
 use plan_answer::has_memory;
 use std::alloc::Global;
 

@@ -10,12 +10,11 @@ ghost use Rattle.plan_serial.specs.Sources.{AnswersFile, AnswersSources, CountsS
 ghost use Rattle.plan_answer.specs.Sources.{AsksFirst, AsksSource, AreTold, file_of, files_of, source_files};
 ghost use Rattle.cedr_text.specs.Shapes.{ShapeHasTypes};
 
-use crate::entries::Entries;
-use cedr_base::{FieldType, Message, OutOfMemory};
+use cedr_base::{FieldType, OutOfMemory};
 use cedr_guard::message_laws;
 use cedr_io::{Files, OutsideFault};
 use cedr_plan::{NodeKind, PlanNode};
-use cedr_source::{Unread, read_by_line};
+use cedr_source::{Entries, Unread, read_by_line};
 use cedr_text::Shape;
 use plan_answer::FaultySource;
 use std::alloc::Global;
@@ -42,10 +41,10 @@ fn read_file<F: Files>(
     files: &mut F,
     name: &[u8],
     types: &[FieldType],
-) -> Result<Vec<Option<Message>>, Unread>
+) -> Result<Entries, Unread>
     requires { F.faults files.old < last_count }
     ensures answer { IfSome (F.content files.old name.now) (λ all. AnswersFile result types.now all) }
-    ensures legal { IfOk result (λ entries. IsLegal (messages_in entries.items)) }
+    ensures legal { IfOk result (λ entries. IsLegal (messages_in entries)) }
     ensures counted { CountsSource result (F.faults files.old) (F.faults files.new) }
     ensures asked { AsksSource result (F.asked files.old) (F.asked files.new) (name.now ∷ []) }
     ensures contents { (n : List ℕ) → F.content files.new n ≡ F.content files.old n }
@@ -63,15 +62,11 @@ fn read_file<F: Files>(
 }
 
 /// What a node gives: the messages of a source's file line by line, and nothing where it is no source.
-fn read_node<F: Files>(
-    alloc: Global,
-    files: &mut F,
-    node: &PlanNode,
-) -> Result<Vec<Option<Message>>, Unread>
+fn read_node<F: Files>(alloc: Global, files: &mut F, node: &PlanNode) -> Result<Entries, Unread>
     requires { F.faults files.old < last_count }
     ensures answer { is_source node.now.kind ≡ true → IfSome (F.content files.old (file_of node.now.kind)) (λ all. AnswersFile result node.now.types.items all) }
     ensures none { is_source node.now.kind ≡ false → IsNothing result }
-    ensures legal { IfOk result (λ entries. IsLegal (messages_in entries.items)) }
+    ensures legal { IfOk result (λ entries. IsLegal (messages_in entries)) }
     ensures counted { CountsSource result (F.faults files.old) (F.faults files.new) }
     ensures asked { AsksSource result (F.asked files.old) (F.asked files.new) (files_of node.now) }
     ensures contents { (n : List ℕ) → F.content files.new n ≡ F.content files.old n }
@@ -79,7 +74,7 @@ fn read_node<F: Files>(
     if let NodeKind::Source { file } = &node.kind {
         return read_file(alloc, files, file.bytes(), node.types.as_slice());
     }
-    Ok(Vec::new(alloc))
+    Ok(Entries::new(alloc))
 }
 
 /// What was read of the sources so far: what each node has to give, and the sources that aren't accepted.
@@ -95,15 +90,15 @@ impl ReadSoFar {
         &mut self,
         alloc: Global,
         place: usize,
-        read: Result<Vec<Option<Message>>, Unread>,
+        read: Result<Entries, Unread>,
     ) -> Result<(), SourcesFault>
         ensures noted { OnOk result (Notes read self.old self.new place) }
         ensures fault { PassesOn result read }
     {
         match read {
-            Ok(entries) => self.push(Entries::from_vec(entries)),
+            Ok(entries) => self.push(entries),
             Err(Unread::Refused(refusal)) => {
-                self.push(Entries::from_vec(Vec::new(alloc)))?;
+                self.push(Entries::new(alloc))?;
                 self.blame(FaultySource { place, refusal })
             }
             Err(Unread::Failed) => Err(SourcesFault::Read),

@@ -88,11 +88,7 @@ fn stage_copies(
 }
 
 /// Sets a message down at each out edge: copies of it, and at the last one the message itself.
-pub(crate) fn stage_each(
-    alloc: Global,
-    list: &mut Vec<Outlet>,
-    message: Message,
-) -> Result<(), OutOfMemory>
+fn stage_each(alloc: Global, list: &mut Vec<Outlet>, message: Message) -> Result<(), OutOfMemory>
     ensures bare { map bare list.new.items ≡ map bare list.old.items }
     ensures totals { map total_of list.new.items ≡ map total_of list.old.items }
     ensures ok { OnOk result ((staged : List Sent) → AllStaged staged list.old.items → AllStaged (staged ++ message ∷ []) list.new.items) }

@@ -9,7 +9,6 @@ ghost use Rattle.worker_outlets.specs.Outlets.{PutSoFar, NonePending, SomePendin
 
 use crate::fan::{
     Puts, all_over, close_each, commit_each, count_sent, edges_of, outlets_of, put_each, stage_all,
-    stage_each,
 };
 use crate::last::Last;
 use crate::outlet::Outlet;
@@ -75,17 +74,8 @@ impl Outlets {
         all_over(&self.list)
     }
 
-    /// Sets a message down at each edge: copies of it, and at the last edge the message itself. Where memory runs out
-    /// some edges have it and some don't, and none of it is pending.
-    pub fn stage(&mut self, alloc: Global, message: Message) -> Result<(), OutOfMemory>
-        ensures bare { map bare self.new ≡ map bare self.old }
-        ensures totals { map total_of self.new ≡ map total_of self.old }
-        ensures ok { OnOk result ((staged : List Sent) → AllStaged staged self.old → AllStaged (staged ++ message ∷ []) self.new) }
-    {
-        stage_each(alloc, &mut self.list, message)
-    }
-
-    /// The same for messages, one after the other.
+    /// Sets messages down at each edge, one after the other: copies of each, and at the last edge the message itself.
+    /// Where memory runs out some edges have some of them, and none is pending.
     pub fn stage_all(&mut self, alloc: Global, piece: Vec<Message>) -> Result<(), OutOfMemory>
         ensures bare { map bare self.new ≡ map bare self.old }
         ensures totals { map total_of self.new ≡ map total_of self.old }

@@ -1,5 +1,5 @@
 use Rattle.std.proofs.Common.{Vec, Global, Err, ◌∙◌, subst}
-use Rattle.plan_serial.specs.declared.entries.Entries.{Entries}
+use Rattle.cedr_source.specs.declared.entries.Entries.{Entries}
 use Rattle.plan_answer.specs.Sources.{source_files}
 use Rattle.cedr_run.specs.Seen.{seen_files}
 use Rattle.cedr_run.specs.Steps.{CountsStep}

@@ -15,7 +15,7 @@ loop-reading-smaller g c =
     let part = take count c.read.new.buf in
     let took = c.in_ok-take_block.ensures.took c.args.shape inv.bytes inv.reads in
     let some : 0 < length part = omega (arith, length-take count c.read.new.buf, c.in_ok-count.ensures.within, c.if-count-eq0.false) in
-    less_room c.loop-reading.reading.lines c.take_block.new.self.lines c.args.shape inv.bytes part _ _ inv.reads took.0 some (not_closed c.take_block.new.self c.args.shape (inv.bytes ++ part) c.take_block.ensures.goes_on took)
+    less_room c.loop-reading.reading.lines c.take_block.new.self.lines c.args.shape inv.bytes part _ _ inv.reads.reads took.0.reads some (not_closed c.take_block.new.self c.args.shape (inv.bytes ++ part) c.take_block.ensures.goes_on took)
 
 pub loop-reading-preserved : goal.loop-reading-preserved
 loop-reading-preserved g c =

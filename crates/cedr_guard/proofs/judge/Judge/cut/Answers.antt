@@ -12,7 +12,7 @@ index_mut-requires c = omega (arith, c.requires, c.args.self.now.intervals.ok.0)
 pub returns : goal.returns
 returns c = λ before id stands at none.
     let no_row : Row = record { end = 0; begin = 0; payload = [] } in
-    let row = get_or (rows_among before before) c.args.place no_row in
+    let row = get_or (rows_among before) c.args.place no_row in
     let there = stands.places id ∙ at in
     let here = interval_here c.args.self.now before id c.args.place no_row c.index_mut.result.now stands there in
     let fault = ap (λ event. retraction_fault event c.args.end (guarantee_of before)) (sym (event_here c.args.self.now before id c.args.place no_row stands there)) ∙ none in

@@ -16,5 +16,5 @@ returns c = if_ok c.living_rows.result
     (λ rows made lines are.
     made
     ∙ (ap (λ intervals. living_rows intervals c.args.self.payloads.items) (c.into_intervals.ensures lines are.judge)
-    ∙ (ap (living_rows (map interval_of (rows_among lines lines))) are.payloads ∙ rows_from (rows_among lines lines))))
+    ∙ (ap (living_rows (map interval_of (rows_among lines))) are.payloads ∙ rows_from (rows_among lines))))
     c.living_rows.ensures

@@ -1,54 +1,79 @@
-use Rattle.std.proofs.Common.{◌≡◌, inl, inr, refl, Option, Some, ap, sym, ◌∙◌, subst}
+use Rattle.std.proofs.Common.{◌++◌, ◌∷◌, [], inl, inr, List, length, refl, ap, sym, ◌∙◌, subst, arith}
+use Rattle.std.proofs.lemmas.List.{length-append}
+use Rattle.cedr_base.specs.declared.change.Message.{Message}
+use Rattle.cedr_base.specs.declared.change.Message.TheVariants as message
 use Rattle.cedr_guard.specs.Messages.{messages_in}
+use Rattle.cedr_source.specs.declared.read.Reading.{Reading}
 use Rattle.cedr_source.specs.declared.step.SourceStep.{SourceStep}
-use Rattle.cedr_source.specs.declared.step.SourceStep.TheVariants as step
-use Rattle.cedr_source.specs.Steps.{TellsEntry, TellsLine}
-use Rattle.cedr_source.proofs.ByLineLemmas.{message_entry, empty_entry, other_entry, all_entries}
+use Rattle.cedr_source.specs.Reads.{lines_left}
+use Rattle.cedr_source.specs.Steps.{Waits, IsClosedSource, IsRefused, AnswersStep, AnswersEntry, TakesLine}
+use Rattle.cedr_source.specs.Whole.{read_entries}
+use Rattle.cedr_source.proofs.EntryLemmas.{empty_held, entry_held, same_entries, still_held}
 use Rattle.cedr_source.proofs.read.Reading.take_all.Goals as goal
 
-pub loop-message-preserved-in-Continue-branch-4 : goal.loop-message-preserved-in-Continue-branch-4
-loop-message-preserved-in-Continue-branch-4 c = record {
-  reads = λ shape bytes h.
-      message_entry c.in_ok-message.field-0 c.in-Some-Message.message c.take_line.new.self shape bytes c.loop-message.self.entries.items c.push.new.self.items (c.in-Some-Message.is ∙ ap (λ (s : SourceStep). Some s) c.in-Some-Message.field-0-is) c.in_ok-push-in-Some-Message.ensures.items
-      (c.in_ok-message.ensures.by_line shape bytes c.loop-message.self.entries.items (c.loop-message.invariant.reads shape bytes h));
-  finished = c.take_line.ensures.finished ∙ c.loop-message.invariant.finished;
+pub loop-self-preserved-then-was_empty : goal.loop-self-preserved-then-was_empty
+loop-self-preserved-then-was_empty c = record {
+  holds = λ shape bytes h.
+      let old = c.loop-self.self in
+      let held = c.loop-self.invariant.holds shape bytes h in
+      let a = c.in_ok-take_line.ensures.answered in
+      let new : Reading = record { lines = c.take_line.new.self; counts = old.counts; messages = c.take_line.new.out } in
+      empty_held old new a.appended.added shape bytes held
+      (subst (λ (s : SourceStep). AnswersEntry s c.take_line.new.self shape bytes (read_entries old) a.appended.added) c.in-Line.is (a.by_line shape bytes (read_entries old) held.reads))
+      (sym c.was_empty.ensures ∙ c.if-was_empty.true) a.appended.all refl;
+  finished = c.take_line.ensures.finished ∙ c.loop-self.invariant.finished;
 }
 
-pub loop-message-preserved-then-was_empty : goal.loop-message-preserved-then-was_empty
-loop-message-preserved-then-was_empty c = record {
-  reads = λ shape bytes h.
-      empty_entry c.in_ok-message.field-0 c.take_line.new.self shape bytes c.loop-message.self.entries.items c.in-None.is (sym c.was_empty.ensures ∙ c.if-was_empty.true)
-      (c.in_ok-message.ensures.by_line shape bytes c.loop-message.self.entries.items (c.loop-message.invariant.reads shape bytes h));
-  finished = c.take_line.ensures.finished ∙ c.loop-message.invariant.finished;
+pub loop-self-preserved : goal.loop-self-preserved
+loop-self-preserved c = record {
+  holds = λ shape bytes h.
+      let old = c.loop-self.self in
+      let held = c.loop-self.invariant.holds shape bytes h in
+      let a = c.in_ok-take_line.ensures.answered in
+      let new : Reading = record { lines = c.take_line.new.self; counts = c.push.new.self; messages = c.take_line.new.out } in
+      entry_held old new a.appended.added _ shape bytes held
+      (subst (λ (s : SourceStep). AnswersEntry s c.take_line.new.self shape bytes (read_entries old) a.appended.added) c.in-Line-2.is (a.by_line shape bytes (read_entries old) held.reads))
+      (sym c.was_empty.ensures ∙ c.if-was_empty.false) a.appended.all c.in_ok-push-in-Line-2.ensures.items
+      (omega (arith, c.len.ensures, c.len-before.ensures, c.take_line.new.out.ok.0, old.messages.ok.0, ap length a.appended.all, length-append old.messages.items a.appended.added));
+  finished = c.take_line.ensures.finished ∙ c.loop-self.invariant.finished;
 }
 
-pub loop-message-preserved : goal.loop-message-preserved
-loop-message-preserved c = record {
-  reads = λ shape bytes h.
-      other_entry c.in_ok-message.field-0 c.take_line.new.self shape bytes c.loop-message.self.entries.items c.push-in-None-2.new.self.items c.in-None.is (sym c.was_empty.ensures ∙ c.if-was_empty.false) c.in_ok-push-in-None-2.ensures.items
-      (c.in_ok-message.ensures.by_line shape bytes c.loop-message.self.entries.items (c.loop-message.invariant.reads shape bytes h));
-  finished = c.take_line.ensures.finished ∙ c.loop-message.invariant.finished;
-}
-
-pub returns-in-Some-NotYet-clause-took : goal.returns-in-Some-NotYet-clause-took
-returns-in-Some-NotYet-clause-took c = λ shape bytes h.
-    let given = c.loop-message.self.entries.items in
-    let now = c.loop-message.invariant.reads shape bytes h in
-    let is : c.in_ok-message.field-0 ≡ Some step.NotYet = c.in-Some-NotYet.is ∙ ap (λ (s : SourceStep). Some s) c.in-Some-NotYet.field-0-is in (
-      subst (λ (said : Option SourceStep). TellsEntry said c.take_line.new.self shape bytes given) is (c.in_ok-message.ensures.by_line shape bytes given now),
-      inl (subst (λ (said : Option SourceStep). TellsLine said c.take_line.new.self shape bytes (messages_in given)) is (c.in_ok-message.ensures.said shape bytes (messages_in given) now.reads)).1,
+pub returns-in-NotYet-clause-took : goal.returns-in-NotYet-clause-took
+returns-in-NotYet-clause-took c = λ shape bytes h.
+    let old = c.loop-self.self in
+    let held = c.loop-self.invariant.holds shape bytes h in
+    let a = c.in_ok-take_line.ensures.answered in
+    let new : Reading = record { lines = c.take_line.new.self; counts = old.counts; messages = c.take_line.new.out } in
+    let none = subst (λ (s : SourceStep). TakesLine s (lines_left old.lines) (lines_left new.lines) a.appended.added) c.in-NotYet.is a.takes in
+    let entry = subst (λ (s : SourceStep). AnswersEntry s c.take_line.new.self shape bytes (read_entries old) a.appended.added) c.in-NotYet.is (a.by_line shape bytes (read_entries old) held.reads) in
+    let said = subst (λ (s : SourceStep). AnswersStep s c.take_line.new.self shape bytes (messages_in (read_entries old)) a.appended.added) c.in-NotYet.is (a.says shape bytes (messages_in (read_entries old)) held.reads.reads) in (
+      still_held old new a.appended.added shape bytes none a.appended.all refl held entry,
+      inl (subst (λ (es : List (List Message)). Waits new.lines shape bytes (messages_in es)) (sym (same_entries old new a.appended.added none a.appended.all refl)) said.1),
     )
 
-pub returns-in-Some-Closed-clause-took : goal.returns-in-Some-Closed-clause-took
-returns-in-Some-Closed-clause-took c = λ shape bytes h.
-    let given = c.loop-message.self.entries.items in
-    let now = c.loop-message.invariant.reads shape bytes h in
-    let is : c.in_ok-message.field-0 ≡ Some step.Closed = c.in-Some-Closed.is ∙ ap (λ (s : SourceStep). Some s) c.in-Some-Closed.field-0-is in
-    let entry = subst (λ (said : Option SourceStep). TellsEntry said c.take_line.new.self shape bytes given) is (c.in_ok-message.ensures.by_line shape bytes given now) in
-    (entry.0, inr (all_entries c.take_line.new.self _ shape bytes given refl refl (subst (λ (said : Option SourceStep). TellsLine said c.take_line.new.self shape bytes (messages_in given)) is (c.in_ok-message.ensures.said shape bytes (messages_in given) now.reads)) entry))
+pub returns-in-Closed-clause-took : goal.returns-in-Closed-clause-took
+returns-in-Closed-clause-took c = λ shape bytes h.
+    let old = c.loop-self.self in
+    let held = c.loop-self.invariant.holds shape bytes h in
+    let a = c.in_ok-take_line.ensures.answered in
+    let new : Reading = record { lines = c.take_line.new.self; counts = old.counts; messages = c.take_line.new.out } in
+    let none = subst (λ (s : SourceStep). TakesLine s (lines_left old.lines) (lines_left new.lines) a.appended.added) c.in-Closed.is a.takes in
+    let entry = subst (λ (s : SourceStep). AnswersEntry s c.take_line.new.self shape bytes (read_entries old) a.appended.added) c.in-Closed.is (a.by_line shape bytes (read_entries old) held.reads) in
+    let said = subst (λ (s : SourceStep). AnswersStep s c.take_line.new.self shape bytes (messages_in (read_entries old)) a.appended.added) c.in-Closed.is (a.says shape bytes (messages_in (read_entries old)) held.reads.reads) in
+    let same = same_entries old new a.appended.added none a.appended.all refl in (
+      still_held old new a.appended.added shape bytes none a.appended.all refl held entry.0,
+      inr (record {
+        closed = subst (λ (es : List (List Message)). IsClosedSource new.lines shape bytes (messages_in es)) (sym same) said.1;
+        all = ap (λ (es : List (List Message)). es ++ (message.End ∷ []) ∷ []) same ∙ entry.1;
+      }),
+    )
 
-pub returns-in-Some-Refused-clause-took : goal.returns-in-Some-Refused-clause-took
-returns-in-Some-Refused-clause-took c = λ shape bytes h.
-    let given = c.loop-message.self.entries.items in
-    let is : c.in_ok-message.field-0 ≡ Some (step.Refused c.in-Some-Refused.refusal) = c.in-Some-Refused.is ∙ ap (λ (s : SourceStep). Some s) c.in-Some-Refused.field-0-is in
-    subst (λ (said : Option SourceStep). TellsLine said c.take_line.new.self shape bytes (messages_in given)) is (c.in_ok-message.ensures.said shape bytes (messages_in given) (c.loop-message.invariant.reads shape bytes h).reads)
+pub returns-in-Refused-clause-took : goal.returns-in-Refused-clause-took
+returns-in-Refused-clause-took c = λ shape bytes h.
+    let old = c.loop-self.self in
+    let held = c.loop-self.invariant.holds shape bytes h in
+    let a = c.in_ok-take_line.ensures.answered in
+    let new : Reading = record { lines = c.take_line.new.self; counts = old.counts; messages = c.take_line.new.out } in
+    let none = subst (λ (s : SourceStep). TakesLine s (lines_left old.lines) (lines_left new.lines) a.appended.added) c.in-Refused.is a.takes in
+    let said = subst (λ (s : SourceStep). AnswersStep s c.take_line.new.self shape bytes (messages_in (read_entries old)) a.appended.added) c.in-Refused.is (a.says shape bytes (messages_in (read_entries old)) held.reads.reads) in
+    subst (λ (es : List (List Message)). IsRefused new.lines shape bytes (messages_in es) c.in-Refused.refusal) (sym (same_entries old new a.appended.added none a.appended.all refl)) said
