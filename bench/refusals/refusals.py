@@ -89,8 +89,9 @@ def plan(first: str, inner: str) -> bytes:
     return ('{"version":1,"edge":1,"nodes":[\n' + ",\n".join([*sources, *nodes, output]) + "]}\n").encode()
 
 
-A, B = b"+,1,1,9,x,1\n+,2,4,6,y,-2\n=,4\n-,1,5\n", b'+,1,2,8,x,3\n+,2,5,inf,"y,",4\n+,3,1,3,x,5\n'
-SCRIPT = b"a,+,1,1,9,x,1\nb,+,1,2,8,x,3\n?\na,-,1,5\nb,=,7\n?\n"
+A = b'+,1,1,9,x,1\n+,2,4,6,y,-2\n~,2,4,7,"y,",-1\n=,4\n-,1,5\n'
+B = b'+,1,2,8,x,3\n+,2,5,inf,"y,",4\n+,3,1,3,x,5\n~,3,2,4,x,6\n'
+SCRIPT = b"a,+,1,1,9,x,1\nb,+,1,2,8,x,3\n?\na,~,1,1,7,x,2\na,-,1,5\nb,=,7\n?\n"
 FILES = {
     "strong.json": plan(STRONG, STRONG), "middle.json": plan(MIDDLE, MIDDLE), "weak.json": plan(WEAK, MIDDLE),
     "faulty.json": plan('"odd"', MIDDLE), "a.csv": A, "b.csv": B, "script.txt": SCRIPT, "faulty.txt": SCRIPT + b"a\n",

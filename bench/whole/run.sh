@@ -5,6 +5,7 @@
 # of the quickest of RUNS runs.
 #
 #   history         an event file of 2^26 bytes; beside `sort`, by keys and of whole lines, and `wc -l`
+#   revised         an event file of 2^26 bytes of which every fourth line is a revision; beside the file without these
 #   join            two sources of SIZE events each, of 100 machines, joined by machine; beside Python over SQLite
 #   join_group      the same join, and then counts and sums by machine
 #   sequence        an event of the one and within 100 an event of the other source of the same machine
@@ -22,7 +23,7 @@ program=$here/../../crates/cedr/out/cedr
 size=${1:-100000}
 runs=${2:-3}
 if [ $# -gt 2 ]; then shift 2; workloads=("$@"); else
-  workloads=(history join join_group sequence unless keyed chain make)
+  workloads=(history revised join join_group sequence unless keyed chain make)
 fi
 if ! [ -x "$program" ]; then echo "build the program first: $program isn't there"; exit 2; fi
 folder=$(mktemp -d)
@@ -94,6 +95,15 @@ for workload in "${workloads[@]}"; do
       show history sort
       show history sort_lines
       show history wc
+      ;;
+    revised)
+      rm -f baseline_ran*
+      python3 "$here/revised.py" 67108864 > revised.csv
+      grep -v '^~' revised.csv > inserted.csv
+      timed revised "$program" history revised.csv
+      timed inserted "$program" history inserted.csv
+      show revised revised
+      show revised inserted
       ;;
     make)
       if [ "$size" -le 100000 ]; then
