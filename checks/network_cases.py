@@ -49,8 +49,23 @@ def one(op: str, members: str = "", *types: str) -> bytes:
     return plan(source("s", *types), node("w", op, "s", members), output("w"))
 
 
+def newer(op: str, members: str = "", *types: str) -> bytes:
+    """The same in version 2."""
+    return newest(one(op, members, *types))
+
+
 def two(op: str, members: str) -> bytes:
     return plan(source("a"), source("b"), node("q", op, "a b", members), output("q"))
+
+
+def at_least(number: int, where: str = "") -> bytes:
+    """So many of three sources, in version 2."""
+    members = f'"number":{number},"scope":10,"where":[{where}]'
+    return newest(plan(source("a"), source("b"), source("c"), node("q", "atleast", "a b c", members), output("q")))
+
+
+def newest(data: bytes) -> bytes:
+    return data.replace(b'"version":1', b'"version":2')
 
 
 def paper(level: str) -> bytes:
@@ -66,8 +81,11 @@ NOW = '{"block":0,"memory":0}'
 JOIN = plan(source("l"), source("r"), node("j", "join", "l r", '"where":[]'), output("j"))
 COUNTS = one("group", '"keys":[0],"count":true,"sum":[]')
 SUMS = one("group", '"keys":[0],"count":true,"sum":[1]', "text", "int")
+PEAKS = newer("group", '"keys":[0],"count":true,"sum":[],"least":[1],"greatest":[1]', "text", "int")
 SEQUENCE = two("sequence", '"scope":10,"where":[]')
 UNLESS = two("unless", '"scope":10,"hold":1,"where":[]')
+EXCEPT = newest(plan(source("l"), source("r"), node("j", "except", "l r", '"where":[]'), output("j")))
+NO_MATCH = EXCEPT.replace(b'"where":[]', b'"where":[[0,"=",{"column":1}]]')
 THREE = plan(source("a"), source("b"), node("q", "sequence", "a b a", '"scope":10,"where":[]'), output("q"))
 WINDOW = node("w", "window", "s", '"width":3')
 UNION = plan(source("u"), source("v"), node("n", "union", "u v"), output("n", STRONG))
@@ -149,6 +167,13 @@ ANSWERED = [
     ("two rows of a group that touch", "serial", COUNTS, {"s": "+,1,0,2,x / +,2,2,5,x"}, "0,2,x,1 / 2,5,x,1"),
     ("a group of equal rows", "serial", SUMS, {"s": "+,1,0,2,x,3 / +,2,0,2,x,3 / +,3,0,2,y,3"},
      "0,2,x,2,6 / 0,2,y,1,3"),
+    ("least and greatest fields", "run", PEAKS, {"s": "+,1,0,4,x,-3 / +,2,2,4,x,10"}, "0,2,x,1,-3,-3 / 2,4,x,2,-3,10"),
+    ("a least field whose row is withdrawn", "run", PEAKS, {"s": "+,1,0,4,x,-3 / +,2,2,4,x,10 / -,1,2"},
+     "0,2,x,1,-3,-3 / 2,4,x,1,10,10"),
+    ("least and greatest texts", "serial", newer("group", '"keys":[],"count":false,"sum":[],"least":[0],"greatest":[0]'),
+     {"s": "+,1,0,3,b / +,2,1,4,ab / +,3,2,3,c"}, "0,1,b,b / 1,2,ab,b / 2,3,ab,c / 3,4,ab,ab"),
+    ("least and greatest in version 1", "run", PEAKS.replace(b'"version":2', b'"version":1'),
+     {"s": "+,1,0,4,x,-3 / +,2,2,4,x,10"}, "0,2,x,1 / 2,4,x,2"),
     ("a group without a field", "serial", one("group", '"keys":[],"count":false,"sum":[]'),
      {"s": "+,1,0,2,x / +,2,1,3,y"}, "0,1 / 1,2 / 2,3"),
     ("a join of two and two equal rows", "serial", JOIN,
@@ -160,6 +185,28 @@ ANSWERED = [
      two("unless", '"scope":10,"hold":1,"where":[[0,"=",{"column":1}]]'),
      {"a": "+,1,1,20,x / +,2,1,20,y", "b": "+,1,3,4,x"}, "11,12,y"),
     ("what begins with the row doesn't block it", "serial", UNLESS, {"a": "+,1,1,20,x", "b": "+,1,1,2,p"}, "11,12,x"),
+    ("two of three sources, in any order", "run", at_least(2),
+     {"a": "+,1,1,20,a", "b": "+,1,5,6,b", "c": "+,1,12,13,c"}, "5,11,a,b / 12,15,b,c"),
+    ("two of three sources, by their begins and not by their ports", "run", at_least(2),
+     {"a": "+,1,5,20,a", "b": "+,1,1,6,b", "c": ""}, "5,11,b,a"),
+    ("equal begins aren't two", "run", at_least(2), {"a": "+,1,1,20,a", "b": "+,1,1,6,b", "c": ""}, ""),
+    ("one of three sources", "run", at_least(1), {"a": "+,1,1,20,a", "b": "+,1,1,6,b", "c": ""}, "1,11,a / 1,11,b"),
+    ("three of three sources", "serial", at_least(3),
+     {"a": "+,1,9,10,a", "b": "+,1,3,4,b / +,2,10,11,d", "c": "+,1,1,2,c"}, "9,11,c,b,a / 10,11,c,a,d"),
+    ("two rows of one source aren't two", "serial", at_least(2), {"a": "+,1,1,20,a / +,2,5,6,b", "b": "", "c": ""}, ""),
+    ("equal rows among the two", "serial", at_least(2, '[1,"=",{"text":"b"}]'),
+     {"a": "+,1,1,9,a / +,2,1,9,a", "b": "+,1,2,9,b / +,2,3,9,c", "c": "+,1,4,5,b"},
+     "2,11,a,b / 2,11,a,b / 4,11,a,b / 4,11,a,b / 4,12,b,b / 4,13,c,b"),
+    ("the parts beside a row of the other source", "run", EXCEPT, {"l": "+,1,0,10,a / =,8", "r": "+,1,5,7,b / =,5"},
+     "0,5,a / 7,10,a"),
+    ("one part where the other row is withdrawn", "run", EXCEPT,
+     {"l": "+,1,0,10,a / =,8", "r": "+,1,5,7,b / =,5 / -,1,5"}, "0,10,a"),
+    ("no part of a row within the other's", "run", EXCEPT, {"l": "+,1,5,7,a", "r": "+,1,5,7,b"}, ""),
+    ("parts beside rows that overlap, touch and don't match", "serial", NO_MATCH,
+     {"l": "+,1,0,20,a / +,2,0,20,b", "r": "+,1,2,5,a / +,2,4,6,a / +,3,6,8,a / +,4,12,14,a / +,5,20,30,a"},
+     "0,2,a / 8,12,a / 0,20,b / 14,20,a"),
+    ("equal rows of either source of an except", "serial", EXCEPT,
+     {"l": "+,1,0,9,a / +,2,0,9,a", "r": "+,1,0,3,b / +,2,0,3,b"}, "3,9,a / 3,9,a"),
     ("a column kept twice", "serial", one("project", '"keep":[0,0]'), {"s": "+,1,1,2,a"}, "1,2,a,a"),
     ("a window of a row without end", "serial", one("window", '"width":3'), {"s": "+,1,1,inf,a"}, "1,4,a"),
     ("a hop from a multiple", "serial", one("hop", '"every":10,"width":10'), {"s": "+,1,20,21,a"}, "20,30,a"),
@@ -193,6 +240,10 @@ SHOWN = [
      "s,+,1,0,10,x / s,+,2,5,7,x / s,=,5 / ? / s,=,6 / ? / s,=,11 / ?",
      "0,5,x,1 / 5,7,x,2 / 7,10,x,1 / . 0 / 0,5,x,1 / 5,7,x,2 / 7,10,x,1 / . 5 / "
      "0,5,x,1 / 5,7,x,2 / 7,10,x,1 / . 11"),
+    ("a part that ends where a row may go stops the guarantee", EXCEPT,
+     "l,+,1,0,10,a / r,+,1,5,7,b / l,=,8 / r,=,5 / ? / r,=,6 / ?", "0,5,a / 7,10,a / . 0 / 0,5,a / 7,10,a / . 6"),
+    ("a guarantee through two of three sources", at_least(2),
+     "a,+,1,1,20,a / b,+,1,5,6,b / a,=,9 / b,=,8 / c,=,7 / ?", "5,11,a,b / . 7"),
     ("a revision gives a row another life", COUNTS, "s,+,1,0,10,x / s,+,2,5,7,x / s,~,2,6,12,x / ?",
      "0,6,x,1 / 6,10,x,2 / 10,12,x,1 / . 0"),
     ("a row that ends behind the guarantee waits", passing(STRONG), "s,+,1,1,5,a / s,+,2,2,9,b / s,=,6 / ?",

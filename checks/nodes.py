@@ -1,4 +1,5 @@
 """The nodes of an accepted plan, and what each makes of whole tables, by definition and not by speed."""
+import itertools
 import math
 import operator
 from collections import Counter
@@ -13,7 +14,7 @@ LEVELS = {"strong": {"block": "inf", "memory": "inf"}, "middle": {"block": 0, "m
 
 
 class Node(NamedTuple):
-    """A node of a plan: its inputs are the places of the nodes that it reads, and its members those of the plan."""
+    """A node of a plan: its inputs are the places of the nodes that it reads, and its members those of its operator."""
 
     name: str
     op: str
@@ -32,13 +33,14 @@ def read_nodes(data: bytes) -> list:
     """The nodes of an accepted plan. Raises the fault of any other one."""
     document = plan_reference.read_json(data)
     rows = plan_reference.read_plan(document)
+    operators = plan_reference.operators_of(document)
     places = {row[0]: place for place, row in enumerate(rows)}
     nodes = []
     for members, (name, op, *types) in zip(document["nodes"], rows):
         is_source = op == "source"
         level = level_of("middle" if is_source else members.get("level", "middle"))
         inputs = [] if is_source else [places[one] for one in members["from"]]
-        nodes.append(Node(name, op, inputs, *level, types, members))
+        nodes.append(Node(name, op, inputs, *level, types, plan_reference.own_members(operators, members)))
     return nodes
 
 
@@ -66,6 +68,8 @@ def bound(node: Node, tables: list, marks: list) -> int:
         return multiple_below(node.members["every"], least)
     if node.op == "group":
         return min([least] + open_begins(node.members, tables[0], least))
+    if node.op == "except":
+        return min([least] + open_parts(node, tables, least))
     return least
 
 
@@ -154,7 +158,21 @@ def grouped(members: dict, table):
             counted = [sum(count for _, count in inside)] if members["count"] else []
             sums = [sum(row.payload[column] * count for row, count in inside) for column in members["sum"]]
             if inside:
-                yield begin, end, keys + tuple(wrapped(one) for one in counted + sums), 1
+                payloads = [row.payload for row, _ in inside]
+                found = extremes(min, members.get("least", []), payloads)
+                found += extremes(max, members.get("greatest", []), payloads)
+                yield begin, end, keys + tuple(wrapped(one) for one in counted + sums) + tuple(found), 1
+
+
+def extremes(choose, columns: list, payloads: list) -> list:
+    """The least or the greatest field of each column, and none of a column that no payload has."""
+    found = [[payload[column] for payload in payloads if column < len(payload)] for column in columns]
+    return [choose(fields, key=in_order) for fields in found if fields]
+
+
+def in_order(field) -> tuple:
+    """Numbers stand before texts."""
+    return isinstance(field, bytes), field
 
 
 def wrapped(number: int) -> int:
@@ -184,6 +202,38 @@ def sequenced(members: dict, *tables):
             yield begins[-1], later(begins[0], members["scope"]), payload, count
 
 
+def at_least(members: dict, *tables):
+    """Rows one from each of so many different ports whose begins all differ and are within the scope of the least one."""
+    for chosen in itertools.combinations(tables, members["number"]):
+        for choice in itertools.product(*(table.items() for table in chosen)):
+            rows = in_turn(row for row, _ in choice)
+            begins = {row.begin for row in rows}
+            until = later(min(begins), members["scope"])
+            payload = sum((row.payload for row in rows), ())
+            if len(begins) == len(rows) and max(begins) < until and passes(members, payload):
+                yield max(begins), until, payload, math.prod(count for _, count in choice)
+
+
+def in_turn(rows) -> list:
+    return sorted(rows, key=lambda row: row.begin)
+
+
+def excepted(members: dict, table, others):
+    """The longest parts of each row's life that meet the life of no row of the other port that passes with it."""
+    for row, count in table.items():
+        begin = row.begin
+        for other in sorted(others, key=lambda other: other.begin):
+            if passes(members, row.payload + other.payload):
+                yield begin, min(other.begin, row.end), row.payload, count
+                begin = max(begin, other.end)
+        yield begin, row.end, row.payload, count
+
+
+def open_parts(node: Node, tables: list, mark: int) -> list:
+    """The begins of the rows of the result that begin below the mark and end at it or after it."""
+    return [row.begin for row in result(node, tables) if row.begin < mark <= row.end]
+
+
 def unblocked(members: dict, table, blockers):
     for row, count in table.items():
         until = later(row.begin, members["scope"])
@@ -194,4 +244,4 @@ def unblocked(members: dict, table, blockers):
 
 RESULTS = {"select": selected, "project": projected, "union": all_rows, "join": joined, "window": windowed,
            "shift": shifted, "hop": hopped, "starts": started, "ends": ended, "group": grouped,
-           "sequence": sequenced, "unless": unblocked, "output": all_rows}
+           "sequence": sequenced, "unless": unblocked, "atleast": at_least, "except": excepted, "output": all_rows}

@@ -16,9 +16,8 @@ from pathlib import Path
 sys.dont_write_bytecode = True
 
 import pipes
-import random_plans
 from program import Check, built_program
-from random_operators import History, random_history
+from random_operators import OPERATORS, History, random_history
 
 HISTORIES = 2_400
 
@@ -57,7 +56,7 @@ def main() -> int:
         check = Check(built_program("op_cases", ""), Path(folder), ".txt")
         kinds = compare_all(check, seeds)
     changes = ", ".join(f"{kinds[kind]} {kind}" for kind in ("additions", "cuts", "withdrawals", "marks"))
-    print(f"operators: {kinds['histories']} random histories of {len(random_plans.OPERATORS)} operators ({changes}), "
+    print(f"operators: {kinds['histories']} random histories of {len(OPERATORS)} operators ({changes}), "
           f"{kinds['rows']} rows and {kinds['bounds']} bounds: {check.differences} differences")
     return 1 if check.differences else 0
 

@@ -14,9 +14,9 @@ def refused(name: str, data: bytes, fault: int, node: int) -> Case:
     return Case(name, data, 2, b"", f"plan fault {fault} node {node}\n".encode())
 
 
-def plan(*nodes: str, first: str = "") -> bytes:
+def plan(*nodes: str, first: str = "", version: int = 1) -> bytes:
     """A document of these nodes, with other members in front of them."""
-    return ('{"version":1,' + first + '"nodes":[\n ' + ",\n ".join(nodes) + "]}\n").encode()
+    return (f'{{"version":{version},' + first + '"nodes":[\n ' + ",\n ".join(nodes) + "]}\n").encode()
 
 
 def source(name: str, *types: str) -> str:
@@ -37,6 +37,9 @@ def output(port: str = "x") -> str:
 S = source("s", "text", "int")
 W = source("w", *["int"] * 9)
 Z = [0] * 17
+SUMMED = '"keys":[0],"count":true,"sum":[1],'
+BARE = '"keys":[],"count":false,"sum":[],'
+OF = [f'"number":{number},"scope":1,' for number in range(6)]
 GOOD = [S, output("s")]
 GOOD_LINES = "s,source,text,int out,output,text,int"
 
@@ -44,6 +47,11 @@ GOOD_LINES = "s,source,text,int out,output,text,int"
 def one(op: str, members: str = "", ports: str = "s", name: str = "x") -> bytes:
     """The source s with a text and a number, a node over it, and the output."""
     return plan(S, node(op, members, ports, name), output())
+
+
+def newer(op: str, members: str = "", ports: str = "s") -> bytes:
+    """The same in version 2."""
+    return plan(S, node(op, members, ports), output(), version=2)
 
 
 def tests(*texts: str) -> str:
@@ -73,20 +81,34 @@ MEMBERS = [
 ]
 
 
+# The same of the operators of version 2.
+NEWER_MEMBERS = [
+    ("atleast", "s s", ['"number":1', '"scope":1', '"where":[]'], ",text,int",
+     ['"number":2', f'"scope":{LONGEST}', tests(*['[3,"=",{"column":1}]'] * 16)], ",text,int" * 2),
+    ("except", "s s", ['"where":[]'], ",text,int", [tests(*['[3,"=",{"column":1}]'] * 16)], ",text,int"),
+]
+
+
 def each_operator():
-    for op, ports, least, least_types, greatest, greatest_types in MEMBERS:
-        yield accepted(f"{op} at its least", one(op, ",".join(least), ports), lines(op, least_types))
-        yield accepted(f"{op} at its greatest", one(op, ",".join(greatest), ports), lines(op, greatest_types))
-        for place, member in enumerate(least):
-            name = member.split(":")[0]
-            rest = least[:place] + least[place + 1 :]
-            yield refused(f"{op} without {name}", one(op, ",".join(rest), ports), 3, 2)
-            for kind in ("null", "{}", '"1"', "[[]]"):
-                yield refused(f"{op} with {name} {kind}", one(op, ",".join(rest + [f"{name}:{kind}"]), ports), 3, 2)
-            if member.endswith(":1"):
-                for number in NO_SPANS:
-                    data = one(op, ",".join(rest + [f"{name}:{number}"]), ports)
-                    yield refused(f"{op} with {name} {number}", data, 6, 2)
+    for members in MEMBERS:
+        yield from of_operator(one, *members)
+    for members in NEWER_MEMBERS:
+        yield from of_operator(newer, *members)
+
+
+def of_operator(make, op: str, ports: str, least: list, least_types: str, greatest: list, greatest_types: str):
+    yield accepted(f"{op} at its least", make(op, ",".join(least), ports), lines(op, least_types))
+    yield accepted(f"{op} at its greatest", make(op, ",".join(greatest), ports), lines(op, greatest_types))
+    for place, member in enumerate(least):
+        name = member.split(":")[0]
+        rest = least[:place] + least[place + 1 :]
+        yield refused(f"{op} without {name}", make(op, ",".join(rest), ports), 3, 2)
+        for kind in ("null", "{}", '"1"', "[[]]"):
+            yield refused(f"{op} with {name} {kind}", make(op, ",".join(rest + [f"{name}:{kind}"]), ports), 3, 2)
+        if member.endswith(":1"):
+            for number in NO_SPANS:
+                data = make(op, ",".join(rest + [f"{name}:{number}"]), ports)
+                yield refused(f"{op} with {name} {number}", data, 6, 2)
 
 
 NO_SPANS = ["0", "-0", "-1", "1.0", "1e0", "2.5", str(LONGEST + 1), str(2**63 - 1), str(2**63), str(2**64 - 1),
@@ -122,6 +144,35 @@ ACCEPTED = [
     ("a group without a count", one("group", '"keys":[1],"count":false,"sum":[1]'), lines("group", ",int,int")),
     ("a group by a number, with a count", one("group", '"keys":[1,0],"count":true,"sum":[]'),
      lines("group", ",int,text,int")),
+    ("a group of version 2 that says what one of version 1 does", newer("group", '"keys":[0],"count":true,"sum":[1]'),
+     lines("group", ",text,int,int")),
+    ("least and greatest fields of either type", newer("group", SUMMED + '"least":[1,0],"greatest":[0,0,1]'),
+     lines("group", ",text,int,int,int,text,text,text,int")),
+    ("least fields alone", newer("group", BARE + '"least":[0]'), lines("group", ",text")),
+    ("greatest fields alone", newer("group", BARE + '"greatest":[1],"least":[]'), lines("group", ",int")),
+    ("least and greatest fields up to 16", newer("group", SUMMED + f'"least":{Z[:6]},"greatest":{[1] * 7}'),
+     lines("group", ",text,int,int" + ",text" * 6 + ",int" * 7)),
+    ("least and greatest say nothing in version 1", one("group", SUMMED + '"least":7,"greatest":[-1,99,"x"]'),
+     lines("group", ",text,int,int")),
+    ("least and greatest say nothing of another operator", newer("starts", '"least":7,"greatest":[9]'),
+     lines("starts", ",text,int")),
+    ("one of two inputs", newer("atleast", OF[1] + tests('[0,"=",{"column":0}]'), "s s"), lines("atleast", ",text,int")),
+    ("three of four inputs, whose tests see three payloads",
+     newer("atleast", OF[3] + tests('[5,"=",{"column":1}]', '[4,"=",{"column":0}]'), "s s s s"),
+     lines("atleast", ",text,int" * 3)),
+    ("one of two wide inputs", plan(W, node("atleast", OF[1] + '"where":[]', "w w"), output(), version=2),
+     f"w,source{',int' * 9} x,atleast{',int' * 9} out,output{',int' * 9}"),
+    ("four inputs without a field", plan(source("e"), node("atleast", OF[4] + '"where":[]', "e e e e"), output(),
+                                         version=2), "e,source x,atleast out,output"),
+    ("a number says nothing of a sequence", newer("sequence", '"number":7,"scope":1,"where":[]', "s s"),
+     lines("sequence", ",text,int" * 2)),
+    ("an except whose tests see both payloads", newer("except", tests('[3,"=",{"column":1}]'), "s s"),
+     lines("except", ",text,int")),
+    ("an except whose tests see over 16 columns",
+     plan(W, node("except", tests('[17,"=",{"column":0}]'), "w w"), output(), version=2),
+     f"w,source{',int' * 9} x,except{',int' * 9} out,output{',int' * 9}"),
+    ("an except of two types", plan(S, F, node("except", tests('[1,"=",{"column":2}]'), "s f"), output(), version=2),
+     f"s,source,text,int f,source{X4} x,except,text,int out,output,text,int"),
     ("a join left then right", plan(S, F, node("join", '"where":[]', "f s"), output()),
      f"s,source,text,int f,source{X4} x,join{X4},text,int out,output{X4},text,int"),
     ("the six comparisons", one("select", tests(*[f'[1,"{word}",{{"int":0}}]' for word in "= != < <= > >=".split()])),
@@ -143,7 +194,9 @@ ACCEPTED = [
     ("members that mean nothing", plan(*GOOD, first='"Edge":0,"op":null,"name":[],"":{"a":[1,{}]},').replace(
         b'"op":"output"', b'"op":"output","edge":0,"width":0,"file":3'), GOOD_LINES),
     # Of a member that stands twice the last value counts.
-    ("two versions", plan(*GOOD, first='"version":2,"version":1,'), GOOD_LINES),
+    ("two versions", plan(*GOOD, first='"version":3,"version":1,'), GOOD_LINES),
+    ("version 2", plan(*GOOD, version=2), GOOD_LINES),
+    ("version 2 behind version 1", plan(*GOOD, first='"version":2,'), GOOD_LINES),
     ("two versions, the first of another kind",
      plan(*GOOD).replace(b'"version"', b'"version":{},"version"'), GOOD_LINES),
     ("three edges", plan(*GOOD, first='"edge":0,"edge":"x","edge":5,'), GOOD_LINES),
@@ -220,7 +273,7 @@ NODES = '"nodes":[' + ",".join(GOOD) + "]"
 WIDE = f'"keep":{Z}'
 DOCUMENT = [
     *[(f"version {value}", plan(*GOOD).replace(b":1,", f":{value},".encode(), 1), 3) for value in (
-        "1.0", "1e0", "10e-1", "0", "-0", "-1", "2", "true", "null", '"1"', "[1]", str(2**63), str(2**64),
+        "1.0", "1e0", "10e-1", "2.0", "2e0", "0", "-0", "-1", "3", "true", "null", '"1"', "[1]", str(2**63), str(2**64),
         str(2**64 + 1))],
     ("no version", document(NODES), 3),
     ("no nodes", document('"version":1'), 3),
@@ -228,15 +281,15 @@ DOCUMENT = [
     *[(f"edge {value}", plan(*GOOD, first=f'"edge":{value},'), 3) for value in ("null", '"1"', "[]", "{}", "true")],
     *[(f"edge {value}", plan(*GOOD, first=f'"edge":{value},'), 6) for value in (
         "0", "1025", "1.0", "1e2", "-1", "-0", str(2**63), str(2**64), "1e-400")],
-    ("of two versions the last one counts", plan(*GOOD, first='"version":2,'), 3),
+    ("of two versions the last one counts", plan(*GOOD, first='"version":3,'), 3),
     ("of two edges the last one counts", plan(*GOOD, first='"edge":1,"edge":0,'), 6),
     ("of two lists of nodes the last one counts", document(f'"version":1,{NODES},"nodes":7'), 3),
     ("65 nodes", plan(source("n0"), *CHAIN, S, output("n62")), 5),
     ("65 nodes that aren't nodes", plan(*["0"] * 65), 5),
-    ("3 before 5 of the document", plan(*["0"] * 65, first='"version":2,'), 3),
-    ("3 before 6 of the document", plan(*GOOD, first='"edge":0,"version":2,'), 3),
+    ("3 before 5 of the document", plan(*["0"] * 65, first='"version":3,'), 3),
+    ("3 before 6 of the document", plan(*GOOD, first='"edge":0,"version":3,'), 3),
     ("5 before 6 of the document", plan(*["0"] * 65, first='"edge":0,'), 5),
-    ("3 of the document before 3 of a node", plan("0", first='"version":2,'), 3),
+    ("3 of the document before 3 of a node", plan("0", first='"version":3,'), 3),
     ("6 of the document before 3 of a node", plan("0", first='"edge":0,'), 6),
     ("6 of the document before no output", plan(S, first='"edge":0,'), 6),
 ]
@@ -304,6 +357,33 @@ VALUES = [
         test('{"int":1}'), test('{"text":"1"}', "1"), test('{"column":1}'), test(COLUMN, "1", '"!="')]),
 ]
 
+# Values of a group's members `least` and `greatest` in version 2, by their fault.
+EXTREMES = [
+    (3, ["null", "true", "1", '"0"', "{}", '["0"]', "[null]", "[[0]]", "[0,true]", '[-1,"0"]', '[9,"0"]']),
+    (6, ["[-1]", "[0.0]", "[-0]", "[1e0]", f"[{2**64}]", "[9,-1]"]),
+    (10, [str([0] * 14), str([1] * 14), str([9] * 14)]),
+    (11, ["[2]", "[0,1,2]", f"[{2**63}]", f"[{2**64 - 1}]"]),
+]
+
+# Members of version 2's operators of two or more ports, and their ports, by their fault.
+NEWER_FAULTS = [
+    (3, "atleast", OF[2] + '"where":[]', ["", "s"]),
+    (3, "except", '"where":[]', ["", "s"]),
+    (5, "atleast", OF[2] + '"where":[]', ["s s s s s", "s z s s s"]),
+    (5, "except", '"where":[]', ["s s s", "s z s s s"]),
+    (6, "atleast", OF[0] + '"where":[]', ["s s", "s s s s", "z s"]),
+    (6, "atleast", OF[3] + '"where":[]', ["s s", "s z"]),
+    (6, "atleast", OF[4] + '"where":[]', ["s s", "s s s"]),
+    (6, "atleast", OF[5] + '"where":[]', ["s s", "s s s", "s s s s"]),
+    (9, "atleast", OF[2] + '"where":[]', ["s z", "z s", "s s s x"]),
+    (9, "except", tests('[9,"=",{"column":0}]'), ["s z", "z s", "s x"]),
+    (11, "atleast", OF[1] + tests('[2,"=",{"column":0}]'), ["s s", "s s s"]),
+    (11, "atleast", OF[2] + tests('[0,"=",{"column":4}]'), ["s s", "s s s", "s s s s"]),
+    (11, "except", tests('[4,"=",{"column":0}]'), ["s s"]),
+    (12, "atleast", OF[2] + tests('[2,"=",{"column":1}]'), ["s s", "s s s s"]),
+    (12, "except", tests('[2,"=",{"column":1}]'), ["s s"]),
+]
+
 # Operators with their other members, and lists of too few and of too many ports.
 FEW = [
     ("union", "", ["s", ""]), ("join", '"where":[]', ["s"]), ("sequence", '"scope":1,"where":[]', ["s"]),
@@ -322,6 +402,15 @@ def each_value():
     for fault, name, op, before, values in VALUES:
         for value in values:
             yield refused(f"{op} with {name} {value}, of fault {fault}", one(op, f'{before}"{name}":{value}'), fault, 2)
+    for fault, values in EXTREMES:
+        for value in values:
+            for name in ("least", "greatest"):
+                data = newer("group", f'{SUMMED}"{name}":{value}')
+                yield refused(f"a group with {name} {value}, of fault {fault}", data, fault, 2)
+    for fault, op, members, lists in NEWER_FAULTS:
+        for ports in lists:
+            yield refused(f"{op} of {ports!r} with {members}, of fault {fault}", newer(op, members, ports), fault, 2)
+            yield refused(f"{op} of {ports!r} with {members} in version 1", one(op, members, ports), 4, 2)
     for op, members, lists in FEW:
         for ports in lists:
             yield refused(f"too few ports of {op}: {ports!r}", one(op, members, ports), 3, 2)
@@ -352,6 +441,11 @@ SECOND = [
     ("a source of 17 fields", plan(S, source("x", *["int"] * 17), output()), 5),
     ("a join of 18 fields", plan(W, node("join", '"where":[]', "w w"), output()), 10),
     ("a sequence of 18 fields", plan(W, node("sequence", SCOPE + '"where":[]', "w w"), output()), 10),
+    ("at least two of 18 fields", plan(W, node("atleast", OF[2] + '"where":[]', "w w"), output(), version=2), 10),
+    ("a number that isn't whole before a name that isn't there",
+     newer("atleast", '"number":1.0,"scope":1,"where":[]', "s z"), 6),
+    ("a column of another input before inputs of two types",
+     newer("atleast", OF[1] + tests('[2,"=",{"column":0}]'), "s s"), 11),
     ("the output's level", plan(S, node("output", '"level":"weak"', "s", "out")), 7),
     # Of two faults of one node the least is told.
     ("3 before 4", one("y", "", "s", "x-"), 3),
@@ -404,6 +498,11 @@ SECOND = [
     ("11 before 12", one("select", tests('[0,"=",{"int":1}]', '[9,"=",{"column":0}]')), 11),
     ("11 before 12, in one test", one("select", tests('[9,"=",{"text":"a"}]')), 11),
     ("11 before 12, in a group", one("group", '"keys":[9],"count":true,"sum":[0]'), 11),
+    ("11 before 12, by a least column", newer("group", '"keys":[],"count":true,"sum":[0],"least":[9]'), 11),
+    ("a sum of a text beside its least field", newer("group", '"keys":[],"count":true,"sum":[0],"least":[0]'), 12),
+    ("a least column past the end in version 1", one("group", '"keys":[],"count":true,"sum":[0],"least":[9]'), 12),
+    ("a group of version 2 without a sum", newer("group", '"keys":[],"count":true,"least":[0],"greatest":[0]'), 3),
+    ("least and greatest fields over 16", newer("group", SUMMED + f'"least":{Z[:7]},"greatest":{[1] * 7}'), 10),
     # Of two faulty nodes the first is told, whatever its fault.
     ("12 of the second node before 3 of the third",
      plan(S, node("group", '"keys":[],"count":true,"sum":[0]'), "0"), 12),
@@ -420,6 +519,15 @@ THIRD = [
     ("a union of two types", plan(S, source("t", "int", "text"), node("union", "", "s t"), output()), 12),
     ("a union of two widths", plan(S, source("t", "text"), node("union", "", "s t"), output()), 12),
     ("a union whose fourth port differs", plan(S, source("t", "text"), node("union", "", "s s s t"), output()), 12),
+    *[(f"at least {number} of two types",
+       plan(S, source("t", "int", "text"), node("atleast", OF[number] + '"where":[]', ports), output(), version=2), 12)
+      for number in (1, 2) for ports in ("s t", "s s t", "t s")],
+    ("at least one of two types whose test sees a column of the other alone",
+     plan(S, source("t"), node("atleast", OF[1] + tests('[0,"=",{"column":0}]'), "t s"), output(), version=2), 11),
+    ("at least two of two types that are too wide",
+     plan(S, W, node("atleast", OF[2] + '"where":[]', "w s"), output(), version=2), 10),
+    ("an except of two types past the end",
+     plan(S, F, node("except", tests('[0,"=",{"column":6}]'), "s f"), output(), version=2), 11),
     ("a name twice behind other names", plan(S, node("starts"), node("ends", "", "x", "s"), output("s")), 8),
     ("an output with the name of a source", plan(S, node("starts"), node("output", "", "x", "s")), 8),
     ("a join just too wide", plan(W, source("v", *["text"] * 8), node("join", '"where":[]', "w v"), output()), 10),

@@ -31,7 +31,7 @@ def told(name: str, data: bytes, text: str) -> Case:
 
 
 def plans_and_nodes(page: str):
-    """The plan at the top, and each node of the part on operators behind the sources that it names."""
+    """The plan at the top, and each node of the part on operators in version 2, behind the sources that it names."""
     behind = json.loads("[" + SOURCES.search(page)[1] + "]")
     (whole, lines), *nodes = BLOCKS.findall(SOURCES.sub("", page))
     yield Case("the plan of the page", whole.encode(), 0, lines.encode(), b"")
@@ -39,7 +39,7 @@ def plans_and_nodes(page: str):
         node = json.loads(text)
         used = [one for one in behind if one["name"] in node.get("from", [])]
         last = [] if node["op"] == "output" else [{"name": "last", "op": "output", "from": [node["name"]]}]
-        data = json.dumps({"version": 1, "nodes": used + [node] + last}).encode()
+        data = json.dumps({"version": 2, "nodes": used + [node] + last}).encode()
         types = line.removesuffix("\n").split(",")[2:]
         rows = [[one["name"], "source", *one["fields"]] for one in used] + [[node["name"], node["op"], *types]]
         rows += [["last", "output", *types] for _ in last]

@@ -166,7 +166,8 @@ some_types = listed(a_type, FIELD_LIMIT)
 some_columns = listed(a_column, SIZE_LIMIT)
 some_tests = listed(a_test, TEST_LIMIT)
 
-# For each operator the least and the greatest number of ports, and the members beside name, op, from and level.
+# For each operator of version 1 the least and the greatest number of ports, and the members beside name, op, from and
+# level. In version 2 those of NEWER stand beside or in place of these. Optional members are looked at where they are there.
 OPERATORS = {
     "source": (0, 0, {"file": a_text, "fields": some_types}),
     "select": (1, 1, {"where": some_tests}),
@@ -183,20 +184,39 @@ OPERATORS = {
     "unless": (2, 2, {"scope": a_span, "hold": a_span, "where": some_tests}),
     "output": (1, 1, {}),
 }
+NEWER = {
+    "group": (1, 1, {"keys": some_columns, "count": a_flag, "sum": some_columns, "least": some_columns,
+                     "greatest": some_columns}),
+    "atleast": (2, 4, {"number": ranged(1, 4), "scope": a_span, "where": some_tests}),
+    "except": (2, 2, {"where": some_tests}),
+}
+OPTIONAL = ("least", "greatest")
+JOINING = ("join", "sequence", "atleast")
+
+
+def operators_of(document: dict) -> dict:
+    """The operators of the document's version."""
+    return {**OPERATORS, **NEWER} if document["version"] == 2 else OPERATORS
+
+
+def own_members(operators: dict, node: dict) -> dict:
+    """The members that the node's operator knows, with the empty array for one that may be missing."""
+    return {name: node.get(name, []) if name in OPTIONAL else node[name] for name in operators[node["op"]][2]}
 
 
 def read_plan(document: object) -> list:
     """The name, the operator and the field types of each node, or the first fault."""
     nodes = nodes_of(document)
+    operators = operators_of(document)
     rows = {}
     for place, node in enumerate(nodes, 1):
-        members_fault(node, place)
+        members_fault(operators, node, place)
         if node["name"] in rows:
             raise Fault(TWICE_NAMED, place)
         sources = [] if node["op"] == "source" else node["from"]
         if any(name not in rows or rows[name][1] == "output" for name in sources):
             raise Fault(UNKNOWN_NODE, place)
-        types = result_types(node, [rows[name][2:] for name in sources], place)
+        types = result_types(node["op"], own_members(operators, node), [rows[name][2:] for name in sources], place)
         rows[node["name"]] = [node["name"], node["op"], *types]
     outputs = [place for place, node in enumerate(nodes, 1) if node["op"] == "output"]
     if len(outputs) != 1:
@@ -213,7 +233,7 @@ def nodes_of(document: object) -> list:
     faults = []
     members = document if type(document) is dict else {}
     version, nodes = members.get("version"), members.get("nodes")
-    if type(version) is not int or version != 1:
+    if type(version) is not int or version not in (1, 2):
         faults.append(MISSING_PART)
     listed(lambda node, found: None, NODE_LIMIT)(nodes, faults)
     if "edge" in members:
@@ -223,17 +243,17 @@ def nodes_of(document: object) -> list:
     return nodes
 
 
-def members_fault(node: object, place: int) -> None:
+def members_fault(operators: dict, node: object, place: int) -> None:
     """Raises the least of the faults that show in a node's members alone."""
     faults = []
     members = node if type(node) is dict else {}
     a_name(members.get("name"), faults)
     a_text(members.get("op"), faults)
-    if not faults and members["op"] not in OPERATORS:
+    if not faults and members["op"] not in operators:
         faults.append(UNKNOWN_OP)
     if faults:
         raise Fault(min(faults), place)
-    least, most, further = OPERATORS[members["op"]]
+    least, most, further = operators[members["op"]]
     if members["op"] != "source":
         ports = members.get("from")
         listed(a_text, most)(ports, faults)
@@ -241,35 +261,38 @@ def members_fault(node: object, place: int) -> None:
             faults.append(MISSING_PART)
         if "level" in members:
             a_level(members["level"], faults)
+        if "number" in further and type(ports) is list:
+            ranged(1, len(ports))(members.get("number"), faults)
     for name, reader in further.items():
-        reader(members.get(name), faults)
+        if name in members or name not in OPTIONAL:
+            reader(members.get(name), faults)
     if faults:
         raise Fault(min(faults), place)
 
 
-def result_types(node: dict, inputs: list, place: int) -> list:
+def result_types(op: str, members: dict, inputs: list, place: int) -> list:
     """The field types of a node's result from those of its inputs, or the fault of its width, columns and types."""
-    op = node["op"]
-    joined = [one for types in inputs for one in types]
+    counted = inputs[:1] * members["number"] if op == "atleast" else inputs
+    joined = [one for types in counted for one in types]
     kept = {"project": "keep", "group": "keys"}.get(op)
-    kept = node[kept] if kept else []
-    sums = node["sum"] if op == "group" else []
-    numbers = ["int"] * (len(sums) + (op == "group" and node["count"]))
-    width = len(joined) if op in ("join", "sequence") else len(kept) + len(numbers)
+    kept = members[kept] if kept else []
+    sums = members["sum"] if op == "group" else []
+    numbers = ["int"] * (len(sums) + (op == "group" and members["count"]))
+    extremes = [column for name in OPTIONAL for column in members.get(name, [])]
+    width = len(joined) if op in JOINING else len(kept) + len(numbers) + len(extremes)
     if width > FIELD_LIMIT:
         raise Fault(TOO_WIDE, place)
-    tests = node["where"] if "where" in OPERATORS[op][2] else []
-    tests = [(left, *right_side(right)) for left, _, right in tests]
-    columns = kept + sums + [test[0] for test in tests] + [test[2] for test in tests if test[1] == "column"]
+    tests = [(left, *right_side(right)) for left, _, right in members.get("where", [])]
+    columns = kept + sums + extremes + [test[0] for test in tests] + [test[2] for test in tests if test[1] == "column"]
     if any(column >= len(joined) for column in columns):
         raise Fault(BAD_COLUMN, place)
     differ = any(joined[left] != (joined[side] if which == "column" else which) for left, which, side in tests)
     differ |= any(joined[column] == "text" for column in sums)
-    differ |= op == "union" and any(types != inputs[0] for types in inputs)
+    differ |= op in ("union", "atleast") and any(types != inputs[0] for types in inputs)
     if differ:
         raise Fault(TYPE_DIFFERS, place)
     if op == "source":
-        return node["fields"]
+        return members["fields"]
     if op in ("project", "group"):
-        return [joined[column] for column in kept] + numbers
-    return joined if op in ("join", "sequence") else inputs[0]
+        return [joined[column] for column in kept] + numbers + [joined[column] for column in extremes]
+    return joined if op in JOINING else inputs[0]

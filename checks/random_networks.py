@@ -12,6 +12,7 @@ from reference import Judge, fields_of, judged, number_of, time_of
 MOST_FIELDS = 16
 MOST_ROWS = 300
 MOST_CHOICES = 10_000
+PAIRING = ("join", "sequence", "unless", "atleast", "except")
 TYPES = [[], ["text"], ["text"], ["int"], ["text", "int"], ["text", "int"], ["int", "int", "text"]]
 TEXTS = [b"a", b"a", b"b", b"", b"a,b", b'"', b"\xff", b"inf"]
 NUMBERS = [b"0", b"0", b"1", b"-1", b"007", b"9223372036854775807", b"-9223372036854775808"]
@@ -45,14 +46,25 @@ class Maker(random_plans.Maker):
     def merge(self, ports: list) -> None:
         """Any operator that takes them both."""
         first, joined = self.types[ports[0]], self.joined(ports)
-        ways = [("unless", first, {"scope": self.span(), "hold": self.span(), "where": self.tests(ports)})]
+        ways = [("unless", first, {"scope": self.span(), "hold": self.span(), "where": self.tests(joined)})]
         if len(joined) <= MOST_FIELDS:
-            ways.append(("join", joined, {"where": self.tests(ports)}))
-            ways.append(("sequence", joined, {"scope": self.span(), "where": self.tests(ports)}))
+            ways.append(("join", joined, {"where": self.tests(joined)}))
+            ways.append(("sequence", joined, {"scope": self.span(), "where": self.tests(joined)}))
         if first == self.types[ports[1]]:
             ways += [("union", first, {})] * 3
+        if self.version == 2:
+            ways += self.newer_ways(ports)
         op, types, members = self.rng.choice(ways)
         self.add(op, ports, types, **members)
+
+    def newer_ways(self, ports: list) -> list:
+        first = self.types[ports[0]]
+        ways = [("except", first, {"where": self.tests(self.joined(ports))})] * 2
+        if first == self.types[ports[1]]:
+            number = self.number(ports)
+            members = {"number": number, "scope": self.span(), "where": self.tests(first * number)}
+            ways += [("atleast", first * number, members)] * 3
+        return ways
 
     def span(self) -> int:
         return self.rng.choice(SPANS) if self.rng.random() < 0.95 else random_plans.LONGEST
@@ -63,8 +75,7 @@ class Maker(random_plans.Maker):
         kinds = ["strong", "middle", {"block": bounds[block], "memory": "inf"}]
         return self.rng.choice(kinds + [{"block": bounds[block], "memory": bounds[memory]}] * (5 * self.weak))
 
-    def tests(self, ports: list) -> list:
-        types = self.joined(ports)
+    def tests(self, types: list) -> list:
         return [self.test(types) for _ in range(self.rng.choice([0, 0, 1, 1, 1, 2]))] if types else []
 
     def test(self, types: list) -> list:
@@ -153,7 +164,7 @@ def small_answer(plan: list, contents: list):
             tables.append(table_of(in_one_list(answers)))
             continue
         ports = [tables[place] for place in node.inputs]
-        pairs = math.prod(1 + len(port) for port in ports) if node.op in ("join", "sequence", "unless") else 0
+        pairs = math.prod(1 + len(port) for port in ports) if node.op in PAIRING else 0
         if pairs > MOST_CHOICES:
             return None
         tables.append(nodes.result(node, ports))

@@ -20,7 +20,9 @@ TYPES = [["text"], ["int"], ["text", "int"], ["text", "int"], ["int", "int", "te
 TEXTS = [b"a", b"a", b"b", b"", b"9", "\u00e9".encode()]
 NUMBERS = [0, 1, -1, 5, 9, 2**127 - 1, -(2**127)]
 CONSTANTS = [0, 1, -1, 5, 2**63 - 1, -(2**63)]
-PORTS = {"union": (2, 4), "join": (2, 2), "sequence": (2, 4), "unless": (2, 2)}
+PORTS = {"union": (2, 4), "join": (2, 2), "sequence": (2, 4), "unless": (2, 2), "atleast": (2, 4), "except": (2, 2)}
+OF_ONE_TYPE = ["union", "atleast"]
+OPERATORS = random_plans.OPERATORS + random_plans.NEWER
 
 
 class History:
@@ -31,7 +33,7 @@ class History:
         self.odd = self.rng.random() < 0.25
         ports = self.rng.randint(*PORTS.get(op, (1, 1)))
         first = self.rng.choice(TYPES)
-        self.types = [first] + [self.rng.choice(TYPES) if op != "union" else first for _ in range(ports - 1)]
+        self.types = [first] + [self.rng.choice(TYPES) if op not in OF_ONE_TYPE else first for _ in range(ports - 1)]
         members = self.members(op)
         self.node = nodes.Node("it", op, list(range(ports)), 0, math.inf, [], members)
         self.tables = [Counter() for _ in range(ports)]
@@ -44,6 +46,7 @@ class History:
         """The members of such an operator, as a plan's node has them."""
         rng, columns = self.rng, sum(self.types, [])
         numbers = [column for column, one in enumerate(columns) if one == "int"]
+        number = rng.choice([1] + 2 * [*range(2, len(self.types) + 1)])
         made = {
             "project": {"keep": rng.choices(range(len(columns)), k=rng.randint(0, 3))},
             "window": {"width": rng.choice(SPANS)},
@@ -51,13 +54,34 @@ class History:
             "hop": {"every": rng.choice(SPANS), "width": rng.choice(SPANS)},
             "group": {"keys": rng.sample(range(len(columns)), k=rng.choice([0, 1, 1, len(columns)])),
                       "count": rng.random() < 0.7,
-                      "sum": rng.choices(numbers, k=rng.randint(0, 2)) if numbers else []},
+                      "sum": rng.choices(numbers, k=rng.randint(0, 2)) if numbers else [],
+                      **self.extremes(range(len(columns)))},
             "sequence": {"scope": rng.choice(SPANS)},
             "unless": {"scope": rng.choice(SPANS), "hold": rng.choice(SPANS)},
+            "atleast": {"number": number, "scope": rng.choice(SPANS[number:])},
         }.get(op, {})
         if op in ("select", "join", "sequence", "unless"):
             made["where"] = [self.test(columns) for _ in range(rng.choice([0, 1, 1, 2]))]
+        if op in random_plans.NEWER:
+            seen = self.types[:made.get("number", 2)]
+            made["where"] = rng.choice([[], self.equalities(seen), self.equalities(seen[:2]), [self.test(sum(seen, []))]])
         return made
+
+    def equalities(self, types: list) -> list:
+        """That a field of the first payload is equal to one of each other payload, where some are of one type."""
+        left, kind = self.rng.choice([*enumerate(types[0])])
+        first, tests = len(types[0]), []
+        for others in types[1:]:
+            alike = [first + column for column, one in enumerate(others) if one == kind]
+            tests += [[left, "=", {"column": column}] for column in self.rng.sample(alike, k=min(1, len(alike)))]
+            first += len(others)
+        return tests
+
+    def extremes(self, columns: range) -> dict:
+        """The columns whose least and whose greatest fields a group tells, where it tells any."""
+        if self.rng.random() < 0.3:
+            return {}
+        return {name: self.rng.choices(columns, k=self.rng.randint(0, 2)) for name in ("least", "greatest")}
 
     def test(self, columns: list) -> list:
         rng = self.rng
@@ -143,7 +167,7 @@ class History:
 
 def random_history(seed: int) -> History:
     """The history of a seed. Seeds that follow one another take all operators in turn."""
-    history = History(seed, random_plans.OPERATORS[seed % len(random_plans.OPERATORS)])
+    history = History(seed, OPERATORS[seed % len(OPERATORS)])
     for _ in range(STEPS):
         history.go_on()
     return history
@@ -168,9 +192,12 @@ def head(op: str, members: dict, types: list) -> str:
         "union": f"union {len(types)}",
         "join": f"join {each} where{tests}",
         "group": f"group {each} by {columns_text(members.get('keys'))} {'count ' * members.get('count', False)}"
-                 f"sums {columns_text(members.get('sum'))}",
+                 f"sums {columns_text(members.get('sum'))}{extremes_text(members)}",
         "sequence": f"sequence {len(types)} {numbers} {joined} where{tests}",
         "unless": f"unless {numbers} {each} where{tests}",
+        "atleast": f"atleast {len(types)} {members.get('number')} {numbers} "
+                   f"{','.join(types[0] * members.get('number', 0))} where{tests}",
+        "except": f"except {each} where{tests}",
     }.get(op, f"{op} {numbers}".strip())
 
 
@@ -181,6 +208,10 @@ def side_text(side: dict) -> str:
 
 def columns_text(columns) -> str:
     return ",".join(map(str, columns)) if columns else "-"
+
+
+def extremes_text(members: dict) -> str:
+    return "".join(f" {name} {columns_text(members[name])}" for name in ("least", "greatest") if name in members)
 
 
 def change_text(port: int, change) -> str:

@@ -8,6 +8,7 @@ SPANS = [1, 2, 60, 3_600, LONGEST]
 COMPARISONS = ["=", "!=", "<", "<=", ">", ">="]
 OPERATORS = ["select", "project", "union", "join", "window", "shift", "hop", "starts", "ends", "group", "sequence",
              "unless"]
+NEWER = ["atleast", "except"]
 BYTES = [b'"', b",", b":", b"[", b"]", b"{", b"}", b"\\", b"0", b"-", b".", b"e", b" ", b"\n", b"\x00", b"\x80",
          b"\xef\xbb\xbf"]
 
@@ -26,8 +27,9 @@ class Twice(NamedTuple):
 ODD = [None, True, False, "", "x", "s", "int", "inf", "strong", "=", [], {}, [0], ["text"], {"column": 0}, {"int": 1},
        0, 1, 2, 15, 16, 17, -1, LONGEST, LONGEST + 1, 2**63 - 1, 2**63, 2**64 - 1, 2**64, -(2**63), -(2**63) - 1,
        *map(Raw, ["-0", "1.0", "0.0", "1e0", "2E+1", "1e-400", "9e99", "1e400", "NaN", "01", '"\\u0073"', '"\\ud800"'])]
+NO_COLUMNS = [None, 7, "x", {}, [-1], [0.5], ["0"], [99]]
 WORDS = ["version", "nodes", "edge", "name", "op", "from", "level", "file", "fields", "where", "keep", "width", "by",
-         "every", "keys", "count", "sum", "scope", "hold", "block", "memory", "column", "int", "text", "more", ""]
+         "every", "keys", "count", "sum", "least", "greatest", "scope", "hold", "number", "block", "memory", "column", "int", "text", "more", ""]
 
 
 def random_plan(rng: random.Random) -> bytes:
@@ -54,6 +56,7 @@ class Maker:
 
     def __init__(self, rng: random.Random) -> None:
         self.rng = rng
+        self.version = rng.choice([1, 2, 2])
         self.nodes = []
         self.types = {}
         self.unused = []
@@ -62,15 +65,15 @@ class Maker:
         for _ in range(self.rng.choice([1, 1, 2, 2, 3])):
             self.source()
         for _ in range(self.rng.choice([0, 1, 1, 2, 3, 4, 6])):
-            self.operator(self.rng.choice(OPERATORS))
+            self.operator(self.rng.choice(OPERATORS + NEWER * (self.version - 1)))
         while len(self.unused) > 1:
             self.merge(self.unused[:2])
         self.add("output", self.unused[:1], [])
         edge = {"edge": self.rng.choice([1, 64, 1_024])} if self.rng.random() < 0.2 else {}
-        return self.mixed({"version": 1, **edge, "nodes": self.nodes})
+        return self.mixed({"version": self.version, **edge, "nodes": self.nodes})
 
     def merge(self, ports: list) -> None:
-        self.add("unless", ports, self.types[ports[0]], scope=60, hold=1, where=self.tests(ports))
+        self.add("unless", ports, self.types[ports[0]], scope=60, hold=1, where=self.tests(self.joined(ports)))
 
     def mixed(self, members: dict) -> dict:
         return dict(self.rng.sample(list(members.items()), len(members))) if self.rng.random() < 0.3 else members
@@ -89,25 +92,44 @@ class Maker:
         self.add("source", [], types, file=self.rng.choice(["a.csv", "", "\u00e9"]), fields=types)
 
     def operator(self, op: str) -> None:
-        count = {"join": 2, "unless": 2, "sequence": self.rng.choice([2, 3, 4])}.get(op, 1)
+        count = {"join": 2, "unless": 2, "except": 2, "sequence": self.rng.choice([2, 3, 4])}.get(op, 1)
         ports = [self.port() for _ in range(count)]
-        types, joined = self.types[ports[0]], self.joined(ports)
-        if op in ("join", "sequence") and len(joined) > 16:
+        types = self.types[ports[0]]
+        if op in ("join", "sequence") and len(self.joined(ports)) > 16:
             op, ports = "unless", ports[:2]
-        if op == "union":
-            ports += [name for name in self.types if self.types[name] == types][: self.rng.choice([1, 2, 3])]
+        joined = self.joined(ports)
+        if op in ("union", "atleast"):
+            alike = [name for name in self.types if self.types[name] == types]
+            ports += self.rng.choices(alike, k=self.rng.choice([1, 2, 3]))
         members = {name: self.span() for name in {"window": ["width"], "shift": ["by"], "hop": ["every", "width"],
-                   "sequence": ["scope"], "unless": ["scope", "hold"]}.get(op, [])}
-        if op in ("select", "join", "sequence", "unless"):
-            members["where"] = self.tests(ports)
+                   "sequence": ["scope"], "unless": ["scope", "hold"], "atleast": ["scope"]}.get(op, [])}
+        if op == "atleast":
+            members["number"] = self.number(ports)
+            joined = types * members["number"]
+        if op in ("select", "join", "sequence", "unless", "atleast", "except"):
+            members["where"] = self.tests(joined)
         if op == "project":
             members["keep"] = self.columns(types)
             types = [types[column] for column in members["keep"]]
         if op == "group":
-            keys, count, sums = self.columns(types), self.rng.random() < 0.7, self.columns(types, "int")
-            members.update(keys=keys, count=count, sum=sums)
-            types = [types[column] for column in keys] + ["int"] * (count + len(sums))
-        self.add(op, ports, joined if op in ("join", "sequence") else types, **members)
+            members, types = self.group(types)
+        self.add(op, ports, joined if op in ("join", "sequence", "atleast") else types, **members)
+
+    def number(self, ports: list) -> int:
+        """How many of the ports, so that the result has at most 16 fields."""
+        return self.rng.randint(1, min(len(ports), 16 // max(1, len(self.types[ports[0]]))))
+
+    def group(self, types: list) -> tuple:
+        """The members of a group and the types of its result. In version 1 its further members say nothing."""
+        keys, count, sums = self.columns(types), self.rng.random() < 0.7, self.columns(types, "int")
+        further = {name: self.columns(types) for name in ("least", "greatest") if self.rng.random() < 0.7}
+        extremes = [column for name in ("least", "greatest") for column in further.get(name, [])]
+        made = [types[column] for column in keys] + ["int"] * (count + len(sums))
+        if self.version == 2:
+            made += [types[column] for column in extremes]
+        elif further and self.rng.random() < 0.5:
+            further = dict.fromkeys(further, self.rng.choice(NO_COLUMNS))
+        return {"keys": keys, "count": count, "sum": sums, **further}, made
 
     def port(self) -> str:
         return self.rng.choice(self.unused if self.rng.random() < 0.8 else list(self.types))
@@ -127,8 +149,7 @@ class Maker:
         places = [place for place, one in enumerate(types) if kind in ("", one)]
         return self.rng.choices(places, k=self.rng.choice([0, 1, 1, 2, 3])) if places else []
 
-    def tests(self, ports: list) -> list:
-        types = self.joined(ports)
+    def tests(self, types: list) -> list:
         return [self.test(types) for _ in range(self.rng.choice([0, 1, 1, 2, 16]))] if types else []
 
     def test(self, types: list) -> list:
@@ -190,7 +211,7 @@ def step_number(rng: random.Random, document: dict) -> None:
 def widen(rng: random.Random, document: dict) -> None:
     for node in nodes_of(document):
         if node.get("op") in ("source", "project", "group"):
-            name = {"source": "fields", "project": "keep", "group": "keys"}[node["op"]]
+            name = {"source": "fields", "project": "keep", "group": rng.choice(["keys", "least"])}[node["op"]]
             node[name] = rng.choices(["int", "text"] if name == "fields" else [0, 1], k=rng.choice([9, 16, 17]))
 
 
@@ -205,7 +226,7 @@ def change_node(rng: random.Random, document: dict) -> None:
     elif changed <= 2:
         one["from"] = [rng.choice(nodes).get("name") for _ in range(rng.choice([1, 1, 2, 2, 3]))]
     elif changed <= 4:
-        one["op"] = rng.choice(OPERATORS + ["source", "output", "Select", ""])
+        one["op"] = rng.choice(OPERATORS + NEWER + ["source", "output", "Select", ""])
     elif changed == 5:
         one["level"] = rng.choice(["weak", "strong", {"block": 6, "memory": 5}, {"block": "inf", "memory": 1}])
     elif changed == 6:

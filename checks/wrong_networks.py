@@ -97,10 +97,25 @@ def ties_in_sequence(members: dict, *tables):
             yield one.begin, later(one.begin, members["scope"]), one.payload + other.payload, 1
 
 
+def two_of_one_port(members: dict, *tables):
+    """Two rows of one port count too."""
+    yield from nodes.at_least(members, *tables)
+    for table in tables if members["number"] == 2 else []:
+        yield from nodes.at_least(members, table, table)
+
+
+def untested(members: dict, *tables):
+    return nodes.excepted({**members, "where": []}, *tables)
+
+
 def scope_end_blocks(members: dict, table, blockers):
     wider = {**members, "scope": members["scope"] + 1}
     for row in nodes.unblocked(wider, table, blockers):
         yield row[0] - 1, row[1] - 1, row[2], row[3]
+
+
+def least_of_each(choose, columns: list, payloads: list) -> list:
+    return EXTREMES(min, columns, payloads)
 
 
 def hop_from_the_begin(members: dict, table):
@@ -148,6 +163,13 @@ class AnyOrder(Network):
         return CHOICE.choice([port for port, messages in self.waiting.items() if messages] or [None])
 
 
+class LastFirst(Network):
+    """The last port that waits takes first."""
+
+    def next_waiting(self):
+        return ([port for port, messages in self.waiting.items() if messages] or [None])[-1]
+
+
 def fed_one_after_the_other(plan: list, lists: list) -> Network:
     network = Network(plan)
     for source, lines in reversed(list(enumerate(lists))):
@@ -183,6 +205,10 @@ def fed_in_any_order(plan: list, lists: list) -> Network:
     return fed_in_rounds(plan, lists, AnyOrder)
 
 
+def fed_last_first(plan: list, lists: list) -> Network:
+    return fed_in_rounds(plan, lists, LastFirst)
+
+
 def silent_at_a_fault(words: list, find) -> tuple[int, bytes, bytes]:
     status, out, err = ANSWER(words, find)
     return status, b"" if status else out, err
@@ -190,7 +216,7 @@ def silent_at_a_fault(words: list, find) -> tuple[int, bytes, bytes]:
 
 CHOICE = random.Random(1)
 READ_SOURCES, FORGOTTEN, ANSWER, MIXED = asked.read_sources, Network.forgotten, network_texts.answer, made.mixed
-REVISE = reference.Judge.revise
+REVISE, EXTREMES = reference.Judge.revise, nodes.extremes
 
 WAYS = {
     "a change is late one too early": instead(Aligner, "cause", late_at_once),
@@ -201,8 +227,13 @@ WAYS = {
     "a group hands its guarantee on": instead(nodes, "open_begins", lambda *_: []),
     "a join makes one copy": operator("join", one_copy_joined),
     "a tie is in sequence": operator("sequence", ties_in_sequence),
+    "two rows of one port are at least two": operator("atleast", two_of_one_port),
+    "at least so many are joined by their ports": instead(nodes, "in_turn", list),
+    "each row is an exception": operator("except", untested),
+    "an except hands its guarantee on": instead(nodes, "open_parts", lambda *_: []),
     "the end of the scope blocks": operator("unless", scope_end_blocks),
     "a hop begins with its row": operator("hop", hop_from_the_begin),
+    "greatest fields are the least ones": instead(nodes, "extremes", least_of_each),
     "sums have 64 bits": instead(nodes, "wrapped", lambda number: (number + 2**63) % 2**64 - 2**63),
     "the first faulty source alone is told": instead(asked, "read_sources", first_fault_alone),
     "faults are told before reads that fail": instead(asked, "read_sources", events_before_reads),
@@ -217,7 +248,7 @@ WAYS = {
     "a line without a message uses up no turn": instead(network_texts, "fed_in_rounds", fed_by_messages),
     "the network settles once all is fed": instead(network_texts, "fed_in_rounds", fed_before_all_settles),
     "sources come one after the other in rounds": instead(network_texts, "fed_in_rounds", fed_one_after_the_other),
-    "nodes take in any order in rounds": instead(network_texts, "fed_in_rounds", fed_in_any_order),
+    "the last port takes first in rounds": instead(network_texts, "fed_in_rounds", fed_last_first),
     "the messages of a revision come in two rounds": instead(network_texts, "fed_in_rounds", fed_one_message_a_round),
     "a revision leaves the old row": instead(reference.Judge, "revise", revised_without_a_cut),
     "a revision doesn't lengthen a life": instead(reference.Judge, "revise", revised_within_its_life),

@@ -4,8 +4,9 @@
 //! table of the answer is sorted at the end.
 //!
 //! usage: baseline history FILE
-//!        baseline join|join_group|sequence|unless A.csv B.csv
-//!        baseline chain A.csv
+//!        baseline join|join_group|sequence|followed|unless|except A.csv B.csv
+//!        baseline atleast A.csv B.csv C.csv
+//!        baseline chain|sums|peaks A.csv
 //!        baseline make SIZE
 
 use std::cmp::{Ordering, Reverse};
@@ -16,7 +17,8 @@ use std::{env, fs, io};
 
 /// The end of an interval without end, written `inf`.
 const FOREVER: u64 = 1 << 62;
-const SCOPE: u64 = 100;
+const WIDE: u64 = 100;
+const NARROW: u64 = 10;
 const HOLD: u64 = 1;
 const SELECTS: usize = 40;
 
@@ -343,35 +345,174 @@ impl Operator for Join {
     }
 }
 
-#[derive(Clone, Default)]
-struct Segment {
-    edges: usize,
-    living: usize,
-    sum: i128,
+/// The parts of rows of port 0 in which no row of port 1 with an equal first field is valid.
+#[derive(Default)]
+struct Except {
+    by_key: HashMap<Field, [Bag; 2]>,
+    ends: BinaryHeap<Reverse<(u64, Field)>>,
 }
 
-/// Counts and sums of the second field by the first one.
+impl Except {
+    fn parts(row: &Row, others: &Bag) -> Vec<Row> {
+        let first = Row { end: row.begin + 1, begin: 0, payload: Rc::from([]) };
+        let mut met: Vec<(u64, u64)> = others.0.range(first..).map(|(other, _)| (other.begin, other.end)).collect();
+        met.retain(|(begin, _)| *begin < row.end);
+        met.sort_unstable();
+        met.push((row.end, row.end));
+        let mut parts = Vec::new();
+        let mut since = row.begin;
+        for (begin, end) in met {
+            if since < begin {
+                parts.push(Row { end: begin, begin: since, payload: row.payload.clone() });
+            }
+            since = since.max(end);
+        }
+        parts
+    }
+
+    fn repair(olds: &[Row], news: &[Row], copies: usize, out: &mut Vec<Change>) {
+        for _ in 0..copies {
+            for old in olds.iter().filter(|old| !news.contains(old)) {
+                out.push(Change::Cut(old.clone(), old.begin));
+            }
+            for new in news.iter().filter(|new| !olds.contains(new)) {
+                out.push(Change::Add(new.clone()));
+            }
+        }
+    }
+}
+
+impl Operator for Except {
+    fn apply(&mut self, port: usize, change: Change, out: &mut Vec<Change>) {
+        let sync = change.sync();
+        let (row, left) = match &change {
+            Change::Add(row) => (row.clone(), row.end),
+            Change::Cut(row, end) => (row.clone(), *end),
+        };
+        let key = row.payload[0].clone();
+        self.ends.push(Reverse((left, key.clone())));
+        let bags = self.by_key.entry(key).or_default();
+        if port == 0 {
+            let is_cut = matches!(change, Change::Cut(..));
+            let olds = if is_cut { Except::parts(&row, &bags[1]) } else { Vec::new() };
+            let remnant = Row { end: left, ..row };
+            let news = if remnant.begin < left { Except::parts(&remnant, &bags[1]) } else { Vec::new() };
+            Except::repair(&olds, &news, 1, out);
+            bags[0].apply(change);
+            return;
+        }
+        let first = Row { end: sync + 1, begin: 0, payload: Rc::from([]) };
+        let met: Vec<(Row, usize)> = bags[0].0.range(first..).map(|(one, count)| (one.clone(), *count)).collect();
+        let met: Vec<(Row, usize)> = met.into_iter().filter(|(one, _)| one.begin < row.end).collect();
+        let olds: Vec<Vec<Row>> = met.iter().map(|(one, _)| Except::parts(one, &bags[1])).collect();
+        bags[1].apply(change);
+        for ((one, count), olds) in met.iter().zip(olds) {
+            Except::repair(&olds, &Except::parts(one, &bags[1]), *count, out);
+        }
+    }
+
+    /// A row of port 1 stays while it meets one of port 0 that does.
+    fn trim(&mut self, mark: u64) {
+        while self.ends.peek().is_some_and(|due| due.0.0 <= mark) {
+            let Reverse((_, key)) = self.ends.pop().expect("an end that is there");
+            let Some(bags) = self.by_key.get_mut(&key) else {
+                continue;
+            };
+            while bags[0].0.first_key_value().is_some_and(|(row, _)| row.end <= mark) {
+                bags[0].0.pop_first();
+            }
+            let needed = bags[0].0.keys().map(|row| row.begin).min().map_or(mark, |begin| begin.min(mark));
+            while bags[1].0.first_key_value().is_some_and(|(row, _)| row.end <= needed) {
+                bags[1].0.pop_first();
+            }
+            if bags.iter().all(|bag| bag.0.is_empty()) {
+                self.by_key.remove(&key);
+            }
+        }
+    }
+}
+
+/// What is told of the numbers of a segment's rows.
+trait Totals: Clone + Default + 'static {
+    fn add(&mut self, number: i128);
+    fn take(&mut self, number: i128);
+    /// The payload of a row of the result.
+    fn payload(&self, key: &Field, living: usize) -> Payload;
+}
+
+/// Their sum.
+impl Totals for i128 {
+    fn add(&mut self, number: i128) {
+        *self += number;
+    }
+
+    fn take(&mut self, number: i128) {
+        *self -= number;
+    }
+
+    fn payload(&self, key: &Field, living: usize) -> Payload {
+        Rc::from([key.clone(), Field::Number(living as i128), Field::Number(*self)])
+    }
+}
+
+/// Their sum, and their least and their greatest one, from a bag of all of them.
+#[derive(Clone, Default)]
+struct Peaks {
+    sum: i128,
+    numbers: BTreeMap<i128, usize>,
+}
+
+impl Totals for Peaks {
+    fn add(&mut self, number: i128) {
+        self.sum += number;
+        *self.numbers.entry(number).or_default() += 1;
+    }
+
+    fn take(&mut self, number: i128) {
+        self.sum -= number;
+        let count = self.numbers.get_mut(&number).expect("a number that is there");
+        *count -= 1;
+        if *count == 0 {
+            self.numbers.remove(&number);
+        }
+    }
+
+    fn payload(&self, key: &Field, living: usize) -> Payload {
+        let (least, _) = self.numbers.first_key_value().expect("a number");
+        let (greatest, _) = self.numbers.last_key_value().expect("a number");
+        let numbers = [living as i128, self.sum, *least, *greatest].map(Field::Number);
+        std::iter::once(key.clone()).chain(numbers).collect()
+    }
+}
+
+#[derive(Clone, Default)]
+struct Segment<T> {
+    edges: usize,
+    living: usize,
+    totals: T,
+}
+
+/// Counts and totals of the second field by the first one.
 #[derive(Default)]
-struct Group {
-    by_key: HashMap<Field, BTreeMap<u64, Segment>>,
+struct Group<T> {
+    by_key: HashMap<Field, BTreeMap<u64, Segment<T>>>,
     due: BinaryHeap<Reverse<(u64, Field)>>,
 }
 
-impl Group {
-    fn rows(key: &Field, cuts: &BTreeMap<u64, Segment>, from: u64, to: u64) -> Vec<Row> {
+impl<T: Totals> Group<T> {
+    fn rows(key: &Field, cuts: &BTreeMap<u64, Segment<T>>, from: u64, to: u64) -> Vec<Row> {
         let mut rows = Vec::new();
-        let mut open: Option<(u64, usize, i128)> = None;
+        let mut open: Option<(u64, &Segment<T>)> = None;
         for (at, segment) in cuts.range(from..=to) {
-            if let Some((begin, living, sum)) = open {
-                let payload = Rc::from([key.clone(), Field::Number(living as i128), Field::Number(sum)]);
-                rows.push(Row { end: *at, begin, payload });
+            if let Some((begin, before)) = open {
+                rows.push(Row { end: *at, begin, payload: before.totals.payload(key, before.living) });
             }
-            open = (segment.living > 0).then_some((*at, segment.living, segment.sum));
+            open = (segment.living > 0).then_some((*at, segment));
         }
         rows
     }
 
-    fn add_edge(cuts: &mut BTreeMap<u64, Segment>, at: u64) {
+    fn add_edge(cuts: &mut BTreeMap<u64, Segment<T>>, at: u64) {
         let before = match cuts.range(..=at).next_back() {
             Some((time, segment)) if *time == at => Segment { edges: segment.edges + 1, ..segment.clone() },
             Some((_, segment)) => Segment { edges: 1, ..segment.clone() },
@@ -380,7 +521,7 @@ impl Group {
         cuts.insert(at, before);
     }
 
-    fn take_edge(cuts: &mut BTreeMap<u64, Segment>, at: u64) {
+    fn take_edge(cuts: &mut BTreeMap<u64, Segment<T>>, at: u64) {
         let segment = cuts.get_mut(&at).expect("a cut point that is there");
         segment.edges -= 1;
         if segment.edges == 0 {
@@ -389,7 +530,7 @@ impl Group {
     }
 }
 
-impl Operator for Group {
+impl<T: Totals> Operator for Group<T> {
     fn apply(&mut self, _port: usize, change: Change, out: &mut Vec<Change>) {
         let sync = change.sync();
         let row = match &change {
@@ -402,34 +543,34 @@ impl Operator for Group {
         let cuts = self.by_key.entry(key.clone()).or_default();
         let from = cuts.range(..sync).next_back().map_or(sync, |(at, _)| *at);
         let to = cuts.range(row.end + 1..).next().map_or(u64::MAX, |(at, _)| *at);
-        let olds = Group::rows(&key, cuts, from, to);
+        let olds = Group::<T>::rows(&key, cuts, from, to);
         match &change {
             Change::Add(row) => {
-                Group::add_edge(cuts, row.begin);
-                Group::add_edge(cuts, row.end);
+                Group::<T>::add_edge(cuts, row.begin);
+                Group::<T>::add_edge(cuts, row.end);
                 for (_, segment) in cuts.range_mut(row.begin..row.end) {
                     segment.living += 1;
-                    segment.sum += number;
+                    segment.totals.add(number);
                 }
                 self.due.push(Reverse((row.begin, key.clone())));
                 self.due.push(Reverse((row.end, key.clone())));
             }
             Change::Cut(row, end) => {
                 if row.begin < *end {
-                    Group::add_edge(cuts, *end);
+                    Group::<T>::add_edge(cuts, *end);
                     self.due.push(Reverse((*end, key.clone())));
                 }
                 for (_, segment) in cuts.range_mut(*end..row.end) {
                     segment.living -= 1;
-                    segment.sum -= number;
+                    segment.totals.take(number);
                 }
-                Group::take_edge(cuts, row.end);
+                Group::<T>::take_edge(cuts, row.end);
                 if *end <= row.begin {
-                    Group::take_edge(cuts, row.begin);
+                    Group::<T>::take_edge(cuts, row.begin);
                 }
             }
         }
-        let news = Group::rows(&key, cuts, from, to);
+        let news = Group::<T>::rows(&key, cuts, from, to);
         for row in &olds {
             if news.binary_search(row).is_err() {
                 out.push(Change::Cut(row.clone(), row.begin));
@@ -463,12 +604,12 @@ impl Operator for Group {
 
 /// The rows of a port by their first field and begin.
 #[derive(Default)]
-struct Starts {
+struct Starts<const SCOPE: u64> {
     by_key: HashMap<Field, Bag>,
     begins: BinaryHeap<Reverse<(u64, Field)>>,
 }
 
-impl Starts {
+impl<const SCOPE: u64> Starts<SCOPE> {
     fn note(&mut self, row: Row, comes: bool) {
         let key = row.payload[0].clone();
         let bag = self.by_key.entry(key.clone()).or_default();
@@ -522,9 +663,9 @@ fn whole(change: Change) -> Option<(Row, bool)> {
 
 /// A row of port 0, and within the scope one of port 1 with an equal first field.
 #[derive(Default)]
-struct Sequence([Starts; 2]);
+struct Sequence<const SCOPE: u64>([Starts<SCOPE>; 2]);
 
-impl Operator for Sequence {
+impl<const SCOPE: u64> Operator for Sequence<SCOPE> {
     fn apply(&mut self, port: usize, change: Change, out: &mut Vec<Change>) {
         let Some((row, comes)) = whole(change) else {
             return;
@@ -549,21 +690,51 @@ impl Operator for Sequence {
     }
 }
 
+/// Rows of two of three ports with an equal first field, one begun after the other within the scope.
+#[derive(Default)]
+struct AtLeast([Starts<NARROW>; 3]);
+
+impl Operator for AtLeast {
+    fn apply(&mut self, port: usize, change: Change, out: &mut Vec<Change>) {
+        let Some((row, comes)) = whole(change) else {
+            return;
+        };
+        let (from, before) = ((row.begin + 1).saturating_sub(NARROW), row.begin + NARROW);
+        for others in (0..3).filter(|other| *other != port) {
+            for (other, count) in self.0[others].within(&row.payload[0], from, before) {
+                if other.begin == row.begin {
+                    continue;
+                }
+                let (first, last) = if row.begin < other.begin { (&row, other) } else { (other, &row) };
+                for _ in 0..*count {
+                    let payload = joined(&first.payload, &last.payload);
+                    push_way(comes, Row { end: first.begin + NARROW, begin: last.begin, payload }, out);
+                }
+            }
+        }
+        self.0[port].note(row, comes);
+    }
+
+    fn trim(&mut self, mark: u64) {
+        self.0.iter_mut().for_each(|starts| starts.trim(mark));
+    }
+}
+
 /// A row of port 0 that no row of port 1 with an equal first field begins behind, within the scope.
 #[derive(Default)]
-struct Unless([Starts; 2]);
+struct Unless([Starts<WIDE>; 2]);
 
 impl Unless {
     fn is_blocked(&self, row: &Row) -> bool {
-        self.0[1].within(&row.payload[0], row.begin + 1, row.begin + SCOPE).next().is_some()
+        self.0[1].within(&row.payload[0], row.begin + 1, row.begin + WIDE).next().is_some()
     }
 
     fn waited(row: &Row) -> Row {
-        Row { end: row.begin + SCOPE + HOLD, begin: row.begin + SCOPE, payload: row.payload.clone() }
+        Row { end: row.begin + WIDE + HOLD, begin: row.begin + WIDE, payload: row.payload.clone() }
     }
 
     fn decided(&self, row: &Row) -> Vec<(Row, usize)> {
-        let from = (row.begin + 1).saturating_sub(SCOPE);
+        let from = (row.begin + 1).saturating_sub(WIDE);
         let others = self.0[0].within(&row.payload[0], from, row.begin);
         others.filter(|(other, _)| !self.is_blocked(other)).map(|(other, count)| (Unless::waited(other), *count)).collect()
     }
@@ -744,7 +915,7 @@ fn write_summary(answer: &Bag) {
 }
 
 fn join_and_group() -> Vec<Node> {
-    vec![Node::new(Join::default(), 2), Node::new(Group::default(), 1)]
+    vec![Node::new(Join::default(), 2), Node::new(Group::<i128>::default(), 1)]
 }
 
 fn make(size: u64) {
@@ -763,8 +934,13 @@ fn main() -> io::Result<()> {
         }
         "join" => vec![Node::new(Join::default(), 2)],
         "join_group" => join_and_group(),
-        "sequence" => vec![Node::new(Sequence::default(), 2)],
+        "sequence" => vec![Node::new(Sequence::<WIDE>::default(), 2)],
+        "followed" => vec![Node::new(Sequence::<NARROW>::default(), 2)],
+        "atleast" => vec![Node::new(AtLeast::default(), 3)],
+        "except" => vec![Node::new(Except::default(), 2)],
         "unless" => vec![Node::new(Unless::default(), 2)],
+        "sums" => vec![Node::new(Group::<i128>::default(), 1)],
+        "peaks" => vec![Node::new(Group::<Peaks>::default(), 1)],
         "chain" => (0..SELECTS).map(|_| Node::new(Select, 1)).collect(),
         _ => panic!("no such command"),
     };

@@ -12,6 +12,12 @@
 #   unless          an event of the one, where within 100 no event of the other of the same machine begins
 #   keyed           the join with ten events a machine in each source
 #   chain           one source of SIZE events through 40 selects
+#   peaks           one source of twice SIZE events: counts, sums, and least and greatest values by machine; beside the
+#                   same with counts and sums alone (sums)
+#   atleast         events of two of three sources of SIZE events each, of the same machine, within 10 of each other in any
+#                   order; beside an event of the first source and within 10 one of the second (followed)
+#   except          the parts of an event of the one source in which no event of the other of the same machine is valid;
+#                   beside the join of both
 #   make            `cedr make SIZE`, which makes its own events, where SIZE is at most 100,000
 #
 # Build the program first: (cd crates/cedr && rt run -- --version)
@@ -23,7 +29,7 @@ program=$here/../../crates/cedr/out/cedr
 size=${1:-100000}
 runs=${2:-3}
 if [ $# -gt 2 ]; then shift 2; workloads=("$@"); else
-  workloads=(history revised join join_group sequence unless keyed chain make)
+  workloads=(history revised join join_group sequence unless keyed chain peaks atleast except make)
 fi
 if ! [ -x "$program" ]; then echo "build the program first: $program isn't there"; exit 2; fi
 folder=$(mktemp -d)
@@ -111,6 +117,31 @@ for workload in "${workloads[@]}"; do
         timed make "$program" make "$size"
         beside make make baseline_ran
       fi
+      ;;
+    peaks)
+      python3 "$here/events.py" $((2 * size)) 1 > a.csv
+      for plan in sums peaks; do
+        by_hand "$plan" a.csv
+        timed serial "$program" serial "$plan.json"
+        timed run "$program" run "$plan.json"
+        if [ -n "$sqlite" ]; then timed SQLite python3 "$here/on_sqlite.py" "$plan"; fi
+        beside "$plan" serial run baseline_ran SQLite
+      done
+      ;;
+    atleast|except)
+      two_sources 100
+      python3 "$here/events.py" "$size" 3 > c.csv
+      plans=(join except)
+      if [ "$workload" = atleast ]; then plans=(followed atleast); fi
+      for plan in "${plans[@]}"; do
+        files=(a.csv b.csv)
+        if [ "$plan" = atleast ]; then files+=(c.csv); fi
+        by_hand "$plan" "${files[@]}"
+        timed serial "$program" serial "$plan.json"
+        timed run "$program" run "$plan.json"
+        if [ -n "$sqlite" ]; then timed SQLite python3 "$here/on_sqlite.py" "$plan"; fi
+        beside "$plan" serial run baseline_ran SQLite
+      done
       ;;
     *)
       plan=$workload

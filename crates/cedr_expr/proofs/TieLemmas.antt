@@ -38,7 +38,7 @@ from_is_eq Equal h = refl
 from_is_eq Greater h = cc
 
 -- fields that an equality test lets pass are one
-equal_sides : (x y : Option Field) → both_pass Eq x y ≡ true → x ≡ y
+pub equal_sides : (x y : Option Field) → both_pass Eq x y ≡ true → x ≡ y
 equal_sides None y h = cc
 equal_sides (Some a) None h = cc
 equal_sides (Some (Number m)) (Some (Number n)) h = ap (λ z. Some (Number z)) (exact_signed m n (from_is_eq (int_cmp m n) h))
@@ -47,18 +47,18 @@ equal_sides (Some (Bytes s)) (Some (Number n)) h = cc
 equal_sides (Some (Bytes s)) (Some (Bytes t)) h = ap (λ z. Some (Bytes z)) (exact_bytes s t (from_is_eq (text_cmp s t) h))
 
 -- a column before a left payload's end is its field
-column_left : (left right : List Field) (i : ℕ) → i < length left → column left right i ≡ slice_get left i
+pub column_left : (left right : List Field) (i : ℕ) → i < length left → column left right i ≡ slice_get left i
 column_left [] right i h = absurd (omega arith)
 column_left (x ∷ left) right zero h = refl
 column_left (x ∷ left) right (suc i) h = column_left left right i (omega arith)
 
 -- a later column is a field of the right payload
-column_right : (left right : List Field) (i : ℕ) → length left ≤ i → column left right i ≡ slice_get right (i - length left)
+pub column_right : (left right : List Field) (i : ℕ) → length left ≤ i → column left right i ≡ slice_get right (i - length left)
 column_right [] right i h = let e : i - 0 ≡ i = omega arith in rw e
 column_right (x ∷ left) right zero h = absurd (omega arith)
 column_right (x ∷ left) right (suc i) h = let e : suc i - suc (length left) ≡ i - length left = omega arith in rw e (column_right left right i (omega arith))
 
-both_true : (a b : Bool) → a && b ≡ true → (a ≡ true) × (b ≡ true)
+pub both_true : (a b : Bool) → a && b ≡ true → (a ≡ true) × (b ≡ true)
 both_true true b h = (refl, h)
 both_true false b h = cc
 

@@ -26,6 +26,10 @@ abbrev pub fields_mixed : ℕ → List Field → ℕ
 fields_mixed h [] = h
 fields_mixed h (f ∷ fs) = fields_mixed (field_mixed h f) fs
 
+-- the tag of a field, from 1 to 2^62
+abbrev pub field_tag : Field → ℕ
+field_tag field = field_mixed 0 field / 4 + 1
+
 -- the tag of one side's payload, from 1 to 2^62, where left payloads have this many fields
 abbrev pub tag_of : Side → ℕ → List Test → List Field → ℕ
 tag_of side width tests payload = fields_mixed 0 (tied_fields side width payload tests) / 4 + 1

@@ -21,6 +21,7 @@ pub use fault::TypeFault;
 pub use keep::Keep;
 pub use law::types_law;
 pub use side::Side;
+pub use tag::field_tag;
 pub use test::{Op, Operand, Test};
 pub use test_list::Tests;
 pub use tie::tied_field;

@@ -1,6 +1,6 @@
 ghost use Rattle.std.specs.Prelude.{◌≡◌, ◌∷◌, []};
 ghost use Rattle.cedr_expr.specs.Ties.{tied_fields};
-ghost use Rattle.cedr_expr.specs.Tags.{mixed, all_mixed, field_mixed, fields_mixed, tag_of};
+ghost use Rattle.cedr_expr.specs.Tags.{mixed, all_mixed, field_mixed, fields_mixed, field_tag, tag_of};
 
 use crate::side::Side;
 use crate::test::Test;
@@ -60,4 +60,11 @@ pub(crate) fn tag_by(tests: &[Test], side: Side, width: usize, fields: &[Field])
         hash = mix_tied(hash, side, width, fields, test);
     }
     hash / 4 + 1
+}
+
+/// A number from 1 to 2^62 that equal fields have in common. It takes no memory. O(n) in a text's bytes.
+pub fn field_tag(field: &Field) -> u64
+    ensures { result ≡ field_tag field.now }
+{
+    mix_field(0, field) / 4 + 1
 }

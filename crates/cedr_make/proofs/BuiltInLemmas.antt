@@ -67,7 +67,7 @@ totals_are = record {
   level = middle_is;
   source_level = tt;
   numbers = no_numbers;
-  fits = (refl, All-from_recursion (λ column. slice_get pair_types column ≡ Some field_type.Number) (1 ∷ []) (refl, tt));
+  fits = (refl, All-from_recursion (λ column. slice_get pair_types column ≡ Some field_type.Number) (1 ∷ []) (refl, tt), refl, refl);
   types = refl;
   width = omega arith;
 }

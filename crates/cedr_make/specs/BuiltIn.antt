@@ -49,7 +49,7 @@ pairs_node = node (codes "j") (kind.Join same_keys) (0 ∷ 1 ∷ []) pair_types
 
 -- by the key of the left side, whose values are summed
 abbrev pub totals_node : Node
-totals_node = node (codes "g") (kind.Group (0 ∷ []) true (1 ∷ [])) (2 ∷ []) total_types
+totals_node = node (codes "g") (kind.Group (0 ∷ []) true (1 ∷ []) [] []) (2 ∷ []) total_types
 
 -- the output: the totals of each key
 abbrev pub out_node : Node

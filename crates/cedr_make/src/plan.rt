@@ -81,6 +81,15 @@ fn make_column(alloc: Global, column: usize) -> Result<Keep, OutOfMemory>
     }
 }
 
+fn no_columns(alloc: Global) -> Keep
+    ensures { result ≡ [] }
+{
+    match Keep::new(Vec::new(alloc), &PAIR) {
+        Ok(kept) => kept,
+        Err(_) => unreachable!(),
+    }
+}
+
 fn make_group(alloc: Global) -> Result<PlanNode, OutOfMemory>
     ensures { IfOk result (λ made. node_of made ≡ totals_node) }
 {
@@ -90,6 +99,8 @@ fn make_group(alloc: Global) -> Result<PlanNode, OutOfMemory>
         keys,
         count: true,
         sums,
+        least: no_columns(alloc),
+        greatest: no_columns(alloc),
     };
     make_node(alloc, b"g", kind, &[2], &TOTALS)
 }

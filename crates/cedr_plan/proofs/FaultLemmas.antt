@@ -1,5 +1,5 @@
 -- The first fault of a node, and of two lists of tests, one after the other.
-use Rattle.std.proofs.Common.{◌≡◌, Bool, true, false, List, [], ◌∷◌, ◌++◌, Some, None, refl, ap, sym}
+use Rattle.std.proofs.Common.{◌≡◌, ℕ, Bool, true, false, List, [], ◌∷◌, ◌++◌, Some, None, refl, ap, sym}
 use Rattle.std.specs.Option.{option_map_or}
 use Rattle.serde_json.specs.Data.{Data}
 use Rattle.cedr_plan.specs.Drawn.{Node}
@@ -21,5 +21,5 @@ first_behind ((true, first) ∷ front) rest h = cc
 first_behind ((false, first) ∷ front) rest h = first_behind front rest h
 
 -- the fault of a node whose operator is known
-pub fault_known : (earlier : List Node) (d : Data) (operator : Operator) → Some operator ≡ operator_at d → node_fault earlier d ≡ fault_under (operator_row operator) earlier d
-fault_known earlier d operator e = ap (λ found. option_map_or (λ o. fault_under (operator_row o) earlier d) found (Some (fault_without_operator d))) (sym e)
+pub fault_known : (version : ℕ) (earlier : List Node) (d : Data) (operator : Operator) → Some operator ≡ operator_at version d → node_fault version earlier d ≡ fault_under (operator_row operator) earlier d
+fault_known version earlier d operator e = ap (λ found. option_map_or (λ o. fault_under (operator_row o) earlier d) found (Some (fault_without_operator d))) (sym e)

@@ -2,8 +2,10 @@ pub mod JsonLemmas
 pub mod ListLemmas
 pub mod FaultLemmas
 pub mod TestLemmas
+pub mod WordLemmas
 pub mod NoFaults
 pub mod SoundNodes
 pub mod SoundPlans
+pub mod PlainPlans
 pub mod UnlikeLemmas
 pub mod PlaceLemmas

@@ -15,7 +15,7 @@ use Rattle.cedr_plan.specs.Places.{is_output}
 use Rattle.cedr_plan.specs.Json.{as_list, as_whole, is_number, is_text, is_whole_within, is_word, has, values_of}
 use Rattle.cedr_plan.specs.Levels.{strong, middle, is_bad_bound, has_bad_bound, is_unknown_level, bound_at, level_of, has_block_over_memory}
 use Rattle.cedr_plan.specs.Nodes.{is_name, is_name_value, text_at, number_at, place_of, is_unknown, tests_at, is_text_column, same_types}
-use Rattle.cedr_plan.specs.Rules.{IsInput, IsBound, IsLevel, IsNumber}
+use Rattle.cedr_plan.specs.Rules.{IsInput, IsBound, IsLevel}
 use Rattle.cedr_plan.specs.Tests.{test_of}
 use Rattle.cedr_plan.proofs.TestLemmas.{not_false, length-filter_map, nowhere}
 
@@ -60,13 +60,14 @@ number_in low high (Some n) h =
     let parts = and_parts (nat_le low n) (nat_le n high) h in
     (leb-true low n parts.0, leb-true n high parts.1)
 
-number_found : (o : Option Data) → option_map_or is_number o false ≡ true → option_map_or (λ x. not (is_whole_within 1 (2 ^ 40) x)) o false ≡ false → IsNumber (unwrap_or (option_and_then as_whole o) 0)
-number_found None there whole = absurd (true≢false (sym there))
-number_found (Some x) there whole = number_in 1 (2 ^ 40) (as_whole x) (not_false _ whole)
+number_found : (most : ℕ) (o : Option Data) → option_map_or is_number o false ≡ true → option_map_or (λ x. not (is_whole_within 1 most x)) o false ≡ false
+    → (1 ≤ unwrap_or (option_and_then as_whole o) 0) × (unwrap_or (option_and_then as_whole o) 0 ≤ most)
+number_found most None there whole = absurd (true≢false (sym there))
+number_found most (Some x) there whole = number_in 1 most (as_whole x) (not_false _ whole)
 
 -- a number that is there, whole and in its range
-pub number_there : (key : List ℕ) (d : Data) → has key is_number d ≡ true → has key (λ x. not (is_whole_within 1 (2 ^ 40) x)) d ≡ false → IsNumber (number_at key d)
-number_there key d there whole = number_found (get key d) there whole
+pub number_there : (most : ℕ) (key : List ℕ) (d : Data) → has key is_number d ≡ true → has key (λ x. not (is_whole_within 1 most x)) d ≡ false → (1 ≤ number_at key d) × (number_at key d ≤ most)
+number_there most key d there whole = number_found most (get key d) there whole
 
 -- ---- levels
 

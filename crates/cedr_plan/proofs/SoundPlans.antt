@@ -12,7 +12,7 @@ use Rattle.cedr_plan.specs.Places.{is_output}
 use Rattle.cedr_plan.specs.Json.{as_whole, is_whole_within}
 use Rattle.cedr_plan.specs.Nodes.{fault_under, fault_without_operator, node_fault, node_from, node_of_value, operator_at}
 use Rattle.cedr_plan.specs.Operators.{operator_row}
-use Rattle.cedr_plan.specs.Plans.{Refusal, refused, unless_fault, unless_node, lacks_part, has_too_many_nodes, has_bad_edge, document_fault, edge_of, node_values, nodes_from, outputs_from, excess_output, plan_with, plan_of_nodes, plan_of_value, plan_of_json, json_of, longest, plan_of}
+use Rattle.cedr_plan.specs.Plans.{Refusal, refused, unless_fault, unless_node, lacks_part, has_too_many_nodes, has_bad_edge, document_fault, edge_of, version_at, node_values, nodes_from, outputs_from, excess_output, plan_with, plan_of_nodes, plan_of_json, json_of, longest, plan_of}
 use Rattle.cedr_plan.specs.Rules.{IsNode, AreNodes, first_unused, IsSound}
 use Rattle.cedr_plan.specs.declared.fault.PlanKind.{PlanKind}
 use Rattle.cedr_plan.specs.declared.fault.PlanKind.TheVariants as kind
@@ -28,8 +28,8 @@ node_known : (earlier : List Node) (d : Data) (o : Option Operator) → option_m
 node_known earlier d None h = let no : ⊥ = cc in absurd no
 node_known earlier d (Some o) h = node_is o earlier d (no_fault (operator_row o) earlier d h)
 
-node_sound : (earlier : List Node) (d : Data) → node_fault earlier d ≡ None → IsNode earlier (node_of_value earlier d)
-node_sound earlier d h = node_known earlier d (operator_at d) h
+node_sound : (version : ℕ) (earlier : List Node) (d : Data) → node_fault version earlier d ≡ None → IsNode earlier (node_of_value version earlier d)
+node_sound version earlier d h = node_known earlier d (operator_at version d) h
 
 -- the nodes stand after the earlier ones, one for each value
 pub record AreNodesOf (earlier : List Node) (ds : List Data) (nodes : List Node) : Type 0 where
@@ -38,22 +38,22 @@ pub record AreNodesOf (earlier : List Node) (ds : List Data) (nodes : List Node)
   pub sound : AreNodes earlier more
   pub count : length more ≡ length ds
 
-one_more : (earlier : List Node) (d : Data) (ds : List Data) (nodes : List Node) (found : Option PlanKind) → node_fault earlier d ≡ found
-    → unless_fault found (length earlier + 1) (nodes_from (earlier ++ node_of_value earlier d ∷ []) ds) ≡ Ok nodes
-    → (nodes_from (earlier ++ node_of_value earlier d ∷ []) ds ≡ Ok nodes → AreNodesOf (earlier ++ node_of_value earlier d ∷ []) ds nodes) → AreNodesOf earlier (d ∷ ds) nodes
-one_more earlier d ds nodes (Some kind) e h rest = let no : ⊥ = cc in absurd no
-one_more earlier d ds nodes None e h rest =
+one_more : (version : ℕ) (earlier : List Node) (d : Data) (ds : List Data) (nodes : List Node) (found : Option PlanKind) → node_fault version earlier d ≡ found
+    → unless_fault found (length earlier + 1) (nodes_from version (earlier ++ node_of_value version earlier d ∷ []) ds) ≡ Ok nodes
+    → (nodes_from version (earlier ++ node_of_value version earlier d ∷ []) ds ≡ Ok nodes → AreNodesOf (earlier ++ node_of_value version earlier d ∷ []) ds nodes) → AreNodesOf earlier (d ∷ ds) nodes
+one_more version earlier d ds nodes (Some kind) e h rest = let no : ⊥ = cc in absurd no
+one_more version earlier d ds nodes None e h rest =
     let r = rest h in
     record {
-      more = node_of_value earlier d ∷ r.more;
-      behind = r.behind ∙ append_assoc earlier (node_of_value earlier d ∷ []) r.more;
-      sound = (node_sound earlier d e, r.sound);
+      more = node_of_value version earlier d ∷ r.more;
+      behind = r.behind ∙ append_assoc earlier (node_of_value version earlier d ∷ []) r.more;
+      sound = (node_sound version earlier d e, r.sound);
       count = ap suc r.count;
     }
 
-nodes_are : (earlier : List Node) (ds : List Data) (nodes : List Node) → nodes_from earlier ds ≡ Ok nodes → AreNodesOf earlier ds nodes
-nodes_are earlier [] nodes h = record { more = []; behind = (let same : nodes ≡ earlier = cc in same ∙ sym (append-nil earlier)); sound = tt; count = refl }
-nodes_are earlier (d ∷ ds) nodes h = one_more earlier d ds nodes (node_fault earlier d) refl h (nodes_are (earlier ++ node_of_value earlier d ∷ []) ds nodes)
+nodes_are : (version : ℕ) (earlier : List Node) (ds : List Data) (nodes : List Node) → nodes_from version earlier ds ≡ Ok nodes → AreNodesOf earlier ds nodes
+nodes_are version earlier [] nodes h = record { more = []; behind = (let same : nodes ≡ earlier = cc in same ∙ sym (append-nil earlier)); sound = tt; count = refl }
+nodes_are version earlier (d ∷ ds) nodes h = one_more version earlier d ds nodes (node_fault version earlier d) refl h (nodes_are version (earlier ++ node_of_value version earlier d ∷ []) ds nodes)
 
 -- ---- outputs
 
@@ -110,6 +110,40 @@ few_nodes : (d : Data) → has_too_many_nodes d ≡ false → length (node_value
 unfolding has_too_many_nodes
 few_nodes d h = ltb-false 64 (length (node_values d)) h
 
+-- ---- the bytes
+
+-- the plan comes from the document in these bytes, which has no fault
+pub record IsRead (bytes : List ℕ) (plan : Drawn) : Type 0 where
+  pub document : Data
+  pub document_is : json_of bytes ≡ Some document
+  pub no_fault : document_fault document ≡ None
+  pub nodes : List Node
+  pub nodes_are : nodes_from (version_at document) [] (node_values document) ≡ Ok nodes
+  pub plan_is : IsPlanOf (edge_of document) nodes plan
+
+read_by : (bytes : List ℕ) (d : Data) (plan : Drawn) (read : Result (List Node) Refusal) → json_of bytes ≡ Some d → document_fault d ≡ None → nodes_from (version_at d) [] (node_values d) ≡ read
+    → plan_of_nodes (edge_of d) read ≡ Ok plan → IsRead bytes plan
+read_by bytes d plan (Ok nodes) is none e h = record { document = d; document_is = is; no_fault = none; nodes = nodes; nodes_are = e; plan_is = whole (edge_of d) nodes plan h }
+read_by bytes d plan (Err refusal) is none e h = let no : ⊥ = cc in absurd no
+
+value_by : (bytes : List ℕ) (d : Data) (plan : Drawn) (found : Option PlanKind) → json_of bytes ≡ Some d → document_fault d ≡ found
+    → unless_fault found 0 (plan_of_nodes (edge_of d) (nodes_from (version_at d) [] (node_values d))) ≡ Ok plan → IsRead bytes plan
+value_by bytes d plan (Some kind) is e h = let no : ⊥ = cc in absurd no
+value_by bytes d plan None is e h = read_by bytes d plan (nodes_from (version_at d) [] (node_values d)) is e refl h
+
+json_by : (bytes : List ℕ) (plan : Drawn) (found : Option Data) → json_of bytes ≡ found → plan_of_json found ≡ Ok plan → IsRead bytes plan
+json_by bytes plan None is h = let no : ⊥ = cc in absurd no
+json_by bytes plan (Some d) is h = value_by bytes d plan (document_fault d) is refl h
+
+long_or_not : (bytes : List ℕ) (plan : Drawn) (long : Bool) → (if long then refused kind.TooLong 0 else plan_of_json (json_of bytes)) ≡ Ok plan → IsRead bytes plan
+long_or_not bytes plan true h = let no : ⊥ = cc in absurd no
+long_or_not bytes plan false h = json_by bytes plan (json_of bytes) refl h
+
+-- where the plan that bytes describe comes from
+pub plan_read : (bytes : List ℕ) (plan : Drawn) → plan_of bytes ≡ Ok plan → IsRead bytes plan
+unfolding plan_of
+plan_read bytes plan h = long_or_not bytes plan (nat_lt longest (length bytes)) h
+
 sound_by : (d : Data) (nodes : List Node) (plan : Drawn) → has_too_many_nodes d ≡ false → has_bad_edge d ≡ false → AreNodesOf [] (node_values d) nodes → IsPlanOf (edge_of d) nodes plan → IsSound plan
 sound_by d nodes plan many edge are is =
     let low_high = edge_in d edge in
@@ -123,29 +157,10 @@ sound_by d nodes plan many edge are is =
       used = is.used;
     })
 
-read_by : (d : Data) (plan : Drawn) (read : Result (List Node) Refusal) → nodes_from [] (node_values d) ≡ read → has_too_many_nodes d ≡ false → has_bad_edge d ≡ false
-    → plan_of_nodes (edge_of d) read ≡ Ok plan → IsSound plan
-read_by d plan (Ok nodes) e many edge h = sound_by d nodes plan many edge (nodes_are [] (node_values d) nodes e) (whole (edge_of d) nodes plan h)
-read_by d plan (Err refusal) e many edge h = let no : ⊥ = cc in absurd no
-
-value_by : (d : Data) (plan : Drawn) (found : Option PlanKind) → document_fault d ≡ found → unless_fault found 0 (plan_of_nodes (edge_of d) (nodes_from [] (node_values d))) ≡ Ok plan → IsSound plan
-value_by d plan (Some kind) e h = let no : ⊥ = cc in absurd no
-value_by d plan None e h =
-    let none = none_hold ((lacks_part d, kind.MissingPart) ∷ (has_too_many_nodes d, kind.TooMany) ∷ (has_bad_edge d, kind.BadNumber) ∷ []) e in
-    read_by d plan (nodes_from [] (node_values d)) refl none.1.0 none.1.1.0 h
-
-value_sound : (d : Data) (plan : Drawn) → plan_of_value d ≡ Ok plan → IsSound plan
-value_sound d plan h = value_by d plan (document_fault d) refl h
-
-json_sound : (found : Option Data) (plan : Drawn) → plan_of_json found ≡ Ok plan → IsSound plan
-json_sound None plan h = let no : ⊥ = cc in absurd no
-json_sound (Some d) plan h = value_sound d plan h
-
-long_or_not : (long : Bool) (found : Option Data) (plan : Drawn) → (if long then refused kind.TooLong 0 else plan_of_json found) ≡ Ok plan → IsSound plan
-long_or_not true found plan h = let no : ⊥ = cc in absurd no
-long_or_not false found plan h = json_sound found plan h
-
 -- the plan that bytes describe keeps the rules
 pub plan_sound : (bytes : List ℕ) (plan : Drawn) → plan_of bytes ≡ Ok plan → IsSound plan
-unfolding plan_of
-plan_sound bytes plan h = long_or_not (nat_lt longest (length bytes)) (json_of bytes) plan h
+plan_sound bytes plan h =
+    let r = plan_read bytes plan h in
+    let d = r.document in
+    let none = none_hold ((lacks_part d, kind.MissingPart) ∷ (has_too_many_nodes d, kind.TooMany) ∷ (has_bad_edge d, kind.BadNumber) ∷ []) r.no_fault in
+    sound_by d r.nodes plan none.1.0 none.1.1.0 (nodes_are (version_at d) [] (node_values d) r.nodes r.nodes_are) r.plan_is

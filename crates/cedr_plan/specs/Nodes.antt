@@ -2,7 +2,7 @@
 -- node that an accepted one is.
 --
 -- Each predicate has an answer for every value. Where an earlier fault holds too, that one counts.
-use Rattle.std.specs.Prelude.{ℕ, ◌+◌, ◌^◌, ◌==◌, Bool, true, false, not, ◌&&◌, ◌||◌, List, [], ◌∷◌, ◌++◌, length, map, codes, nat_lt, nat_le, bytes_eq, if◌then◌else◌, Option, Some, None, is_some, is_none, option_and_then, unwrap_or}
+use Rattle.std.specs.Prelude.{ℕ, ◌+◌, ◌^◌, ◌==◌, Bool, true, false, not, ◌&&◌, ◌||◌, List, [], ◌∷◌, ◌++◌, length, map, codes, nat_lt, nat_le, bytes_eq, if◌then◌else◌, Option, Some, None, is_some, is_none, option_and_then, unwrap_or, replicate}
 use Rattle.std.specs.Option.{option_map_or}
 use Rattle.std.specs.Char.{is_ascii_alphanumeric}
 use Rattle.std.specs.List.{slice_get, list_all, list_any, filter_map, flat_map, position}
@@ -20,7 +20,7 @@ use Rattle.cedr_plan.specs.Drawn.{Node}
 use Rattle.cedr_plan.specs.Places.{is_output}
 use Rattle.cedr_plan.specs.Json.{as_list, as_whole, is_list, is_number, is_text, is_whole_within, has, values_of}
 use Rattle.cedr_plan.specs.Levels.{middle, is_level, has_bad_bound, is_unknown_level, level_of, has_block_over_memory}
-use Rattle.cedr_plan.specs.Operators.{Row, operator_row, operator_of, member_key, form_of}
+use Rattle.cedr_plan.specs.Operators.{Row, operator_row, operator_of, member_key, form_of, is_optional}
 use Rattle.cedr_plan.specs.Tests.{is_test, is_bad_test, test_of}
 use Rattle.cedr_plan.specs.declared.fault.PlanKind.{PlanKind}
 use Rattle.cedr_plan.specs.declared.fault.PlanKind.TheVariants as fault
@@ -47,9 +47,9 @@ is_name text = nat_le 1 (length text) && nat_le (length text) 64 && list_all is_
 abbrev pub is_name_value : Data → Bool
 is_name_value d = option_map_or is_name (as_str d) false
 
--- the operator that the member `op` names
-abbrev pub operator_at : Data → Option Operator
-operator_at d = option_and_then operator_of (option_and_then as_str (get (codes "op") d))
+-- the operator that the member `op` names in this version
+abbrev pub operator_at : ℕ → Data → Option Operator
+operator_at version d = option_and_then (operator_of version) (option_and_then as_str (get (codes "op") d))
 
 -- the member's text, and the empty one where there is none
 abbrev pub text_at : List ℕ → Data → List ℕ
@@ -128,6 +128,25 @@ first_port (types ∷ ports) = types
 abbrev pub all_ports : List (List FieldType) → List FieldType
 all_ports ports = flat_map (λ types. types) ports
 
+-- so many ports, each with the types of the first one
+abbrev pub like_first : ℕ → List (List FieldType) → List (List FieldType)
+like_first number ports = replicate number (first_port ports)
+
+-- the ports through which the columns of a node count: all of them, or so many as `number` says, each like the first one
+abbrev pub counted_ports : Outcome → Data → List (List FieldType) → List (List FieldType)
+counted_ports outcome.Declared d ports = ports
+counted_ports outcome.First d ports = ports
+counted_ports outcome.Alike d ports = ports
+counted_ports outcome.Kept d ports = ports
+counted_ports outcome.Joined d ports = ports
+counted_ports outcome.Repeated d ports = like_first (number_at (codes "number") d) ports
+counted_ports outcome.Grouped d ports = ports
+counted_ports outcome.Ranged d ports = ports
+
+-- the types of the columns that the members of a node name, after the earlier nodes
+abbrev pub column_types : Row → List Node → Data → List FieldType
+column_types row earlier d = all_ports (counted_ports row.outcome d (ports_at earlier row d))
+
 -- ---- the result
 
 -- the type of the count, where rows are counted
@@ -135,18 +154,25 @@ abbrev pub count_types : Bool → List FieldType
 count_types true = field_type.Number ∷ []
 count_types false = []
 
--- the types of keys, then of the count, then of the sums
-abbrev pub group_types : List ℕ → Bool → List ℕ → List FieldType → List FieldType
-group_types keys count sums types = kept_columns keys types ++ (count_types count ++ map (λ _. field_type.Number) sums)
+-- the types of keys, then of the count, then of the sums, then of the least and of the greatest fields
+abbrev pub group_types : List ℕ → Bool → List ℕ → List ℕ → List ℕ → List FieldType → List FieldType
+group_types keys count sums least greatest types =
+    kept_columns keys types ++ (count_types count ++ (map (λ _. field_type.Number) sums ++ (kept_columns least types ++ kept_columns greatest types)))
 
--- the types of the result's fields, where the first port has the types `first` and all ports together `all`
+-- how many these are, where a column that isn't there counts too
+abbrev pub group_width : List ℕ → Bool → List ℕ → List ℕ → List ℕ → ℕ
+group_width keys count sums least greatest = length keys + (length (count_types count) + (length sums + (length least + length greatest)))
+
+-- the types of the result's fields, where the first port has the types `first`, and the columns that members name have the types `all`
 abbrev pub result_types : Outcome → Data → List FieldType → List FieldType → List FieldType
 result_types outcome.Declared d first all = types_at d
 result_types outcome.First d first all = first
 result_types outcome.Alike d first all = first
 result_types outcome.Kept d first all = kept_columns (columns_at (codes "keep") d) all
 result_types outcome.Joined d first all = all
-result_types outcome.Grouped d first all = group_types (columns_at (codes "keys") d) (truth_at (codes "count") d) (columns_at (codes "sum") d) all
+result_types outcome.Repeated d first all = all
+result_types outcome.Grouped d first all = group_types (columns_at (codes "keys") d) (truth_at (codes "count") d) (columns_at (codes "sum") d) [] [] all
+result_types outcome.Ranged d first all = group_types (columns_at (codes "keys") d) (truth_at (codes "count") d) (columns_at (codes "sum") d) (columns_at (codes "least") d) (columns_at (codes "greatest") d) all
 
 -- how many fields a result of these types has, where a column that isn't there counts too
 abbrev pub result_width : Outcome → Data → List FieldType → ℕ
@@ -155,11 +181,13 @@ result_width outcome.First d types = length types
 result_width outcome.Alike d types = length types
 result_width outcome.Kept d types = length (columns_at (codes "keep") d)
 result_width outcome.Joined d types = length types
-result_width outcome.Grouped d types = length (columns_at (codes "keys") d) + (length (count_types (truth_at (codes "count") d)) + length (columns_at (codes "sum") d))
+result_width outcome.Repeated d types = length types
+result_width outcome.Grouped d types = group_width (columns_at (codes "keys") d) (truth_at (codes "count") d) (columns_at (codes "sum") d) [] []
+result_width outcome.Ranged d types = group_width (columns_at (codes "keys") d) (truth_at (codes "count") d) (columns_at (codes "sum") d) (columns_at (codes "least") d) (columns_at (codes "greatest") d)
 
 -- the types of a node's fields by its row, after the earlier nodes
 abbrev pub types_under : Row → List Node → Data → List FieldType
-types_under row earlier d = result_types row.outcome d (first_port (ports_at earlier row d)) (all_ports (ports_at earlier row d))
+types_under row earlier d = result_types row.outcome d (first_port (ports_at earlier row d)) (column_types row earlier d)
 
 -- ---- the faults of a node, from 3 to 12
 
@@ -170,12 +198,14 @@ has_form form.Types d = is_list (λ x. is_some (as_type x)) d
 has_form form.Tests d = is_list is_test d
 has_form form.Columns d = is_list is_number d
 has_form form.Sums d = is_list is_number d
+has_form form.OptionalColumns d = is_list is_number d
 has_form form.Truth d = is_some (as_bool d)
 has_form form.Number d = is_number d
+has_form form.InputCount d = is_number d
 
--- the member isn't there or isn't in its form
+-- the member isn't in its form, or isn't there and can't be done without
 abbrev pub lacks_member : Data → Member → Bool
-lacks_member d m = not (has (member_key m) (has_form (form_of m)) d)
+lacks_member d m = not (option_map_or (has_form (form_of m)) (get (member_key m) d) (is_optional (form_of m)))
 
 -- `from` isn't there, isn't an array of texts, or has too few of them
 abbrev pub lacks_inputs : Row → Data → Bool
@@ -196,26 +226,30 @@ is_too_long form.Types d = option_map_or (λ types. nat_lt 16 (length types)) (a
 is_too_long form.Tests d = option_map_or (λ tests. nat_lt 16 (length tests)) (as_list d) false
 is_too_long form.Columns d = false
 is_too_long form.Sums d = false
+is_too_long form.OptionalColumns d = false
 is_too_long form.Truth d = false
 is_too_long form.Number d = false
+is_too_long form.InputCount d = false
 
 -- 5
 unfoldable pub has_too_many : Row → Data → Bool
 has_too_many row d = nat_lt row.most (length (input_values row d)) || list_any (λ m. has (member_key m) (is_too_long (form_of m)) d) row.members
 
--- a number in it isn't whole or isn't in its range
-abbrev pub is_bad_number : Form → Data → Bool
-is_bad_number form.Text d = false
-is_bad_number form.Types d = false
-is_bad_number form.Tests d = option_map_or (list_any is_bad_test) (as_list d) false
-is_bad_number form.Columns d = option_map_or (list_any (λ column. is_none (as_whole column))) (as_list d) false
-is_bad_number form.Sums d = option_map_or (list_any (λ column. is_none (as_whole column))) (as_list d) false
-is_bad_number form.Truth d = false
-is_bad_number form.Number d = not (is_whole_within 1 (2 ^ 40) d)
+-- a number in it isn't whole or isn't in its range, at a node that has so many inputs
+abbrev pub is_bad_number : ℕ → Form → Data → Bool
+is_bad_number inputs form.Text d = false
+is_bad_number inputs form.Types d = false
+is_bad_number inputs form.Tests d = option_map_or (list_any is_bad_test) (as_list d) false
+is_bad_number inputs form.Columns d = option_map_or (list_any (λ column. is_none (as_whole column))) (as_list d) false
+is_bad_number inputs form.Sums d = option_map_or (list_any (λ column. is_none (as_whole column))) (as_list d) false
+is_bad_number inputs form.OptionalColumns d = option_map_or (list_any (λ column. is_none (as_whole column))) (as_list d) false
+is_bad_number inputs form.Truth d = false
+is_bad_number inputs form.Number d = not (is_whole_within 1 (2 ^ 40) d)
+is_bad_number inputs form.InputCount d = not (is_whole_within 1 inputs d)
 
 -- 6
 unfoldable pub has_bad_number : Row → Data → Bool
-has_bad_number row d = list_any (λ m. has (member_key m) (is_bad_number (form_of m)) d) row.members || (has_ports row && has (codes "level") has_bad_bound d)
+has_bad_number row d = list_any (λ m. has (member_key m) (is_bad_number (length (input_values row d)) (form_of m)) d) row.members || (has_ports row && has (codes "level") has_bad_bound d)
 
 -- 7: `level` is no level's name, or its block is over its memory
 unfoldable pub has_bad_level : Row → Data → Bool
@@ -246,15 +280,18 @@ is_bad_column types d member.Keep = is_some (first_past_end (columns_at (codes "
 is_bad_column types d member.Keys = is_some (first_past_end (columns_at (codes "keys") d) types)
 is_bad_column types d member.Count = false
 is_bad_column types d member.Sum = is_some (first_past_end (columns_at (codes "sum") d) types)
+is_bad_column types d member.Least = is_some (first_past_end (columns_at (codes "least") d) types)
+is_bad_column types d member.Greatest = is_some (first_past_end (columns_at (codes "greatest") d) types)
 is_bad_column types d member.Width = false
 is_bad_column types d member.By = false
 is_bad_column types d member.Every = false
 is_bad_column types d member.Scope = false
 is_bad_column types d member.Hold = false
+is_bad_column types d member.Number = false
 
 -- 11: a column is past the end
 unfoldable pub has_bad_column : List Node → Row → Data → Bool
-has_bad_column earlier row d = list_any (is_bad_column (all_ports (ports_at earlier row d)) d) row.members
+has_bad_column earlier row d = list_any (is_bad_column (column_types row earlier d) d) row.members
 
 -- the column is there and holds texts
 abbrev pub is_text_column : List FieldType → ℕ → Bool
@@ -275,24 +312,33 @@ member_has_two_types types d member.Keep = false
 member_has_two_types types d member.Keys = false
 member_has_two_types types d member.Count = false
 member_has_two_types types d member.Sum = list_any (is_text_column types) (columns_at (codes "sum") d)
+member_has_two_types types d member.Least = false
+member_has_two_types types d member.Greatest = false
 member_has_two_types types d member.Width = false
 member_has_two_types types d member.By = false
 member_has_two_types types d member.Every = false
 member_has_two_types types d member.Scope = false
 member_has_two_types types d member.Hold = false
+member_has_two_types types d member.Number = false
+
+-- some port has other types than the first one
+abbrev pub some_are_unlike : List (List FieldType) → Bool
+some_are_unlike ports = list_any (λ types. not (same_types (first_port ports) types)) ports
 
 -- the node needs the same types on all ports, and its ports have different ones
 abbrev pub has_unlike_ports : Outcome → List (List FieldType) → Bool
 has_unlike_ports outcome.Declared ports = false
 has_unlike_ports outcome.First ports = false
-has_unlike_ports outcome.Alike ports = list_any (λ types. not (same_types (first_port ports) types)) ports
+has_unlike_ports outcome.Alike ports = some_are_unlike ports
 has_unlike_ports outcome.Kept ports = false
 has_unlike_ports outcome.Joined ports = false
+has_unlike_ports outcome.Repeated ports = some_are_unlike ports
 has_unlike_ports outcome.Grouped ports = false
+has_unlike_ports outcome.Ranged ports = false
 
 -- 12
 unfoldable pub has_type_difference : List Node → Row → Data → Bool
-has_type_difference earlier row d = has_unlike_ports row.outcome (ports_at earlier row d) || list_any (member_has_two_types (all_ports (ports_at earlier row d)) d) row.members
+has_type_difference earlier row d = has_unlike_ports row.outcome (ports_at earlier row d) || list_any (member_has_two_types (column_types row earlier d) d) row.members
 
 -- ---- the node
 
@@ -308,9 +354,12 @@ kind_from operator.Shift d = kind.Shift (number_at (codes "by") d)
 kind_from operator.Hop d = kind.Hop (number_at (codes "every") d) (number_at (codes "width") d)
 kind_from operator.Starts d = kind.Starts
 kind_from operator.Ends d = kind.Ends
-kind_from operator.Group d = kind.Group (columns_at (codes "keys") d) (truth_at (codes "count") d) (columns_at (codes "sum") d)
+kind_from operator.Group d = kind.Group (columns_at (codes "keys") d) (truth_at (codes "count") d) (columns_at (codes "sum") d) [] []
+kind_from operator.RangedGroup d = kind.Group (columns_at (codes "keys") d) (truth_at (codes "count") d) (columns_at (codes "sum") d) (columns_at (codes "least") d) (columns_at (codes "greatest") d)
 kind_from operator.Sequence d = kind.Sequence (number_at (codes "scope") d) (tests_at d)
 kind_from operator.Unless d = kind.Unless (number_at (codes "scope") d) (number_at (codes "hold") d) (tests_at d)
+kind_from operator.AtLeast d = kind.AtLeast (number_at (codes "number") d) (number_at (codes "scope") d) (tests_at d)
+kind_from operator.Except d = kind.Except (tests_at d)
 kind_from operator.Output d = kind.Output
 
 -- the node of an operator that a value says, after the earlier ones
@@ -355,10 +404,10 @@ fault_under row earlier d = first_fault (untyped_faults row earlier d ++ typed_f
 abbrev pub fault_without_operator : Data → PlanKind
 fault_without_operator d = if has (codes "name") is_name_value d && has (codes "op") is_text d then fault.UnknownOp else fault.MissingPart
 
--- a value's first fault after these nodes
-abbrev pub node_fault : List Node → Data → Option PlanKind
-node_fault earlier d = option_map_or (λ operator. fault_under (operator_row operator) earlier d) (operator_at d) (Some (fault_without_operator d))
+-- a value's first fault after these nodes, in this version
+abbrev pub node_fault : ℕ → List Node → Data → Option PlanKind
+node_fault version earlier d = option_map_or (λ operator. fault_under (operator_row operator) earlier d) (operator_at version d) (Some (fault_without_operator d))
 
 -- the node that a value without a fault is
-abbrev pub node_of_value : List Node → Data → Node
-node_of_value earlier d = node_from (unwrap_or (operator_at d) operator.Output) earlier d
+abbrev pub node_of_value : ℕ → List Node → Data → Node
+node_of_value version earlier d = node_from (unwrap_or (operator_at version d) operator.Output) earlier d

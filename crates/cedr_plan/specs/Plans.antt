@@ -1,5 +1,5 @@
 -- Which bytes are a plan, and which fault the others have first.
-use Rattle.std.specs.Prelude.{ℕ, ◌≡◌, ◌+◌, ◌==◌, Bool, false, not, ◌||◌, List, [], ◌∷◌, ◌++◌, length, codes, nat_lt, if◌then◌else◌, Option, Some, None, is_some, unwrap_or, Result, Ok, Err}
+use Rattle.std.specs.Prelude.{ℕ, ◌≡◌, ◌+◌, Bool, not, ◌||◌, List, [], ◌∷◌, ◌++◌, length, codes, nat_lt, if◌then◌else◌, Option, Some, None, is_some, option_map, unwrap_or, Result, Ok, Err}
 use Rattle.std.specs.Option.{option_map_or}
 use Rattle.std.specs.List.{slice_get}
 use Rattle.std.specs.Str.{is_utf8}
@@ -9,7 +9,7 @@ use Rattle.serde_json.specs.Read.{read}
 use Rattle.cedr_plan.specs.Drawn.{Node, Drawn}
 use Rattle.cedr_plan.specs.Places.{is_output}
 use Rattle.cedr_plan.specs.Json.{as_whole, is_number, is_whole_within, has, values_of}
-use Rattle.cedr_plan.specs.Nodes.{first_fault, node_fault, node_of_value}
+use Rattle.cedr_plan.specs.Nodes.{first_fault, node_fault, node_of_value, number_at}
 use Rattle.cedr_plan.specs.Rules.{first_unused}
 use Rattle.cedr_plan.specs.declared.fault.PlanKind.{PlanKind}
 use Rattle.cedr_plan.specs.declared.fault.PlanKind.TheVariants as kind
@@ -37,9 +37,17 @@ unless_node kind (Some node) rest = refused kind node
 
 -- ---- the document
 
--- the number 1, without a fraction or an exponent
+-- the newest version of the plan language
+abbrev pub newest : ℕ
+newest = 2
+
+-- the number of a version, without a fraction or an exponent
 abbrev pub is_version : Data → Bool
-is_version d = option_map_or (λ n. n == 1) (as_whole d) false
+is_version d = is_whole_within 1 newest d
+
+-- the version that the document states, and 0 where it states none
+abbrev pub version_at : Data → ℕ
+version_at d = number_at (codes "version") d
 
 -- no object, or a member is missing or has the wrong kind
 unfoldable pub lacks_part : Data → Bool
@@ -68,10 +76,10 @@ edge_of d = option_map_or (λ edge. unwrap_or (as_whole edge) 64) (get (codes "e
 
 -- ---- the nodes
 
--- the earlier nodes, and after them those that the values are, or the first fault
-abbrev pub nodes_from : List Node → List Data → Result (List Node) Refusal
-nodes_from earlier [] = Ok earlier
-nodes_from earlier (d ∷ ds) = unless_fault (node_fault earlier d) (length earlier + 1) (nodes_from (earlier ++ node_of_value earlier d ∷ []) ds)
+-- the earlier nodes, and after them those that the values are in this version, or the first fault
+abbrev pub nodes_from : ℕ → List Node → List Data → Result (List Node) Refusal
+nodes_from version earlier [] = Ok earlier
+nodes_from version earlier (d ∷ ds) = unless_fault (node_fault version earlier d) (length earlier + 1) (nodes_from version (earlier ++ node_of_value version earlier d ∷ []) ds)
 
 -- the numbers of the outputs, where the first node has this number
 abbrev pub outputs_from : ℕ → List Node → List ℕ
@@ -97,7 +105,7 @@ plan_of_nodes edge (Err refusal) = Err refusal
 
 -- the plan that a JSON value describes, or its first fault: the document's before those of its nodes
 abbrev pub plan_of_value : Data → Result Drawn Refusal
-plan_of_value d = unless_fault (document_fault d) 0 (plan_of_nodes (edge_of d) (nodes_from [] (node_values d)))
+plan_of_value d = unless_fault (document_fault d) 0 (plan_of_nodes (edge_of d) (nodes_from (version_at d) [] (node_values d)))
 
 -- the plan that the JSON value describes, or the fault that the bytes aren't JSON
 abbrev pub plan_of_json : Option Data → Result Drawn Refusal
@@ -107,6 +115,10 @@ plan_of_json (Some d) = plan_of_value d
 -- the JSON value that the bytes are: UTF-8 in which arrays and objects nest at most 127 deep
 abbrev pub json_of : List ℕ → Option Data
 json_of bytes = if is_utf8 bytes then read bytes else None
+
+-- the version that the document in the bytes states, 0 where it states none, and nothing where the bytes aren't JSON
+abbrev pub stated_version : List ℕ → Option ℕ
+stated_version bytes = option_map version_at (json_of bytes)
 
 -- the most bytes that a plan may have
 abbrev pub longest : ℕ

@@ -12,14 +12,14 @@ use Rattle.cedr_plan.specs.declared.plan.NodeKind.TheVariants as kind
 use Rattle.cedr_plan.specs.Drawn.{Node, Drawn, drawn, node_of}
 use Rattle.cedr_plan.specs.Places.{is_output}
 use Rattle.cedr_plan.specs.Levels.{middle, has_block_over_memory}
-use Rattle.cedr_plan.specs.Nodes.{is_name, is_named, types_of, first_port, all_ports, group_types}
+use Rattle.cedr_plan.specs.Nodes.{is_name, is_named, types_of, first_port, all_ports, like_first, group_types}
 use Rattle.cedr_plan.specs.Operators.{Row, operator_row}
 use Rattle.cedr_plan.specs.declared.operator.Operator.{Operator}
 use Rattle.cedr_plan.specs.declared.operator.Operator.TheVariants as operator
 use Rattle.cedr_plan.specs.declared.plan.Plan.{Plan}
 use Rattle.cedr_plan.specs.declared.plan.PlanNode.{PlanNode}
 
--- the operator of what a node does
+-- the operator of what a node does, which is the newest one that does it
 abbrev pub operator_of_kind : NodeKind → Operator
 operator_of_kind (kind.Source file) = operator.Source
 operator_of_kind (kind.Select tests) = operator.Select
@@ -31,9 +31,11 @@ operator_of_kind (kind.Shift by) = operator.Shift
 operator_of_kind (kind.Hop every width) = operator.Hop
 operator_of_kind kind.Starts = operator.Starts
 operator_of_kind kind.Ends = operator.Ends
-operator_of_kind (kind.Group keys count sums) = operator.Group
+operator_of_kind (kind.Group keys count sums least greatest) = operator.RangedGroup
 operator_of_kind (kind.Sequence scope tests) = operator.Sequence
 operator_of_kind (kind.Unless scope hold tests) = operator.Unless
+operator_of_kind (kind.AtLeast number scope tests) = operator.AtLeast
+operator_of_kind (kind.Except tests) = operator.Except
 operator_of_kind kind.Output = operator.Output
 
 -- the row of a node's operator
@@ -58,13 +60,14 @@ pub record IsLevel (level : Level) : Type 0 where
   pub memory : IsBound level.memory
   pub block_within_memory : has_block_over_memory level ≡ false
 
--- the numbers that a node is given
+-- the numbers that a node is given, but for that of its inputs
 abbrev pub numbers_of : NodeKind → List ℕ
 numbers_of (kind.Window width) = width ∷ []
 numbers_of (kind.Shift by) = by ∷ []
 numbers_of (kind.Hop every width) = every ∷ width ∷ []
 numbers_of (kind.Sequence scope tests) = scope ∷ []
 numbers_of (kind.Unless scope hold tests) = scope ∷ hold ∷ []
+numbers_of (kind.AtLeast number scope tests) = scope ∷ []
 numbers_of other = []
 
 -- a number that a node is given is from 1 to 2^40
@@ -83,15 +86,25 @@ AreColumns ports columns = keep_fault_of columns (all_ports ports) ≡ None
 abbrev pub AreSums : List (List FieldType) → List ℕ → Type 0
 AreSums ports sums = All (λ column. slice_get (all_ports ports) column ≡ Some field_type.Number) sums
 
--- what a node says of its columns fits the types of its ports
+-- all ports have the types of the first one
+abbrev pub AreAlike : List (List FieldType) → Type 0
+AreAlike ports = All (λ types. types ≡ first_port ports) ports
+
+-- how many of the ports: from one to all of them
+abbrev pub IsPortCount : List (List FieldType) → ℕ → Type 0
+IsPortCount ports number = (1 ≤ number) × (number ≤ length ports)
+
+-- what a node says of its inputs and of its columns fits its ports and their types
 abbrev pub FitsPorts : NodeKind → List (List FieldType) → Type 0
 FitsPorts (kind.Select tests) ports = AreTests ports tests
 FitsPorts (kind.Project keep) ports = AreColumns ports keep
-FitsPorts kind.Union ports = All (λ types. types ≡ first_port ports) ports
+FitsPorts kind.Union ports = AreAlike ports
 FitsPorts (kind.Join tests) ports = AreTests ports tests
-FitsPorts (kind.Group keys count sums) ports = AreColumns ports keys × AreSums ports sums
+FitsPorts (kind.Group keys count sums least greatest) ports = AreColumns ports keys × AreSums ports sums × AreColumns ports least × AreColumns ports greatest
 FitsPorts (kind.Sequence scope tests) ports = AreTests ports tests
 FitsPorts (kind.Unless scope hold tests) ports = AreTests ports tests
+FitsPorts (kind.AtLeast number scope tests) ports = IsPortCount ports number × AreAlike ports × AreTests (like_first number ports) tests
+FitsPorts (kind.Except tests) ports = AreTests ports tests
 FitsPorts other ports = Unit {0}
 
 -- the field types of a result; a source's are its own
@@ -99,8 +112,9 @@ abbrev pub HasTypes : NodeKind → List (List FieldType) → List FieldType → 
 HasTypes (kind.Source file) ports types = Unit {0}
 HasTypes (kind.Project keep) ports types = types ≡ kept_columns keep (all_ports ports)
 HasTypes (kind.Join tests) ports types = types ≡ all_ports ports
-HasTypes (kind.Group keys count sums) ports types = types ≡ group_types keys count sums (all_ports ports)
+HasTypes (kind.Group keys count sums least greatest) ports types = types ≡ group_types keys count sums least greatest (all_ports ports)
 HasTypes (kind.Sequence scope tests) ports types = types ≡ all_ports ports
+HasTypes (kind.AtLeast number scope tests) ports types = types ≡ all_ports (like_first number ports)
 HasTypes other ports types = types ≡ first_port ports
 
 -- a source has the middle level, since it has no port
@@ -149,6 +163,15 @@ pub record IsSound (plan : Drawn) : Type 0 where
 -- the plan keeps the rules
 abbrev pub IsPlan : Plan → Type 0
 IsPlan plan = IsSound (drawn plan)
+
+-- no group, or one that asks for no least and no greatest fields
+abbrev pub IsPlain : NodeKind → Type 0
+IsPlain (kind.Group keys count sums least greatest) = (least ≡ []) × (greatest ≡ [])
+IsPlain other = Unit {0}
+
+-- each group of the plan is plain
+abbrev pub HasPlainGroups : Drawn → Type 0
+HasPlainGroups plan = All (λ (node : Node). IsPlain node.kind) plan.nodes
 
 -- the nodes of a plan that keeps the rules
 pub record ArePlanned (nodes : List PlanNode) : Type 0 where

@@ -58,6 +58,7 @@ fn type_text(field_type: FieldType) -> &'static str
     }
 }
 
+/// The newest operator that does this.
 fn operator_of_kind(kind: &NodeKind) -> Operator
     ensures { result ≡ operator_of_kind kind.now }
 {
@@ -76,13 +77,21 @@ fn operator_of_kind(kind: &NodeKind) -> Operator
             keys: _,
             count: _,
             sums: _,
-        } => Operator::Group,
+            least: _,
+            greatest: _,
+        } => Operator::RangedGroup,
         NodeKind::Sequence { scope: _, tests: _ } => Operator::Sequence,
         NodeKind::Unless {
             scope: _,
             hold: _,
             tests: _,
         } => Operator::Unless,
+        NodeKind::AtLeast {
+            number: _,
+            scope: _,
+            tests: _,
+        } => Operator::AtLeast,
+        NodeKind::Except(_) => Operator::Except,
         NodeKind::Output => Operator::Output,
     }
 }

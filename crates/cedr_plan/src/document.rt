@@ -3,15 +3,19 @@ ghost use Rattle.serde_json.specs.Find.{as_array};
 ghost use Rattle.serde_json.specs.View.{view};
 ghost use Rattle.cedr_plan.specs.Drawn.{node_of, drawn};
 ghost use Rattle.cedr_plan.specs.Json.{has, is_number};
-ghost use Rattle.cedr_plan.specs.Plans.{is_version, lacks_part, has_too_many_nodes, has_bad_edge, document_fault, edge_of, node_values, nodes_from, plan_with, plan_of_value, IsFaultIn};
+ghost use Rattle.cedr_plan.specs.Plans.{is_version, version_at, lacks_part, has_too_many_nodes, has_bad_edge, document_fault, edge_of, node_values, nodes_from, plan_with, plan_of_value, IsFaultIn};
 
 use crate::fault::{NodeFault, PlanFault, PlanKind};
 use crate::json::{is_whole_within, values_at};
+use crate::lists::number_at;
 use crate::node::read_node;
 use crate::plan::{Plan, PlanNode};
 use crate::whole::{find_excess_output, find_unused};
 use serde_json::Value;
 use std::alloc::Global;
+
+/// The newest version of the plan language.
+const NEWEST: u64 = 2;
 
 const MOST_NODES: usize = 64;
 
@@ -57,10 +61,14 @@ fn has_version(document: &Value) -> bool
 fn is_version(value: &Value) -> bool
     ensures { result ≡ is_version (view value.now) }
 {
-    match value.as_u64() {
-        Some(number) => number == 1,
-        None => false,
-    }
+    is_whole_within(1, NEWEST, value)
+}
+
+/// The version that the document states.
+fn version_at(document: &Value) -> u64
+    ensures { result ≡ version_at (view document.now) }
+{
+    number_at(document, "version")
 }
 
 fn has_nodes(document: &Value) -> bool
@@ -123,18 +131,18 @@ pub(crate) fn plan_of_value(alloc: Global, document: &Value) -> Result<Plan, Pla
     if let Some(kind) = document_fault(document) {
         return Err(PlanFault::Refused { kind, node: 0 });
     }
-    let nodes = read_nodes(alloc, values_at(document, "nodes"))?;
+    let nodes = read_nodes(alloc, version_at(document), values_at(document, "nodes"))?;
     plan_with(edge_of(document) as usize, nodes)
 }
 
-/// The nodes that the values are, or the first fault.
-fn read_nodes(alloc: Global, values: &[Value]) -> Result<Vec<PlanNode>, PlanFault>
-    ensures nodes { IfOk result (λ nodes. nodes_from [] (map view values.now) ≡ Ok (map node_of nodes.items)) }
-    ensures fault { IfErr result (IsFaultIn (nodes_from [] (map view values.now))) }
+/// The nodes that the values are in this version, or the first fault.
+fn read_nodes(alloc: Global, version: u64, values: &[Value]) -> Result<Vec<PlanNode>, PlanFault>
+    ensures nodes { IfOk result (λ nodes. nodes_from version [] (map view values.now) ≡ Ok (map node_of nodes.items)) }
+    ensures fault { IfErr result (IsFaultIn (nodes_from version [] (map view values.now))) }
 {
     let mut nodes = Vec::new(alloc);
     for value in values {
-        match read_node(alloc, nodes.as_slice(), value) {
+        match read_node(alloc, version, nodes.as_slice(), value) {
             Ok(node) => nodes.push(node)?,
             Err(NodeFault::Fault(kind)) => {
                 let node = nodes.len() + 1;

@@ -1,8 +1,8 @@
-ghost use Rattle.std.specs.Prelude.{◌≡◌, ◌&&◌, map, codes};
+ghost use Rattle.std.specs.Prelude.{◌≡◌, ◌&&◌, map, codes, length};
 ghost use Rattle.std.specs.List.{list_all, list_any};
 ghost use Rattle.serde_json.specs.View.{view};
 ghost use Rattle.cedr_plan.specs.Drawn.{node_of};
-ghost use Rattle.cedr_plan.specs.Nodes.{is_name, is_name_byte, is_named, has_ports, is_name_value, lacks_inputs, lacks_member, has_odd_level, has_missing_part, has_too_many, has_bad_number, has_bad_level, is_named_twice, is_unknown, has_unknown_input, is_too_long, is_bad_number, first_fault, untyped_faults, operator_at, fault_without_operator};
+ghost use Rattle.cedr_plan.specs.Nodes.{is_name, is_name_byte, is_named, has_ports, is_name_value, lacks_inputs, lacks_member, has_odd_level, has_missing_part, has_too_many, has_bad_number, has_bad_level, is_named_twice, is_unknown, has_unknown_input, is_too_long, is_bad_number, input_values, first_fault, untyped_faults, operator_at, fault_without_operator};
 ghost use Rattle.cedr_plan.specs.Json.{has, is_text, is_list};
 ghost use Rattle.cedr_plan.specs.Levels.{has_bad_bound};
 ghost use Rattle.cedr_plan.specs.Operators.{operator_row, member_key, form_of};
@@ -19,12 +19,12 @@ use serde_json::Value;
 
 const LONGEST_NAME: usize = 64;
 
-/// The operator that the node's `op` names.
-pub(crate) fn operator_at(node: &Value) -> Option<Operator>
-    ensures { result ≡ operator_at (view node.now) }
+/// The operator that the node's `op` names in this version.
+pub(crate) fn operator_at(version: u64, node: &Value) -> Option<Operator>
+    ensures { result ≡ operator_at version (view node.now) }
 {
     match node.get("op").and_then(Value::as_str) {
-        Some(word) => Operator::of_word(word),
+        Some(word) => Operator::of_word(version, word),
         None => None,
     }
 }
@@ -166,7 +166,7 @@ fn lacks_member(node: &Value, member: Member) -> bool
 {
     match node.get(member.key()) {
         Some(value) => !has_form(member.form(), value),
-        None => true,
+        None => !member.form().is_optional(),
     }
 }
 
@@ -209,24 +209,34 @@ fn is_long_member(node: &Value, member: Member) -> bool
 fn has_bad_number(operator: Operator, node: &Value) -> bool
     ensures { result ≡ has_bad_number (operator_row operator) (view node.now) }
 {
-    has_bad_member(operator, node) || has_bad_level_number(operator, node)
+    has_bad_member(input_count(operator, node), operator, node)
+        || has_bad_level_number(operator, node)
 }
 
-fn has_bad_member(operator: Operator, node: &Value) -> bool
-    ensures { result ≡ list_any (λ m. has (member_key m) (is_bad_number (form_of m)) (view node.now)) (operator_row operator).members }
+/// How many names `from` has.
+#[tactic(auto, using(crate::proofs::ListLemmas::length_of_map))]
+fn input_count(operator: Operator, node: &Value) -> usize
+    ensures { result ≡ length (input_values (operator_row operator) (view node.now)) }
+{
+    input_values(operator, node).len()
+}
+
+/// Whether a member's numbers are bad at a node that has so many inputs.
+fn has_bad_member(inputs: usize, operator: Operator, node: &Value) -> bool
+    ensures { result ≡ list_any (λ m. has (member_key m) (is_bad_number inputs (form_of m)) (view node.now)) (operator_row operator).members }
 {
     operator
         .row()
         .members
         .iter()
-        .any(|member| is_bad_member(node, *member))
+        .any(|member| is_bad_member(inputs, node, *member))
 }
 
-fn is_bad_member(node: &Value, member: Member) -> bool
-    ensures { result ≡ has (member_key member) (is_bad_number (form_of member)) (view node.now) }
+fn is_bad_member(inputs: usize, node: &Value, member: Member) -> bool
+    ensures { result ≡ has (member_key member) (is_bad_number inputs (form_of member)) (view node.now) }
 {
     match node.get(member.key()) {
-        Some(value) => is_bad_number(member.form(), value),
+        Some(value) => is_bad_number(inputs, member.form(), value),
         None => false,
     }
 }

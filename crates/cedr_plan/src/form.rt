@@ -24,9 +24,9 @@ pub(crate) fn has_form(form: Form, value: &Value) -> bool
         Form::Text => value.is_string(),
         Form::Types => are_types(value),
         Form::Tests => are_tests(value),
-        Form::Columns | Form::Sums => are_numbers(value),
+        Form::Columns | Form::Sums | Form::OptionalColumns => are_numbers(value),
         Form::Truth => value.is_boolean(),
-        Form::Number => value.is_number(),
+        Form::Number | Form::InputCount => value.is_number(),
     }
 }
 
@@ -74,7 +74,13 @@ pub(crate) fn is_too_long(form: Form, value: &Value) -> bool
 {
     match form {
         Form::Types | Form::Tests => has_over_sixteen(value),
-        Form::Text | Form::Columns | Form::Sums | Form::Truth | Form::Number => false,
+        Form::Text
+        | Form::Columns
+        | Form::Sums
+        | Form::OptionalColumns
+        | Form::Truth
+        | Form::Number
+        | Form::InputCount => false,
     }
 }
 
@@ -87,14 +93,15 @@ fn has_over_sixteen(value: &Value) -> bool
     }
 }
 
-/// Whether a number in the value isn't whole or isn't in its range.
-pub(crate) fn is_bad_number(form: Form, value: &Value) -> bool
-    ensures { result ≡ is_bad_number form (view value.now) }
+/// Whether a number in the value isn't whole or isn't in its range, at a node that has so many inputs.
+pub(crate) fn is_bad_number(inputs: usize, form: Form, value: &Value) -> bool
+    ensures { result ≡ is_bad_number inputs form (view value.now) }
 {
     match form {
         Form::Tests => has_bad_test(value),
-        Form::Columns | Form::Sums => has_odd_column(value),
+        Form::Columns | Form::Sums | Form::OptionalColumns => has_odd_column(value),
         Form::Number => !is_whole_within(1, GREATEST_NUMBER, value),
+        Form::InputCount => !is_whole_within(1, inputs as u64, value),
         Form::Text | Form::Types | Form::Truth => false,
     }
 }

@@ -1,15 +1,16 @@
-ghost use Rattle.std.specs.Prelude.{◌≡◌, IfOk, map, true};
+ghost use Rattle.std.specs.Prelude.{◌≡◌, IfOk, map, replicate, true};
 ghost use Rattle.std.specs.Option.{option_map_or};
 ghost use Rattle.std.specs.List.{filter_map, position, slice_get};
 ghost use Rattle.serde_json.specs.View.{view};
 ghost use Rattle.cedr_plan.specs.Drawn.{Node, node_of};
-ghost use Rattle.cedr_plan.specs.Nodes.{is_named, place_of, is_unknown, input_values, level_at, types_of, inputs_at, first_port, all_ports, has_ports};
+ghost use Rattle.cedr_plan.specs.Nodes.{is_named, place_of, is_unknown, input_values, level_at, types_of, inputs_at, first_port, all_ports, counted_ports, has_ports};
 ghost use Rattle.cedr_plan.specs.Operators.{operator_row};
 ghost use Rattle.cedr_plan.specs.Places.{is_output};
 
 use crate::json::values_at;
 use crate::level::{MIDDLE, level_of};
-use crate::operator::Operator;
+use crate::lists::number_at;
+use crate::operator::{Operator, Outcome};
 use crate::places::is_output;
 use crate::plan::PlanNode;
 use cedr_base::{FieldType, Level, OutOfMemory};
@@ -136,8 +137,45 @@ pub(crate) fn first_port<'a>(earlier: &'a [PlanNode], inputs: &[usize]) -> &'a [
     }
 }
 
+/// The types of the columns that the node's members name, where these nodes feed its ports.
+pub(crate) fn column_types(
+    alloc: Global,
+    earlier: &[PlanNode],
+    outcome: Outcome,
+    node: &Value,
+    inputs: &[usize],
+) -> Result<Vec<FieldType>, OutOfMemory>
+    ensures { IfOk result (λ types. types.items ≡ all_ports (counted_ports outcome (view node.now) (map (types_of (map node_of earlier.now)) inputs.now))) }
+{
+    match outcome {
+        Outcome::Repeated => repeated(
+            alloc,
+            number_at(node, "number"),
+            first_port(earlier, inputs),
+        ),
+        Outcome::Declared
+        | Outcome::First
+        | Outcome::Alike
+        | Outcome::Kept
+        | Outcome::Joined
+        | Outcome::Grouped
+        | Outcome::Ranged => all_ports(alloc, earlier, inputs),
+    }
+}
+
+/// The types of so many ports that have these types each.
+fn repeated(alloc: Global, number: u64, types: &[FieldType]) -> Result<Vec<FieldType>, OutOfMemory>
+    ensures { IfOk result (λ repeated. repeated.items ≡ all_ports (replicate number types.now)) }
+{
+    let mut repeated = Vec::new(alloc);
+    for _ in 0..number {
+        repeated.extend_from_slice(types)?;
+    }
+    Ok(repeated)
+}
+
 /// The field types of all ports, in port order.
-pub(crate) fn all_ports(
+fn all_ports(
     alloc: Global,
     earlier: &[PlanNode],
     inputs: &[usize],

@@ -2,10 +2,13 @@ ghost use Rattle.std.specs.Prelude.{◌≡◌, ◌∷◌, [], IfOk, OnOk, IfErr,
 ghost use Rattle.std.specs.List.{list_any};
 ghost use Rattle.cedr_plan.specs.declared.operator.Operator.TheVariants as operator;
 ghost use Rattle.serde_json.specs.View.{view};
-ghost use Rattle.cedr_plan.specs.Nodes.{text_at, tests_at, columns_at, kind_from, is_text_column};
+ghost use Rattle.cedr_plan.specs.Nodes.{text_at, tests_at, truth_at, columns_at, kind_from, is_text_column, first_fault};
+ghost use Rattle.cedr_plan.specs.declared.plan.NodeKind.TheVariants as kind;
+ghost use Rattle.cedr_plan.specs.declared.fault.PlanKind.TheVariants as fault;
+ghost use Rattle.cedr_expr.specs.Types.{first_past_end};
 ghost use Rattle.cedr_plan.specs.NodeFaults.{IsNodeFault, column_fault};
 ghost use Rattle.cedr_plan.specs.Operators.{operator_row};
-ghost use Rattle.cedr_plan.specs.declared.operator.Member.TheVariants.{Where, Keep as KeepMember, Keys, Count, Sum};
+ghost use Rattle.cedr_plan.specs.declared.operator.Member.TheVariants.{Where, Keep as KeepMember, Keys, Count, Sum, Least, Greatest};
 
 use crate::fault::{NodeFault, PlanKind, kind_of_types};
 use crate::lists::{columns_at, number_at, tests_at, text_at, truth_at};
@@ -47,7 +50,8 @@ pub(crate) fn read_kind(
         }),
         Operator::Starts => Ok(NodeKind::Starts),
         Operator::Ends => Ok(NodeKind::Ends),
-        Operator::Group => read_group(alloc, node, types),
+        Operator::Group => read_group(alloc, node, types, no_columns(alloc), no_columns(alloc)),
+        Operator::RangedGroup => read_ranged_group(alloc, node, types),
         Operator::Sequence => Ok(NodeKind::Sequence {
             scope: number_at(node, "scope"),
             tests: read_tests(alloc, node, types)?,
@@ -57,6 +61,12 @@ pub(crate) fn read_kind(
             hold: number_at(node, "hold"),
             tests: read_tests(alloc, node, types)?,
         }),
+        Operator::AtLeast => Ok(NodeKind::AtLeast {
+            number: number_at(node, "number") as usize,
+            scope: number_at(node, "scope"),
+            tests: read_tests(alloc, node, types)?,
+        }),
+        Operator::Except => Ok(NodeKind::Except(read_tests(alloc, node, types)?)),
         Operator::Output => Ok(NodeKind::Output),
     }
 }
@@ -86,29 +96,64 @@ fn read_keep(alloc: Global, node: &Value, types: &[FieldType]) -> Result<Keep, N
     ensures fit { OnOk result (column_fault types.now (KeepMember ∷ []) (view node.now) ≡ None) }
     ensures fault { IfErr result (IsNodeFault (column_fault types.now (KeepMember ∷ []) (view node.now))) }
 {
-    let columns = columns_at(alloc, node, "keep")?;
-    match Keep::new(columns, types) {
+    read_columns(alloc, node, "keep", types)
+}
+
+/// A group that says whose least and greatest fields it has, where each column is there and each sum's is a number.
+fn read_ranged_group(
+    alloc: Global,
+    node: &Value,
+    types: &[FieldType],
+) -> Result<NodeKind, NodeFault>
+    ensures kind { IfOk result (λ kind. kind ≡ kind_from operator.RangedGroup (view node.now)) }
+    ensures fit { OnOk result (column_fault types.now (Keys ∷ Count ∷ Sum ∷ Least ∷ Greatest ∷ []) (view node.now) ≡ None) }
+    ensures fault { IfErr result (IsNodeFault (column_fault types.now (Keys ∷ Count ∷ Sum ∷ Least ∷ Greatest ∷ []) (view node.now))) }
+{
+    let least = read_columns(alloc, node, "least", types)?;
+    let greatest = read_columns(alloc, node, "greatest", types)?;
+    read_group(alloc, node, types, least, greatest)
+}
+
+/// The columns of the member, where each is there.
+fn read_columns(
+    alloc: Global,
+    node: &Value,
+    key: &str,
+    types: &[FieldType],
+) -> Result<Keep, NodeFault>
+    ensures columns { IfOk result (λ keep. keep ≡ columns_at key.now (view node.now)) }
+    ensures fit { OnOk result (is_some (first_past_end (columns_at key.now (view node.now)) types.now) ≡ false) }
+    ensures fault { IfErr result (IsNodeFault (first_fault ((is_some (first_past_end (columns_at key.now (view node.now)) types.now), fault.BadColumn) ∷ []))) }
+{
+    match Keep::new(columns_at(alloc, node, key)?, types) {
         Ok(keep) => Ok(keep),
         Err(fault) => Err(NodeFault::Fault(kind_of_types(fault))),
     }
 }
 
-/// The keys and the sums of a group, where each column is there and each sum's is a number.
-fn read_group(alloc: Global, node: &Value, types: &[FieldType]) -> Result<NodeKind, NodeFault>
-    ensures kind { IfOk result (λ kind. kind ≡ kind_from operator.Group (view node.now)) }
+fn no_columns(alloc: Global) -> Keep
+    ensures { result ≡ [] }
+{
+    match Keep::new(Vec::new(alloc), &[]) {
+        Ok(keep) => keep,
+        Err(_) => unreachable!(),
+    }
+}
+
+/// A group with these least and greatest fields, where each key and sum is there and each sum's is a number.
+fn read_group(
+    alloc: Global,
+    node: &Value,
+    types: &[FieldType],
+    least: Keep,
+    greatest: Keep,
+) -> Result<NodeKind, NodeFault>
+    ensures kind { IfOk result (λ made. made ≡ kind.Group (columns_at (codes "keys") (view node.now)) (truth_at (codes "count") (view node.now)) (columns_at (codes "sum") (view node.now)) least greatest) }
     ensures fit { OnOk result (column_fault types.now (Keys ∷ Count ∷ Sum ∷ []) (view node.now) ≡ None) }
     ensures fault { IfErr result (IsNodeFault (column_fault types.now (Keys ∷ Count ∷ Sum ∷ []) (view node.now))) }
 {
-    let keys = columns_at(alloc, node, "keys")?;
-    let keys = match Keep::new(keys, types) {
-        Ok(keys) => keys,
-        Err(fault) => return Err(NodeFault::Fault(kind_of_types(fault))),
-    };
-    let sums = columns_at(alloc, node, "sum")?;
-    let sums = match Keep::new(sums, types) {
-        Ok(sums) => sums,
-        Err(fault) => return Err(NodeFault::Fault(kind_of_types(fault))),
-    };
+    let keys = read_columns(alloc, node, "keys", types)?;
+    let sums = read_columns(alloc, node, "sum", types)?;
     if has_text_column(sums.columns(), types) {
         return Err(NodeFault::Fault(PlanKind::TypeDiffers));
     }
@@ -116,6 +161,8 @@ fn read_group(alloc: Global, node: &Value, types: &[FieldType]) -> Result<NodeKi
         keys,
         count: truth_at(node, "count"),
         sums,
+        least,
+        greatest,
     })
 }
 

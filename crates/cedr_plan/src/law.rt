@@ -1,4 +1,4 @@
-ghost use Rattle.std.specs.Prelude.{◌≡◌, ◌<◌, ◌^◌, ◌++◌, ◌∷◌, ℕ, List, length, Ok, Some, true};
+ghost use Rattle.std.specs.Prelude.{◌≡◌, ◌<◌, ◌≤◌, ◌^◌, ◌++◌, ◌∷◌, ℕ, List, length, Ok, Some, true};
 ghost use Rattle.cedr_plan.specs.declared.fault.PlanKind.TheVariants as kind;
 ghost use Rattle.cedr_plan.specs.declared.operator.Operator.{Operator};
 ghost use Rattle.cedr_plan.specs.declared.plan.Plan.{Plan};
@@ -16,10 +16,11 @@ pub fn plan_limit()
     ensures long { (bytes : List ℕ) → 2 ^ 20 < length bytes → plan_of bytes ≡ refused {T = Drawn} kind.TooLong 0 }
 {}
 
-/// The law of the operators' words: each operator is read from its own, so none is left out and no two share
-/// one.
+/// The law of the operators' words: from its first version each operator is read from its own word, so none is left out and
+/// no two of a version share one. A word of a version is an operator that this version knows, and none of a newer one.
 pub fn operator_words()
-    ensures { (operator : Operator) → operator_of (operator_row operator).word ≡ Some operator }
+    ensures own { (operator : Operator) → operator_of (operator_row operator).since (operator_row operator).word ≡ Some operator }
+    ensures known { (version : ℕ) (word : List ℕ) (operator : Operator) → operator_of version word ≡ Some operator → (operator_row operator).since ≤ version }
 {}
 
 /// The law of plans that keep the rules: one that bytes describe does, whoever reads it, and the nodes of an accepted plan are

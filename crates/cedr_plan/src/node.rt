@@ -2,13 +2,13 @@ ghost use Rattle.std.specs.Prelude.{◌≡◌, IfOk, OnOk, IfErr, None, map, cod
 ghost use Rattle.std.specs.List.{list_any};
 ghost use Rattle.serde_json.specs.View.{view};
 ghost use Rattle.cedr_plan.specs.Drawn.{node_of};
-ghost use Rattle.cedr_plan.specs.Nodes.{text_at, types_of, inputs_at, ports_at, first_port, all_ports, same_types, has_unlike_ports, result_types, result_width, first_fault, typed_faults, node_fault, node_from, node_of_value};
+ghost use Rattle.cedr_plan.specs.Nodes.{text_at, types_of, inputs_at, ports_at, first_port, all_ports, counted_ports, same_types, has_unlike_ports, result_types, result_width, first_fault, typed_faults, node_fault, node_from, node_of_value};
 ghost use Rattle.cedr_plan.specs.NodeFaults.{IsNodeFault};
 ghost use Rattle.cedr_plan.specs.Operators.{operator_row};
 
 use crate::early::{early_fault, fault_without_operator, operator_at};
 use crate::fault::{NodeFault, PlanKind};
-use crate::inputs::{all_ports, first_port, inputs_at, level_at};
+use crate::inputs::{column_types, first_port, inputs_at, level_at};
 use crate::kind::read_kind;
 use crate::lists::text_at;
 use crate::operator::Operator;
@@ -20,17 +20,18 @@ use std::alloc::Global;
 
 const WIDEST: usize = 16;
 
-/// The node that the value is after the earlier ones, or its first fault.
+/// The node that the value is in this version after the earlier ones, or its first fault.
 pub(crate) fn read_node(
     alloc: Global,
+    version: u64,
     earlier: &[PlanNode],
     node: &Value,
 ) -> Result<PlanNode, NodeFault>
-    ensures node { IfOk result (λ made. node_of made ≡ node_of_value (map node_of earlier.now) (view node.now)) }
-    ensures sound { OnOk result (node_fault (map node_of earlier.now) (view node.now) ≡ None) }
-    ensures fault { IfErr result (IsNodeFault (node_fault (map node_of earlier.now) (view node.now))) }
+    ensures node { IfOk result (λ made. node_of made ≡ node_of_value version (map node_of earlier.now) (view node.now)) }
+    ensures sound { OnOk result (node_fault version (map node_of earlier.now) (view node.now) ≡ None) }
+    ensures fault { IfErr result (IsNodeFault (node_fault version (map node_of earlier.now) (view node.now))) }
 {
-    let Some(operator) = operator_at(node) else {
+    let Some(operator) = operator_at(version, node) else {
         return Err(NodeFault::Fault(fault_without_operator(node)));
     };
     if let Some(kind) = early_fault(earlier, operator, node) {
@@ -53,18 +54,18 @@ fn build_node(
 {
     let outcome = operator.row().outcome;
     let inputs = inputs_at(alloc, earlier, operator, node)?;
-    let ports = all_ports(alloc, earlier, inputs.as_slice())?;
+    let columns = column_types(alloc, earlier, outcome, node, inputs.as_slice())?;
     let types = result_types(
         alloc,
         outcome,
         node,
         first_port(earlier, inputs.as_slice()),
-        ports.as_slice(),
+        columns.as_slice(),
     )?;
     if WIDEST < result_width(alloc, outcome, node, types.as_slice())? {
         return Err(NodeFault::Fault(PlanKind::TooWide));
     }
-    let kind = read_kind(alloc, operator, node, ports.as_slice())?;
+    let kind = read_kind(alloc, operator, node, columns.as_slice())?;
     if has_unlike_ports(outcome, earlier, inputs.as_slice()) {
         return Err(NodeFault::Fault(PlanKind::TypeDiffers));
     }

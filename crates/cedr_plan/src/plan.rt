@@ -10,23 +10,56 @@ use std::alloc::Global;
 #[derive(Drop)]
 pub enum NodeKind {
     /// Rows that come from outside, from the file of this name.
-    Source { file: Text },
+    Source {
+        file: Text,
+    },
     Select(Tests),
     Project(Keep),
     Union,
     Join(Tests),
-    Window { width: u64 },
-    Shift { by: u64 },
-    Hop { every: u64, width: u64 },
+    Window {
+        width: u64,
+    },
+    Shift {
+        by: u64,
+    },
+    Hop {
+        every: u64,
+        width: u64,
+    },
     Starts,
     Ends,
-    Group { keys: Keep, count: bool, sums: Keep },
-    Sequence { scope: u64, tests: Tests },
-    Unless { scope: u64, hold: u64, tests: Tests },
+    /// For each key the number of its rows, the sums of columns of numbers, and the least and the greatest fields of columns
+    /// of either type, each where it is asked for.
+    Group {
+        keys: Keep,
+        count: bool,
+        sums: Keep,
+        least: Keep,
+        greatest: Keep,
+    },
+    Sequence {
+        scope: u64,
+        tests: Tests,
+    },
+    Unless {
+        scope: u64,
+        hold: u64,
+        tests: Tests,
+    },
+    /// Rows of `number` different inputs, which all have the same types. The tests' columns count through so many payloads of
+    /// these types.
+    AtLeast {
+        number: usize,
+        scope: u64,
+        tests: Tests,
+    },
+    Except(Tests),
     Output,
 }
 
-/// A node of a plan. Columns count from 0, in tests through the fields of all inputs in their order.
+/// A node of a plan. Columns count from 0, in tests through the fields of all inputs in their order but where a kind says
+/// otherwise.
 pub struct PlanNode {
     pub name: Text,
     pub kind: NodeKind,
@@ -84,10 +117,18 @@ impl NodeKind {
             }),
             NodeKind::Starts => Ok(NodeKind::Starts),
             NodeKind::Ends => Ok(NodeKind::Ends),
-            NodeKind::Group { keys, count, sums } => Ok(NodeKind::Group {
+            NodeKind::Group {
+                keys,
+                count,
+                sums,
+                least,
+                greatest,
+            } => Ok(NodeKind::Group {
                 keys: keys.copy(alloc)?,
                 count: *count,
                 sums: sums.copy(alloc)?,
+                least: least.copy(alloc)?,
+                greatest: greatest.copy(alloc)?,
             }),
             NodeKind::Sequence { scope, tests } => Ok(NodeKind::Sequence {
                 scope: *scope,
@@ -98,6 +139,16 @@ impl NodeKind {
                 hold: *hold,
                 tests: tests.copy(alloc)?,
             }),
+            NodeKind::AtLeast {
+                number,
+                scope,
+                tests,
+            } => Ok(NodeKind::AtLeast {
+                number: *number,
+                scope: *scope,
+                tests: tests.copy(alloc)?,
+            }),
+            NodeKind::Except(tests) => Ok(NodeKind::Except(tests.copy(alloc)?)),
             NodeKind::Output => Ok(NodeKind::Output),
         }
     }

@@ -1,8 +1,8 @@
-ghost use Rattle.std.specs.Prelude.{◌≡◌, IfOk, IfErr, Ok, option_map};
+ghost use Rattle.std.specs.Prelude.{◌≡◌, IfOk, IfErr, Ok, Some, option_map};
 ghost use Rattle.serde_json.specs.View.{view};
 ghost use Rattle.cedr_plan.specs.Drawn.{drawn};
-ghost use Rattle.cedr_plan.specs.Plans.{json_of, plan_of, IsFaultOf};
-ghost use Rattle.cedr_plan.specs.Rules.{IsPlan};
+ghost use Rattle.cedr_plan.specs.Plans.{json_of, plan_of, stated_version, IsFaultOf};
+ghost use Rattle.cedr_plan.specs.Rules.{IsPlan, HasPlainGroups};
 
 use crate::document::plan_of_value;
 use crate::fault::{PlanFault, PlanKind};
@@ -16,10 +16,12 @@ use std::str;
 pub const PLAN_LIMIT: usize = 1_048_576;
 
 /// The plan that the bytes describe, or their first fault. A fault of a node has its number, from 1, and a
-/// fault of the document the number 0.
+/// fault of the document the number 0. A group of a version 1 plan asks for no least and no greatest fields,
+/// whatever members it has.
 pub fn read_plan(alloc: Global, bytes: &[u8]) -> Result<Plan, PlanFault>
     ensures plan { IfOk result (λ plan. plan_of bytes.now ≡ Ok (drawn plan)) }
     ensures sound { IfOk result IsPlan }
+    ensures plain { IfOk result (λ plan. stated_version bytes.now ≡ Some 1 → HasPlainGroups (drawn plan)) }
     ensures fault { IfErr result (IsFaultOf bytes.now) }
 {
     plan_of(alloc, bytes)

@@ -1,10 +1,10 @@
-ghost use Rattle.std.specs.Prelude.{◌≡◌, ◌+◌, ◌++◌, IfOk, OnOk, map, codes, length, not};
+ghost use Rattle.std.specs.Prelude.{◌≡◌, ◌+◌, ◌<◌, ◌^◌, ◌++◌, IfOk, OnOk, map, codes, length, not};
 ghost use Rattle.std.specs.List.{list_any, slice_get};
 ghost use Rattle.serde_json.specs.View.{view};
 ghost use Rattle.cedr_base.specs.declared.field.FieldType.TheVariants as field_type;
 ghost use Rattle.cedr_expr.specs.Columns.{kept_columns};
 ghost use Rattle.cedr_plan.specs.Drawn.{node_of};
-ghost use Rattle.cedr_plan.specs.Nodes.{columns_at, truth_at, types_of, first_port, all_ports, group_types, count_types, same_types, has_unlike_ports, result_types, result_width};
+ghost use Rattle.cedr_plan.specs.Nodes.{columns_at, truth_at, types_of, first_port, all_ports, group_types, group_width, count_types, same_types, has_unlike_ports, result_types, result_width};
 
 use crate::inputs::{first_port, types_of};
 use crate::lists::{columns_at, truth_at, types_at};
@@ -14,7 +14,8 @@ use cedr_base::{FieldType, OutOfMemory};
 use serde_json::Value;
 use std::alloc::Global;
 
-/// The types of the result's fields, where the first port has the types `first` and all ports together `all`.
+/// The types of the result's fields, where the first port has the types `first`, and the columns that members name have the
+/// types `all`.
 pub(crate) fn result_types(
     alloc: Global,
     outcome: Outcome,
@@ -31,8 +32,9 @@ pub(crate) fn result_types(
             let keep = columns_at(alloc, node, "keep")?;
             kept_types(alloc, keep.as_slice(), all)
         }
-        Outcome::Joined => copy_types(alloc, all),
-        Outcome::Grouped => group_types(alloc, node, all),
+        Outcome::Joined | Outcome::Repeated => copy_types(alloc, all),
+        Outcome::Grouped => group_types(alloc, node, &[], &[], all),
+        Outcome::Ranged => ranged_types(alloc, node, all),
     }
 }
 
@@ -65,12 +67,28 @@ fn type_at(types: &[FieldType], column: usize) -> Option<FieldType>
     types.get(column).copied()
 }
 
-fn group_types(
+/// The types of a group that has the least and the greatest fields of its node's columns.
+fn ranged_types(
     alloc: Global,
     node: &Value,
     all: &[FieldType],
 ) -> Result<Vec<FieldType>, OutOfMemory>
-    ensures { IfOk result (λ types. types.items ≡ group_types (columns_at (codes "keys") (view node.now)) (truth_at (codes "count") (view node.now)) (columns_at (codes "sum") (view node.now)) all.now) }
+    ensures { IfOk result (λ types. types.items ≡ group_types (columns_at (codes "keys") (view node.now)) (truth_at (codes "count") (view node.now)) (columns_at (codes "sum") (view node.now)) (columns_at (codes "least") (view node.now)) (columns_at (codes "greatest") (view node.now)) all.now) }
+{
+    let least = columns_at(alloc, node, "least")?;
+    let greatest = columns_at(alloc, node, "greatest")?;
+    group_types(alloc, node, least.as_slice(), greatest.as_slice(), all)
+}
+
+/// The types of a group that has the least and the greatest fields of these columns.
+fn group_types(
+    alloc: Global,
+    node: &Value,
+    least: &[usize],
+    greatest: &[usize],
+    all: &[FieldType],
+) -> Result<Vec<FieldType>, OutOfMemory>
+    ensures { IfOk result (λ types. types.items ≡ group_types (columns_at (codes "keys") (view node.now)) (truth_at (codes "count") (view node.now)) (columns_at (codes "sum") (view node.now)) least.now greatest.now all.now) }
 {
     let keys = columns_at(alloc, node, "keys")?;
     let sums = columns_at(alloc, node, "sum")?;
@@ -79,6 +97,8 @@ fn group_types(
         types.push(FieldType::Number)?;
     }
     push_numbers(&mut types, sums.as_slice())?;
+    types.extend_from_slice(kept_types(alloc, least, all)?.as_slice())?;
+    types.extend_from_slice(kept_types(alloc, greatest, all)?.as_slice())?;
     Ok(types)
 }
 
@@ -103,18 +123,30 @@ pub(crate) fn result_width(
 {
     match outcome {
         Outcome::Kept => Ok(columns_at(alloc, node, "keep")?.len()),
-        Outcome::Grouped => group_width(alloc, node),
-        Outcome::Declared | Outcome::First | Outcome::Alike | Outcome::Joined => Ok(types.len()),
+        Outcome::Grouped => group_width(alloc, node, 0),
+        Outcome::Ranged => ranged_width(alloc, node),
+        Outcome::Declared | Outcome::First | Outcome::Alike | Outcome::Joined | Outcome::Repeated =>
+            Ok(types.len()),
     }
 }
 
-fn group_width(alloc: Global, node: &Value) -> Result<usize, OutOfMemory>
-    ensures { IfOk result (λ width. width ≡ length (columns_at (codes "keys") (view node.now)) + (length (count_types (truth_at (codes "count") (view node.now))) + length (columns_at (codes "sum") (view node.now)))) }
+fn ranged_width(alloc: Global, node: &Value) -> Result<usize, OutOfMemory>
+    ensures { IfOk result (λ width. width ≡ group_width (columns_at (codes "keys") (view node.now)) (truth_at (codes "count") (view node.now)) (columns_at (codes "sum") (view node.now)) (columns_at (codes "least") (view node.now)) (columns_at (codes "greatest") (view node.now))) }
+{
+    let least = columns_at(alloc, node, "least")?.len();
+    let greatest = columns_at(alloc, node, "greatest")?.len();
+    group_width(alloc, node, least + greatest)
+}
+
+/// How many fields a group has that has so many least and greatest ones.
+fn group_width(alloc: Global, node: &Value, extremes: usize) -> Result<usize, OutOfMemory>
+    requires { extremes < 2 ^ 62 }
+    ensures { IfOk result (λ width. width ≡ length (columns_at (codes "keys") (view node.now)) + (length (count_types (truth_at (codes "count") (view node.now))) + (length (columns_at (codes "sum") (view node.now)) + extremes))) }
 {
     let keys = columns_at(alloc, node, "keys")?.len();
     let sums = columns_at(alloc, node, "sum")?.len();
     let count = if truth_at(node, "count") { 1 } else { 0 };
-    Ok(keys + (count + sums))
+    Ok(keys + (count + (sums + extremes)))
 }
 
 /// Whether a node needs the same types on all ports, and its ports have different ones.
@@ -122,9 +154,17 @@ pub(crate) fn has_unlike_ports(outcome: Outcome, earlier: &[PlanNode], inputs: &
     ensures { result ≡ has_unlike_ports outcome (map (types_of (map node_of earlier.now)) inputs.now) }
 {
     match outcome {
-        Outcome::Alike => some_are_unlike(first_port(earlier, inputs), earlier, inputs),
-        Outcome::Declared | Outcome::First | Outcome::Kept | Outcome::Joined | Outcome::Grouped =>
-            false,
+        Outcome::Alike | Outcome::Repeated => some_are_unlike(
+            first_port(earlier, inputs),
+            earlier,
+            inputs,
+        ),
+        Outcome::Declared
+        | Outcome::First
+        | Outcome::Kept
+        | Outcome::Joined
+        | Outcome::Grouped
+        | Outcome::Ranged => false,
     }
 }
 

@@ -23,6 +23,7 @@
 //! - `sorted FRONT ROW..`: the same with rows whose payload may stand in a line, which are sorted first.
 //! - `plan DOCUMENT`: the edge of a plan, a line for each node and what its ports are, or its fault. `node NODES` has a
 //!   document of a source `l` of a text and a number, a source `r` of a number, these nodes, and an output that reads `n`.
+//!   `newer NODES` has such a document of version 2.
 //! - `copied LEFT RIGHT DOCUMENT`: the same of a copy of each node, and then what these nodes do to two payloads.
 //!
 //! A row is `BEGIN;END;FIELD..` with fields as `int:-7` or `text:a`. A change is `+;` and its row, or `-;TO;` and the row that it
@@ -74,7 +75,8 @@ fn answer(rt: &impl Print, alloc: Global, line: &str) -> Result<()> {
         ["memory", shape, bytes] => memory(rt, alloc, shape, bytes),
         ["file", shape, piece, refused, bytes] => file(rt, alloc, shape, piece, refused, bytes),
         ["plan", document] => plan(rt, alloc, document),
-        ["node", nodes] => node(rt, alloc, nodes),
+        ["node", nodes] => node(rt, alloc, 1, nodes),
+        ["newer", nodes] => node(rt, alloc, 2, nodes),
         ["copied", left, right, document] => copied(rt, alloc, left, right, document),
         [command, front, items @ ..] => write_items(rt, alloc, command, front, items),
         _ => bail!("no command: {line}"),

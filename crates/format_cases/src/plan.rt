@@ -6,11 +6,14 @@ use cedr_plan::{NodeKind, Plan, PlanFault, PlanNode, read_plan, write_check};
 use cedr_text::write_row;
 use std::alloc::Global;
 
-/// What stands before the nodes of a document that has two sources.
-const FRONT: &str =
-    r#"{"version":1,"nodes":[{"name":"l","op":"source","file":"l.csv","fields":["text","int"]},{"name":"r","op":"source","file":"r.csv","fields":["int"]},"#;
+/// What stands before the version.
+const VERSION: &str = r#"{"version":"#;
 
-/// What stands behind them: an output that reads the node `n`.
+/// What stands between the version and the nodes of a document that has two sources.
+const FRONT: &str =
+    r#","nodes":[{"name":"l","op":"source","file":"l.csv","fields":["text","int"]},{"name":"r","op":"source","file":"r.csv","fields":["int"]},"#;
+
+/// What stands behind the nodes: an output that reads the node `n`.
 const BEHIND: &str = r#",{"name":"out","op":"output","from":["n"]}]}"#;
 
 /// Reads a document, and writes its plan or its fault.
@@ -25,9 +28,9 @@ pub(crate) fn plan(rt: &impl Print, alloc: Global, document: &str) -> Result<()>
     }
 }
 
-/// The same of nodes between two sources and an output.
-pub(crate) fn node(rt: &impl Print, alloc: Global, nodes: &str) -> Result<()> {
-    let document = format!(in alloc; "{FRONT}{nodes}{BEHIND}")?;
+/// The same of nodes between two sources and an output, in this version.
+pub(crate) fn node(rt: &impl Print, alloc: Global, version: u64, nodes: &str) -> Result<()> {
+    let document = format!(in alloc; "{VERSION}{version}{FRONT}{nodes}{BEHIND}")?;
     plan(rt, alloc, document.as_str())
 }
 
@@ -90,8 +93,32 @@ fn tell_kind(
             println!(rt; "  scope {scope}, hold {hold}, passed: {passed}")?;
             Ok(())
         }
-        NodeKind::Group { keys, count, sums } => {
-            println!(rt; "  counts: {count}, sums {:?}", sums.columns())?;
+        NodeKind::AtLeast {
+            number,
+            scope,
+            tests,
+        } => {
+            let passed = tests.holds(left, right);
+            println!(rt; "  number {number}, scope {scope}, passed: {passed}")?;
+            Ok(())
+        }
+        NodeKind::Except(tests) => {
+            println!(rt; "  passed: {}", tests.holds(left, right))?;
+            Ok(())
+        }
+        NodeKind::Group {
+            keys,
+            count,
+            sums,
+            least,
+            greatest,
+        } => {
+            println!(rt;
+                "  counts: {count}, sums {:?}, least {:?}, greatest {:?}",
+                sums.columns(),
+                least.columns(),
+                greatest.columns()
+            )?;
             tell_kept(rt, alloc, keys.apply(alloc, left)?)
         }
         NodeKind::Output => {

@@ -12,6 +12,7 @@
 //! project TYPES keep COLUMNS                            these columns of each row
 //! union PORTS                                           the rows of 2 to 4 ports
 //! join TYPES TYPES where TEST..                         the pairs of rows that are valid together
+//! except TYPES TYPES where TEST..                       the parts of each row in which no row of port 1 is valid
 //! window WIDTH                                          each row for at most so long
 //! shift BY                                              each row so much later
 //! hop EVERY WIDTH                                       each row from a multiple on, so long
@@ -19,13 +20,16 @@
 //! ends                                                  each row from its end on
 //! group TYPES by COLUMNS sums COLUMNS                   the sums of each group
 //! group TYPES by COLUMNS count sums COLUMNS             the count and the sums of each group
+//! group .. sums COLUMNS least COLUMNS greatest COLUMNS  and the least and the greatest fields of each group
 //! sequence PORTS SCOPE TYPES where TEST..               one row of each of 2 to 4 ports, one after the other
 //! unless SCOPE HOLD TYPES TYPES where TEST..            each row that none of port 1 follows within the scope
+//! atleast PORTS NUMBER SCOPE TYPES where TEST..         one row of each of so many of 2 to 4 ports, in any order
 //! ```
 //!
 //! TYPES are the types of payloads, as `text,int`, and `-` is none. Where tests look at two payloads there are two such
-//! words; a sequence has one word for the payloads of all its ports. COLUMNS are as `0,2`, and `-` is none. A TEST is a
-//! column, a comparison and what is compared with, as `0,=,#2` for column 2, `1,>=,5` for a number, `0,!=,'a` for a text.
+//! words; a sequence has one word for the payloads of all its ports, and an `atleast` for those of as many as it takes.
+//! COLUMNS are as `0,2`, and `-` is none. A TEST is a column, a comparison and what is compared with, as `0,=,#2` for
+//! column 2, `1,>=,5` for a number, `0,!=,'a` for a text.
 //!
 //! Each further line is a step:
 //!

@@ -2,14 +2,16 @@ ghost use Rattle.std.specs.Prelude.{◌∷◌, [], IfOk};
 ghost use Rattle.change_laws.specs.Times.{IsWhile};
 
 use crate::case::play;
-use crate::word::{read_columns, read_ports, read_test, read_types, read_while};
+use crate::word::{read_columns, read_number, read_ports, read_test, read_types, read_while};
 use anyhow::{Result, bail};
 use cedr_expr::{Keep, Test, Tests};
 use cedr_table::Operator;
+use op_except::Except;
 use op_group::Group;
 use op_join::Join;
 use op_life::{Ends, Hop, Shift, Starts, Window};
 use op_row::{Project, Select, Union};
+use pat_atleast::AtLeast;
 use pat_seq::Sequence;
 use pat_unless::Unless;
 use std::alloc::Global;
@@ -41,9 +43,11 @@ fn play_kind(
         "project" => play_project(rt, alloc, words, steps),
         "union" => play_union(rt, alloc, words, steps),
         "join" => play_join(rt, alloc, words, steps),
+        "except" => play_except(rt, alloc, words, steps),
         "group" => play_group(rt, alloc, words, steps),
         "sequence" => play_sequence(rt, alloc, words, steps),
         "unless" => play_unless(rt, alloc, words, steps),
+        "atleast" => play_at_least(rt, alloc, words, steps),
         _ => play_lifetime(rt, alloc, kind, words, steps),
     }
 }
@@ -105,6 +109,16 @@ fn play_join(rt: &impl Print, alloc: Global, words: &[&str], steps: &[String]) -
     }
 }
 
+fn play_except(rt: &impl Print, alloc: Global, words: &[&str], steps: &[String]) -> Result<()> {
+    match words {
+        [left, right, "where", tests @ ..] => {
+            let except = Except::new(alloc, make_tests(alloc, left, right, tests)?);
+            play(rt, alloc, except, 2, steps)
+        }
+        _ => bail!("no except"),
+    }
+}
+
 fn play_hop(rt: &impl Print, alloc: Global, words: &[&str], steps: &[String]) -> Result<()> {
     match words {
         [every, width] => {
@@ -117,34 +131,54 @@ fn play_hop(rt: &impl Print, alloc: Global, words: &[&str], steps: &[String]) ->
 
 fn play_group(rt: &impl Print, alloc: Global, words: &[&str], steps: &[String]) -> Result<()> {
     match words {
-        [types, "by", keys, "count", "sums", sums] => {
-            play(
-                rt,
-                alloc,
-                make_group(alloc, types, keys, true, sums)?,
-                1,
-                steps,
-            )
+        [types, "by", keys, "count", columns @ ..] => play_counted(
+            rt, alloc, types, keys, true, columns, steps,
+        ),
+        [types, "by", keys, columns @ ..] => play_counted(
+            rt, alloc, types, keys, false, columns, steps,
+        ),
+        _ => bail!("no group"),
+    }
+}
+
+fn play_counted(
+    rt: &impl Print,
+    alloc: Global,
+    types: &str,
+    keys: &str,
+    count: bool,
+    columns: &[&str],
+    steps: &[String],
+) -> Result<()> {
+    match columns {
+        ["sums", sums] => {
+            let group = make_group(alloc, types, keys, count, sums, "-", "-")?;
+            play(rt, alloc, group, 1, steps)
         }
-        [types, "by", keys, "sums", sums] => {
-            play(
-                rt,
-                alloc,
-                make_group(alloc, types, keys, false, sums)?,
-                1,
-                steps,
-            )
+        ["sums", sums, "least", least, "greatest", greatest] => {
+            let group = make_group(alloc, types, keys, count, sums, least, greatest)?;
+            play(rt, alloc, group, 1, steps)
         }
         _ => bail!("no group"),
     }
 }
 
-fn make_group(alloc: Global, types: &str, keys: &str, count: bool, sums: &str) -> Result<Group>
+fn make_group(
+    alloc: Global,
+    types: &str,
+    keys: &str,
+    count: bool,
+    sums: &str,
+    least: &str,
+    greatest: &str,
+) -> Result<Group>
     ensures { IfOk result (λ op. ⟦<Group as Operator>⟧.stands op ([] ∷ []) (0 ∷ [])) }
 {
     let keys = make_keep(alloc, types, keys)?;
     let sums = make_keep(alloc, types, sums)?;
-    Ok(Group::new(alloc, keys, count, sums))
+    let least = make_keep(alloc, types, least)?;
+    let greatest = make_keep(alloc, types, greatest)?;
+    Ok(Group::new(alloc, keys, count, sums, least, greatest))
 }
 
 /// A sequence's tests see the payloads of all ports as one.
@@ -173,6 +207,21 @@ fn play_unless(rt: &impl Print, alloc: Global, words: &[&str], steps: &[String])
             play(rt, alloc, Unless::new(alloc, scope, hold, tests), 2, steps)
         }
         _ => bail!("no unless"),
+    }
+}
+
+/// Its tests see the payloads of the chosen ports as one.
+fn play_at_least(rt: &impl Print, alloc: Global, words: &[&str], steps: &[String]) -> Result<()> {
+    match words {
+        [ports, number, scope, types, "where", tests @ ..] => {
+            let ports = read_ports(ports)?;
+            let number = read_number(number, ports)?;
+            let scope = read_while(scope)?;
+            let tests = make_tests(alloc, types, "-", tests)?;
+            let at_least = AtLeast::new(alloc, ports, number, scope, tests)?;
+            play(rt, alloc, at_least, ports, steps)
+        }
+        _ => bail!("no atleast"),
     }
 }
 

@@ -47,6 +47,17 @@ pub(crate) fn read_ports(word: &str) -> Result<usize>
     Ok(ports)
 }
 
+/// A number of so many ports, of which there is to be one at least.
+pub(crate) fn read_number(word: &str, ports: usize) -> Result<usize>
+    ensures { IfOk result (λ number. (1 ≤ number) × (number ≤ ports)) }
+{
+    let number = word.parse::<usize>()?;
+    if number < 1 || number > ports {
+        bail!("not 1 to {ports}: {word}");
+    }
+    Ok(number)
+}
+
 fn text_of(alloc: Global, word: &str) -> Result<Text> {
     Ok(Text::from_slice(alloc, word.as_bytes())?)
 }

@@ -14,7 +14,7 @@ use Rattle.op_group.specs.Cuts.{one_at}
 use Rattle.op_group.specs.Measures.{edge_at, part_at, key_in}
 use Rattle.op_group.specs.LawWords.{keyed, SameAt}
 use Rattle.op_group.specs.TimeLaws.{above_test, one_elsewhere, not_valid_yet}
-use Rattle.op_group.specs.SegmentLaws.{sum_by-filter}
+use Rattle.op_group.specs.FilterLaws.{sum_by-filter}
 use Rattle.op_group.specs.GroupLaws.{same_at, count_alike}
 use Rattle.op_group.specs.BoundLaws.{open_at, open_below, test_open, bound_within}
 use Rattle.cedr_table.specs.Agreements.{KeepsAgreement}
@@ -68,8 +68,7 @@ parts_see t u weight keeps h = record {
 pub same_before : (g : Grouping) (key : List Field) (t u : ℕ) (xs ys : List Row) → RowsAgree t xs ys → u < t → SameAt g key xs ys u
 same_before g key t u xs ys h before = same_at g key xs ys u
     (group_alike g key t (edge_at u) xs ys (edges_see t u before) h)
-    (group_alike g key t (part_at (λ _. 1) u) xs ys (parts_see t u (λ _. 1) (λ x end. refl) before) h)
-    (λ column. group_alike g key t (part_at (column_number column) u) xs ys (parts_see t u (column_number column) (λ x end. refl) before) h)
+    (λ w. group_alike g key t (part_at (λ (r : Row). w r.payload) u) xs ys (parts_see t u (λ (r : Row). w r.payload) (λ x end. refl) before) h)
 
 turned : (t : ℕ) (xs ys : List Row) → RowsAgree t xs ys → RowsAgree t ys xs
 turned t xs ys h = record { agree = agree_back t xs ys h.agree; rows = h.others; others = h.rows }

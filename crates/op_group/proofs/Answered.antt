@@ -16,6 +16,9 @@ use Rattle.change_laws.proofs.Moves.{may_is}
 use Rattle.cedr_table.proofs.RowsLemmas.{moved_are}
 use Rattle.op_group.specs.declared.segment.Segment.{Segment}
 use Rattle.op_group.specs.declared.points.CutPoint.{CutPoint}
+use Rattle.cedr_living.specs.declared.living.LivingFields.{LivingFields}
+use Rattle.cedr_living.specs.Bags.{KeepsLives}
+use Rattle.op_group.specs.Bags.{lives_of}
 use Rattle.op_group.specs.Groups.{Grouping, key_of, same_payload, rows_of}
 use Rattle.op_group.specs.Cuts.{segment_at}
 use Rattle.op_group.specs.declared.points.Touched.{Touched}
@@ -28,7 +31,7 @@ use Rattle.op_group.specs.BoundLaws.{untouched_sums, same_outside}
 use Rattle.cedr_base.specs.Order.{payload_cmp}
 use Rattle.change_laws.proofs.Moves.{sum_by-moved}
 use Rattle.op_group.proofs.SinceLemmas.{cut_since}
-use Rattle.op_group.specs.GroupLaws.{payload_exact, payload_itself}
+use Rattle.op_group.specs.PayloadLaws.{payload_exact, payload_itself}
 use Rattle.op_group.specs.State.{ShowsFrom, ShowsRows, KeepsGroups, NoneEmpty, IsPassed, AnswersGroup, cuts_of}
 use Rattle.op_group.proofs.GroupRepairs.{group_moves, group_follows, rows_of_are, other_shows}
 
@@ -50,7 +53,8 @@ empty_at groups key other cuts false h none gone = refl
 pub empty_put : (groups : List (List Field × BTreeMap ℕ Segment)) (key other : List Field) (cuts : List (ℕ × Segment)) → cuts ≡ [] → cuts_of groups key ≡ [] → cuts_of groups other ≡ cond (same_payload key other) cuts (cuts_of groups other)
 empty_put groups key other cuts none gone = empty_at groups key other cuts (same_payload key other) refl none gone
 
-turned_test : (key other : List Field) (b : Bool) → same_payload other key ≡ b → same_payload key other ≡ false → b ≡ false
+-- a test of two payloads is the same the other way round, where it fails
+pub turned_test : (key other : List Field) (b : Bool) → same_payload other key ≡ b → same_payload key other ≡ false → b ≡ false
 turned_test key other true h k = let same = payload_exact other key h in let e : true ≡ false = sym (payload_itself key) ∙ (ap (same_payload key) (sym same) ∙ k) in cc
 turned_test key other false h k = refl
 
@@ -81,7 +85,7 @@ follow_true true x d a d' a' e f h k = f ∙ (sym e ∙ k)
 follow_true false x d a d' a' e f h k = f ∙ h (sym e ∙ k)
 
 -- a set has a cut point that another lacks only where neither follows the change
-follow_apart : (q x d a d' a' : Bool) → d' ≡ cond q x d → a' ≡ cond q x a → a' ≡ true → d' ≡ false → (a ≡ true) × (d ≡ false)
+pub follow_apart : (q x d a d' a' : Bool) → d' ≡ cond q x d → a' ≡ cond q x a → a' ≡ true → d' ≡ false → (a ≡ true) × (d ≡ false)
 follow_apart true x d a d' a' e f h k = absurd (false_not_true a' (f ∙ (sym e ∙ k)) h)
 follow_apart false x d a d' a' e f h k = (sym f ∙ h, sym e ∙ k)
 
@@ -97,7 +101,8 @@ module _ (key : List Field) (before between after : List (List Field × BTreeMap
 
   module _ (g : Grouping) (c : Change) (old new : List Row) (mark : ℕ) (all all' due due' : List CutPoint)
       (own : key ≡ key_of g (changed_row c)) (may : MayFollow old [] c) (moved : IsMoved c old new) (late : mark ≤ sync_of c)
-      (change : (xs ys : List Row) (m from : ℕ) → ShowsFrom g.sums m from cuts xs → MayFollow xs [] c → IsMoved c xs ys → m ≤ sync_of c → ShowsFrom g.sums m from cuts' ys)
+      (living : LivingFields) (kept : KeepsLives living (lives_of g.totalled (rows_of g key new))) (low : living.from ≤ sync_of c)
+      (change : (xs ys : List Row) (m from : ℕ) → ShowsFrom g.totalled m from cuts xs → KeepsLives living (lives_of g.totalled ys) → living.from ≤ sync_of c → MayFollow xs [] c → IsMoved c xs ys → m ≤ sync_of c → ShowsFrom g.totalled m from cuts' ys)
       (follows_all : Follows all all' key cuts' (sync_of c) (last_time c)) (follows_due : Follows due due' key cuts' (sync_of c) (last_time c))
       (keeps : KeepsGroups g before all due old mark) where
     is : IsChange c
@@ -112,30 +117,30 @@ module _ (key : List Field) (before between after : List (List Field × BTreeMap
     from : ℕ
     from = (keeps.shown key).from
 
-    shown_old : ShowsFrom g.sums mark (keeps.shown key).from cuts (rows_of g key old)
-    shown_old = subst (λ cs. ShowsFrom g.sums mark (keeps.shown key).from cs (rows_of g key old)) (sym out) (keeps.shown key).shown
+    shown_old : ShowsFrom g.totalled mark (keeps.shown key).from cuts (rows_of g key old)
+    shown_old = subst (λ cs. ShowsFrom g.totalled mark (keeps.shown key).from cs (rows_of g key old)) (sym out) (keeps.shown key).shown
 
-    shown_new : ShowsFrom g.sums mark (keeps.shown key).from cuts' (rows_of g key new)
-    shown_new = change (rows_of g key old) (rows_of g key new) mark (keeps.shown key).from shown_old (group_follows g key c old own_test may) group_moved late
+    shown_new : ShowsFrom g.totalled mark (keeps.shown key).from cuts' (rows_of g key new)
+    shown_new = change (rows_of g key old) (rows_of g key new) mark (keeps.shown key).from shown_old kept low (group_follows g key c old own_test may) group_moved late
 
-    shown_at : (other : List Field) (b : Bool) → same_payload key other ≡ b → ShowsRows g.sums mark (cuts_of after other) (rows_of g other new)
+    shown_at : (other : List Field) (b : Bool) → same_payload key other ≡ b → ShowsRows g.totalled mark (cuts_of after other) (rows_of g other new)
     shown_at other true h = record {
       from = (keeps.shown key).from;
-      shown = subst (λ cs. ShowsFrom g.sums mark (keeps.shown key).from cs (rows_of g other new)) (sym (own_at other h)) (subst (λ k. ShowsFrom g.sums mark (keeps.shown key).from cuts' (rows_of g k new)) (payload_exact key other h) shown_new);
+      shown = subst (λ cs. ShowsFrom g.totalled mark (keeps.shown key).from cs (rows_of g other new)) (sym (own_at other h)) (subst (λ k. ShowsFrom g.totalled mark (keeps.shown key).from cuts' (rows_of g k new)) (payload_exact key other h) shown_new);
     }
     shown_at other false h =
         let apart : same_payload other (key_of g (changed_row c)) ≡ false = ap (same_payload other) (sym own) ∙ turned_test key other (same_payload other key) refl h in
         record {
           from = (keeps.shown other).from;
-          shown = subst (λ cs. ShowsFrom g.sums mark (keeps.shown other).from cs (rows_of g other new)) (sym (other_at other h)) (other_shows g other c old new mark (keeps.shown other).from (cuts_of before other) apart moved (keeps.shown other).shown);
+          shown = subst (λ cs. ShowsFrom g.totalled mark (keeps.shown other).from cs (rows_of g other new)) (sym (other_at other h)) (other_shows g other c old new mark (keeps.shown other).from (cuts_of before other) apart moved (keeps.shown other).shown);
         }
 
     -- at other times than the two that the change touches the group has the same cut points
     same_cut : (t : ℕ) → nat_eq (sync_of c) t ≡ false → nat_eq (last_time c) t ≡ false → is_some (segment_at t cuts') ≡ is_some (segment_at t cuts)
     same_cut t first last =
-        cut_since g.sums mark (keeps.shown key).from cuts' (rows_of g key new) t shown_new
+        cut_since g.totalled mark (keeps.shown key).from cuts' (rows_of g key new) t shown_new
         ∙ (ap (λ n. nat_lt 0 (cond (nat_le (keeps.shown key).from t) n 0)) (sym (same_edges c (rows_of g key old) (rows_of g key new) t is group_moved first last))
-        ∙ sym (cut_since g.sums mark (keeps.shown key).from cuts (rows_of g key old) t shown_old))
+        ∙ sym (cut_since g.totalled mark (keeps.shown key).from cuts (rows_of g key old) t shown_old))
 
     entered_at : (t : ℕ) (other : List Field) (f l d : Bool) → nat_eq (sync_of c) t ≡ f → nat_eq (last_time c) t ≡ l → same_payload key other ≡ d → has_point all' t other ≡ cond ((f || l) && d) (is_some (segment_at t cuts')) (has_point all t other) → has_point all' t other ≡ is_some (segment_at t (cuts_of after other))
     entered_at t other true l true first last h e = e ∙ ap (λ cs. is_some (segment_at t cs)) (sym (own_at other h))
@@ -187,12 +192,13 @@ module _ (key : List Field) (before between after : List (List Field × BTreeMap
 
 -- the group's answer, from the whole table
 pub own_answers : (key : List Field) (before : List (List Field × BTreeMap ℕ Segment)) (cuts : List (ℕ × Segment)) → cuts ≡ cuts_of before key → (g : Grouping) (c : Change) (old new : List Row) (mark : ℕ) (all due : List CutPoint) (outs outs' : List Change) → key ≡ key_of g (changed_row c)
-    → ((xs ys : List Row) (m from : ℕ) → ShowsFrom g.sums m from cuts xs → MayFollow xs [] c → IsMoved c xs ys → m ≤ sync_of c → AreRows xs → AreRows ys → AnswersGroup g.counted g.sums key xs ys outs outs')
-    → KeepsGroups g before all due old mark → MayFollow old [] c → IsMoved c old new → mark ≤ sync_of c → AreRows old → AnswersGroup g.counted g.sums (key_of g (changed_row c)) (rows_of g (key_of g (changed_row c)) old) (rows_of g (key_of g (changed_row c)) new) outs outs'
-own_answers key before cuts out g c old new mark all due outs outs' own answers keeps may moved late are =
+    → (living : LivingFields) → KeepsLives living (lives_of g.totalled (rows_of g key new)) → living.from ≤ sync_of c
+    → ((xs ys : List Row) (m from : ℕ) → ShowsFrom g.totalled m from cuts xs → KeepsLives living (lives_of g.totalled ys) → living.from ≤ sync_of c → MayFollow xs [] c → IsMoved c xs ys → m ≤ sync_of c → AreRows xs → AreRows ys → AnswersGroup g.counted g.totalled key xs ys outs outs')
+    → KeepsGroups g before all due old mark → MayFollow old [] c → IsMoved c old new → mark ≤ sync_of c → AreRows old → AnswersGroup g.counted g.totalled (key_of g (changed_row c)) (rows_of g (key_of g (changed_row c)) old) (rows_of g (key_of g (changed_row c)) new) outs outs'
+own_answers key before cuts out g c old new mark all due outs outs' own living kept low answers keeps may moved late are =
     let test : same_payload key (key_of g (changed_row c)) ≡ true = ap (same_payload key) (sym own) ∙ payload_itself key in
-    subst (λ k. AnswersGroup g.counted g.sums k (rows_of g k old) (rows_of g k new) outs outs') own
-    (answers (rows_of g key old) (rows_of g key new) mark (keeps.shown key).from (subst (λ cs. ShowsFrom g.sums mark (keeps.shown key).from cs (rows_of g key old)) (sym out) (keeps.shown key).shown) (group_follows g key c old test may) (group_moves g key c old new test moved) late
+    subst (λ k. AnswersGroup g.counted g.totalled k (rows_of g k old) (rows_of g k new) outs outs') own
+    (answers (rows_of g key old) (rows_of g key new) mark (keeps.shown key).from (subst (λ cs. ShowsFrom g.totalled mark (keeps.shown key).from cs (rows_of g key old)) (sym out) (keeps.shown key).shown) kept low (group_follows g key c old test may) (group_moves g key c old new test moved) late
     (rows_of_are g key old are) (rows_of_are g key new (moved_are c old new (may_is old [] c may) moved are)))
 
 module _ (g : Grouping) (groups : List (List Field × BTreeMap ℕ Segment)) (all due : List CutPoint) (rows : List Row) (mark : ℕ) (key : List Field) (cuts : List (ℕ × Segment))

@@ -18,7 +18,8 @@ use Rattle.op_group.specs.Cuts.{segment_at}
 use Rattle.op_group.specs.Measures.{edges_of, key_in}
 use Rattle.op_group.specs.Points.{point_cmp, has_point, IsOpenCut}
 use Rattle.op_group.specs.TimeLaws.{false_not_true}
-use Rattle.op_group.specs.GroupLaws.{payload_exact, made_from_there}
+use Rattle.op_group.specs.PayloadLaws.{payload_exact}
+use Rattle.op_group.specs.GroupLaws.{made_from_there}
 use Rattle.op_group.specs.BoundLaws.{open_below, open_at, open_is, test_open, begins_row}
 use Rattle.op_group.specs.State.{KeepsGroups, IsFirstOpen, cuts_of}
 use Rattle.op_group.proofs.Times.{gt_cmp}
@@ -83,7 +84,7 @@ from_rest p points t key there = at_either (is_at (point_cmp (record { at = t; k
 
 -- the first of some cut points is among them
 pub head_there : (p : CutPoint) (points : List CutPoint) → has_point (p ∷ points) p.at p.key ≡ true
-head_there p points = ap {B = Bool} (λ b. b || has_point points p.at p.key) (point_at p.at p.at p.key p.key ∙ (ap (λ b. b && same_payload p.key p.key) (Rattle.std.proofs.lemmas.Bool.eq-eqb p.at p.at refl) ∙ Rattle.op_group.specs.GroupLaws.payload_itself p.key))
+head_there p points = ap {B = Bool} (λ b. b || has_point points p.at p.key) (point_at p.at p.at p.key p.key ∙ (ap (λ b. b && same_payload p.key p.key) (Rattle.std.proofs.lemmas.Bool.eq-eqb p.at p.at refl) ∙ Rattle.op_group.specs.PayloadLaws.payload_itself p.key))
 
 -- where the answer is that a cut point isn't open, it isn't
 pub not_open : (groups : List (List Field × BTreeMap ℕ Segment)) (p : CutPoint) (t : ℕ) (key : List Field) (mark : ℕ) (told : Bool) → (IsOpenCut (cuts_of groups p.key) p.at mark → told ≡ true) → told ≡ false → t ≡ p.at → key ≡ p.key → IsOpenCut (cuts_of groups key) t mark → ⊥
@@ -95,12 +96,12 @@ module _ (g : Grouping) (groups : List (List Field × BTreeMap ℕ Segment)) (al
   open_at_cut : (t : ℕ) (key : List Field) → t < mark → IsOpenCut (cuts_of groups key) t mark → open_from mark (grouped g rows) ≤ t
   open_at_cut t key early cut =
       let shown = (keeps.shown key).shown in
-      let is = cut_shown g.sums mark (keeps.shown key).from (cuts_of groups key) (rows_of g key rows) t cut.segment shown cut.there in
+      let is = cut_shown g.totalled mark (keeps.shown key).from (cuts_of groups key) (rows_of g key rows) t cut.segment shown cut.there in
       let low = is.low in
       let living = is.living_are in
       let lives = cut.lives in
       let row = begins_row g key rows t mark (omega arith) (lt-ltb 0 (edges_of (rows_of g key rows) t) is.cut)
-      (λ u over under. sym (cut_is g.sums mark (keeps.shown key).from (cuts_of groups key) (rows_of g key rows) u shown (omega arith)) ∙ ap (λ o. is_some o) (cut.last u over under)) in
+      (λ u over under. sym (cut_is g.totalled mark (keeps.shown key).from (cuts_of groups key) (rows_of g key rows) u shown (omega arith)) ∙ ap (λ o. is_some o) (cut.last u over under)) in
       let begins = row.begins in
       omega (arith, open_at mark (grouped g rows) row.row row.there (test_open mark row.row (omega arith) row.within))
 
@@ -117,19 +118,19 @@ module _ (g : Grouping) (groups : List (List Field × BTreeMap ℕ Segment)) (al
       let shown = (keeps.shown (key_in g r)).shown in
       let made = made_from_there g rows r there in
       let low : (keeps.shown (key_in g r)).from ≤ r.begin = elim (cases_lt r.begin (keeps.shown (key_in g r)).from) [
-        | inl gone ↦ absurd (let ends = gone_before g.counted g.sums (key_in g r) (rows_of g (key_in g r) rows) mark (keeps.shown (key_in g r)).from r shown.starts shown.below made gone in omega arith)
+        | inl gone ↦ absurd (let ends = gone_before g.counted g.totalled (key_in g r) (rows_of g (key_in g r) rows) mark (keeps.shown (key_in g r)).from r shown.starts shown.below made gone in omega arith)
         | inr kept ↦ kept
       ] in
-      let some : is_some (segment_at r.begin (cuts_of groups (key_in g r))) ≡ true = cut_is g.sums mark (keeps.shown (key_in g r)).from (cuts_of groups (key_in g r)) (rows_of g (key_in g r) rows) r.begin shown low ∙ made.starts in
+      let some : is_some (segment_at r.begin (cuts_of groups (key_in g r))) ≡ true = cut_is g.totalled mark (keeps.shown (key_in g r)).from (cuts_of groups (key_in g r)) (rows_of g (key_in g r) rows) r.begin shown low ∙ made.starts in
       let found = there_from_some (segment_at r.begin (cuts_of groups (key_in g r))) some in
-      let is = cut_shown g.sums mark (keeps.shown (key_in g r)).from (cuts_of groups (key_in g r)) (rows_of g (key_in g r) rows) r.begin found.segment shown found.is in
+      let is = cut_shown g.totalled mark (keeps.shown (key_in g r)).from (cuts_of groups (key_in g r)) (rows_of g (key_in g r) rows) r.begin found.segment shown found.is in
       first.first r.begin (key_in g r) (keeps.entered r.begin (key_in g r) ∙ some) less
       (record {
         segment = found.segment;
         there = found.is;
         lives = (let living = is.living_are in let lives = made.lives in omega arith);
         last = λ u over under. none_from (segment_at u (cuts_of groups (key_in g r)))
-            (cut_is g.sums mark (keeps.shown (key_in g r)).from (cuts_of groups (key_in g r)) (rows_of g (key_in g r) rows) u shown (omega arith) ∙ made.apart u over (omega arith));
+            (cut_is g.totalled mark (keeps.shown (key_in g r)).from (cuts_of groups (key_in g r)) (rows_of g (key_in g r) rows) u shown (omega arith) ∙ made.apart u over (omega arith));
       })
 
   at_most_open : result ≤ open_from mark (grouped g rows)

@@ -13,7 +13,7 @@ use Rattle.op_group.specs.declared.points.CutPoint.{CutPoint}
 use Rattle.op_group.specs.Groups.{same_payload}
 use Rattle.op_group.specs.Cuts.{segment_at}
 use Rattle.op_group.specs.Points.{has_point, Leaves, left_from}
-use Rattle.op_group.specs.GroupLaws.{payload_exact}
+use Rattle.op_group.specs.PayloadLaws.{payload_exact}
 use Rattle.op_group.specs.State.{NoneEmpty, AllOrdered, Settles, cuts_of, entries_of}
 use Rattle.op_group.proofs.Answered.{nil_from_length}
 

@@ -17,8 +17,11 @@ use Rattle.op_group.specs.declared.segment.Segment.{Segment}
 use Rattle.op_group.specs.Groups.{Grouping, column_number, key_of, same_payload, rows_of, segments, grouped, open_from}
 use Rattle.op_group.specs.Cuts.{differences}
 use Rattle.op_group.specs.Measures.{edge_at, part_at, is_cut_of, key_in, IsGroupRow}
-use Rattle.op_group.specs.SegmentLaws.{sum_by-filter, segments_are, segment_fits}
-use Rattle.op_group.specs.GroupLaws.{payload_exact, payload_itself, fits_key, grouped_count, made_from_there, there_from_made, same_at, count_alike}
+use Rattle.op_group.specs.FilterLaws.{sum_by-filter}
+use Rattle.op_group.specs.SegmentLaws.{segments_are, segment_fits}
+use Rattle.op_group.specs.PayloadLaws.{payload_exact, payload_itself}
+use Rattle.op_group.specs.KeyLaws.{fits_key}
+use Rattle.op_group.specs.GroupLaws.{grouped_count, made_from_there, there_from_made, same_at, count_alike}
 use Rattle.op_group.specs.LawWords.{Untouched, keyed, SameAt}
 use Rattle.op_group.specs.BoundLaws.{open_below, open_at, test_open, was_open, same_outside, untouched_sums}
 use Rattle.op_group.specs.State.{ShowsFrom, grouping_asked, Turned}
@@ -80,7 +83,7 @@ other_untouched : (g : Grouping) (key : List Field) (w : Row → ℕ) (c : Chang
 other_untouched g key w (Add a) other = ap (λ b. cond b (w a) 0) other
 other_untouched g key w (Cut a e) other = (λ lives. ap (λ b. cond b (w a) 0) other ∙ sym (ap (λ b. cond b (w (record a { end = e })) 0) other), λ gone. ap (λ b. cond b (w a) 0) other)
 
-other_sum : (g : Grouping) (key : List Field) (w : Row → ℕ) (c : Change) (old new : List Row) → same_payload key (key_of g (changed_row c)) ≡ false → IsMoved c old new → sum_by w (rows_of g key old) ≡ sum_by w (rows_of g key new)
+pub other_sum : (g : Grouping) (key : List Field) (w : Row → ℕ) (c : Change) (old new : List Row) → same_payload key (key_of g (changed_row c)) ≡ false → IsMoved c old new → sum_by w (rows_of g key old) ≡ sum_by w (rows_of g key new)
 other_sum g key w c old new other moved = omega (
   arith,
   sum_by-filter w (λ x. same_payload key (key_of g x)) old,
@@ -91,15 +94,15 @@ other_sum g key w c old new other moved = omega (
 
 -- a change leaves each group of another key the same at each time
 pub other_same : (g : Grouping) (key : List Field) (c : Change) (old new : List Row) (t : ℕ) → same_payload key (key_of g (changed_row c)) ≡ false → IsMoved c old new → SameAt g key old new t
-other_same g key c old new t other moved = same_at g key old new t (other_sum g key (edge_at t) c old new other moved) (other_sum g key (part_at (λ _. 1) t) c old new other moved) (λ column. other_sum g key (part_at (column_number column) t) c old new other moved)
+other_same g key c old new t other moved = same_at g key old new t (other_sum g key (edge_at t) c old new other moved) (λ w. other_sum g key (part_at (λ (r : Row). w r.payload) t) c old new other moved)
 
 -- a map that shows another group goes on showing it
-pub other_shows : (g : Grouping) (key : List Field) (c : Change) (old new : List Row) (mark from : ℕ) (cuts : List (ℕ × Segment)) → same_payload key (key_of g (changed_row c)) ≡ false → IsMoved c old new → ShowsFrom g.sums mark from cuts (rows_of g key old) → ShowsFrom g.sums mark from cuts (rows_of g key new)
-other_shows g key c old new mark from cuts other moved shows = from_alike g.sums mark from cuts (rows_of g key old) (rows_of g key new)
-    (λ t. (other_same g key c old new t other moved).edges) (λ t. (other_same g key c old new t other moved).living) (λ t. (other_same g key c old new t other moved).sums) shows
+pub other_shows : (g : Grouping) (key : List Field) (c : Change) (old new : List Row) (mark from : ℕ) (cuts : List (ℕ × Segment)) → same_payload key (key_of g (changed_row c)) ≡ false → IsMoved c old new → ShowsFrom g.totalled mark from cuts (rows_of g key old) → ShowsFrom g.totalled mark from cuts (rows_of g key new)
+other_shows g key c old new mark from cuts other moved shows = from_alike g.totalled mark from cuts (rows_of g key old) (rows_of g key new)
+    (λ t. (other_same g key c old new t other moved).edges) (λ t. (other_same g key c old new t other moved).living) (λ t. (other_same g key c old new t other moved).totals) shows
 
-segments_asked : (g : Grouping) (key : List Field) (rows : List Row) → segments (grouping_asked g.counted g.sums) key rows ≡ segments g key rows
-segments_asked g key rows = segments_are (grouping_asked g.counted g.sums) key rows ∙ sym (segments_are g key rows)
+segments_asked : (g : Grouping) (key : List Field) (rows : List Row) → segments (grouping_asked g.counted g.totalled) key rows ≡ segments g key rows
+segments_asked g key rows = segments_are (grouping_asked g.counted g.totalled) key rows ∙ sym (segments_are g key rows)
 
 -- a row of a result is there once
 one_made : (g : Grouping) (rows : List Row) (r : Row) → count_of r (grouped g rows) ≤ 1
@@ -117,15 +120,15 @@ made_is_row g rows r are made =
 
 module _ (g : Grouping) (key : List Field) (c : Change) (old new : List Row) (mark : ℕ) (olds news : List Row)
     (own : key ≡ key_of g (changed_row c)) (is : IsChange c) (moved : IsMoved c old new) (from : mark ≤ sync_of c) (old_rows : AreRows old)
-    (turned : Turned g.counted g.sums key (rows_of g key old) (rows_of g key new) olds news) where
+    (turned : Turned g.counted g.totalled key (rows_of g key old) (rows_of g key new) olds news) where
   new_rows : AreRows new
   new_rows = moved_are c old new is moved old_rows
 
-  shows_key : (rows : List Row) (r : Row) → 0 < count_of r (segments (grouping_asked g.counted g.sums) key (rows_of g key rows)) → key_in g r ≡ key
-  shows_key rows r there = fits_key (grouping_asked g.counted g.sums) key (rows_of g key rows) (is_cut_of (rows_of g key rows)) r (segment_fits (grouping_asked g.counted g.sums) key (rows_of g key rows) r there)
+  shows_key : (rows : List Row) (r : Row) → 0 < count_of r (segments (grouping_asked g.counted g.totalled) key (rows_of g key rows)) → key_in g r ≡ key
+  shows_key rows r there = fits_key g key rows (is_cut_of (rows_of g key rows)) r (segment_fits (grouping_asked g.counted g.totalled) key (rows_of g key rows) r there)
 
   -- what one group makes is what all make, at its rows
-  own_count : (rows : List Row) (r : Row) → key_in g r ≡ key → count_of r (segments (grouping_asked g.counted g.sums) key (rows_of g key rows)) ≡ count_of r (grouped g rows)
+  own_count : (rows : List Row) (r : Row) → key_in g r ≡ key → count_of r (segments (grouping_asked g.counted g.totalled) key (rows_of g key rows)) ≡ count_of r (grouped g rows)
   own_count rows r same =
       ap (count_of r) (segments_asked g key (rows_of g key rows))
       ∙ (ap (λ k. count_of r (segments g k (rows_of g k rows))) (sym same)

@@ -18,13 +18,15 @@ use Rattle.cedr_base.proofs.Bags.{count_of-append, count_of-cons, one_if_same_ex
 use Rattle.cedr_table.specs.Operators.{Tables, table_at, mark_at, OnlyHolds}
 use Rattle.op_group.specs.declared.segment.Segment.{Segment}
 use Rattle.op_group.specs.declared.points.CutPoint.{CutPoint}
-use Rattle.op_group.specs.Groups.{Grouping, same_payload, rows_of, group_of, may_be_held, lives_at}
+use Rattle.op_group.specs.Groups.{Grouping, same_payload, rows_of, group_of, may_be_held, field_may_be_held, lives_at}
+use Rattle.op_group.specs.declared.bags.Bags.{Bags}
 use Rattle.op_group.specs.Cuts.{segment_at}
 use Rattle.op_group.specs.Measures.{Ascends, AllAbove, living_of}
 use Rattle.op_group.specs.Points.{has_point, NoneBefore}
-use Rattle.op_group.specs.GroupLaws.{payload_exact, payload_itself}
-use Rattle.op_group.specs.State.{KeepsGroups, IsPassed, cuts_of, entries_of}
-use Rattle.op_group.specs.Held.{first_cut, cut_rows, group_rows, group_held}
+use Rattle.op_group.specs.PayloadLaws.{payload_exact, payload_itself}
+use Rattle.op_group.specs.State.{KeepsGroups, KeepsFields, IsPassed, cuts_of, entries_of}
+use Rattle.op_group.specs.Held.{first_cut, cut_rows, group_rows, bag_rows, group_held}
+use Rattle.op_group.proofs.HeldFields.{field_may}
 use Rattle.op_group.specs.TimeLaws.{false_not_true}
 use Rattle.op_group.proofs.Regions.{times_of, times_ascend, head_found, tail_found}
 use Rattle.op_group.proofs.SinceLemmas.{there_from_some}
@@ -143,11 +145,24 @@ module _ (g : Grouping) (groups : List (List Field × BTreeMap ℕ Segment)) (al
         )
       ])
 
+or_left : (b c : Bool) → b ≡ true → (b || c) ≡ true
+or_left true c h = refl
+or_left false c h = cc
+
+or_right : (b c : Bool) → c ≡ true → (b || c) ≡ true
+or_right true c h = refl
+or_right false c h = h
+
 -- all that is held may be held
-pub only_holds : (g : Grouping) (groups : List (List Field × BTreeMap ℕ Segment)) (all due : List CutPoint) (tables : Tables) (marks : List ℕ) → KeepsGroups g groups all due (table_at tables 0) (mark_at marks 0) → NoneBefore due (mark_at marks 0) → mark_at marks 0 ≤ FOREVER → OnlyHolds (group_of g) tables marks (group_held groups)
-only_holds g groups all due tables marks keeps passed time = record { each = each_at } where
-  each_at : (port : ℕ) (r : Row) → 0 < count_of r (table_at (group_held groups) port) → (nat_eq port 0 && may_be_held g (table_at tables 0) (mark_at marks 0) r) ≡ true
-  each_at zero r there = may_hold g groups all due (table_at tables 0) (mark_at marks 0) keeps passed time r there
+pub only_holds : (g : Grouping) (groups : List (List Field × BTreeMap ℕ Segment)) (all due : List CutPoint) (bags : Bags) (tables : Tables) (marks : List ℕ) → KeepsGroups g groups all due (table_at tables 0) (mark_at marks 0) → KeepsFields g bags due (table_at tables 0) (mark_at marks 0)
+    → NoneBefore due (mark_at marks 0) → mark_at marks 0 ≤ FOREVER → OnlyHolds (group_of g) tables marks (group_held groups bags.all.entries)
+only_holds g groups all due bags tables marks keeps fields passed time = record { each = each_at } where
+  each_at : (port : ℕ) (r : Row) → 0 < count_of r (table_at (group_held groups bags.all.entries) port) → (nat_eq port 0 && (may_be_held g (table_at tables 0) (mark_at marks 0) r || field_may_be_held g (table_at tables 0) (mark_at marks 0) r)) ≡ true
+  each_at zero r there = elim (cases_lt 0 (count_of r (group_rows groups))) [
+    | inl here ↦ or_left (may_be_held g (table_at tables 0) (mark_at marks 0) r) (field_may_be_held g (table_at tables 0) (mark_at marks 0) r) (may_hold g groups all due (table_at tables 0) (mark_at marks 0) keeps passed time r here)
+    | inr not_here ↦ or_right (may_be_held g (table_at tables 0) (mark_at marks 0) r) (field_may_be_held g (table_at tables 0) (mark_at marks 0) r)
+        (field_may g bags due (table_at tables 0) (mark_at marks 0) fields passed r (omega (arith, there, not_here, count_of-append r (group_rows groups) (bag_rows bags.all.entries))))
+  ]
   each_at (suc port) r there = absurd (omega arith)
 
 le_from : (m n : ℕ) → nat_le m n ≡ true → m ≤ n

@@ -1,7 +1,12 @@
 pub mod Times
 pub mod SumLemmas
 pub mod Searches
+pub mod SideLemmas
+pub mod ExtremeLists
+pub mod BagLemmas
+pub mod FieldMoves
 pub mod Shown
+pub mod ShiftLemmas
 pub mod SinceLemmas
 pub mod PointLemmas
 pub mod ForgetLemmas
@@ -12,8 +17,11 @@ pub mod Moved
 pub mod Differences
 pub mod GroupRepairs
 pub mod Answered
+pub mod FieldLemmas
 pub mod BoundLemmas
+pub mod HeldFields
 pub mod HeldLemmas
+pub mod HeldLaw
 pub mod Standing
 pub mod AgreeLemmas
 pub mod RowsMade

@@ -6,13 +6,14 @@ use Rattle.std.proofs.lemmas.Bool.{cases_lt, eq-eqb, eqb-true, eqb-false, lt-ltb
 use Rattle.cedr_base.specs.declared.field.Field.{Field}
 use Rattle.cedr_base.specs.declared.row.Row.{Row}
 use Rattle.op_group.specs.declared.segment.Segment.{Segment}
+use Rattle.op_group.specs.declared.segment.Totalled.{Totalled}
 use Rattle.op_group.specs.declared.points.CutPoint.{CutPoint}
 use Rattle.op_group.specs.Groups.{Grouping, same_payload, rows_of}
 use Rattle.op_group.specs.Cuts.{segment_at}
-use Rattle.op_group.specs.Measures.{edges_of, living_of, sums_of}
+use Rattle.op_group.specs.Measures.{edges_of, living_of, tally_of, no_totals}
 use Rattle.op_group.specs.Points.{has_point, IsFirstTaken, is_empty_from, left_from}
 use Rattle.op_group.specs.TimeLaws.{above_test, below_test, false_not_true}
-use Rattle.op_group.specs.GroupLaws.{payload_exact}
+use Rattle.op_group.specs.PayloadLaws.{payload_exact}
 use Rattle.op_group.specs.State.{since, ShowsFrom, ShowsRows, KeepsGroups, IsPassed, Settles, cuts_of}
 use Rattle.op_group.proofs.Shown.{shown, shows_none}
 use Rattle.op_group.proofs.SinceLemmas.{there_from_some, since_there, since_before, cut_shown}
@@ -35,19 +36,19 @@ all_left at u cuts after =
     ∙ ap (λ d. cond (d && is_empty_from (segment_at u cuts)) None (segment_at u cuts)) (above_test u at after)
 
 -- a map that shows the rows from an earlier time on shows them from a later one on where it has nothing before that
-later_shows : (sums : List ℕ) (mark from later : ℕ) (cuts cuts' : List (ℕ × Segment)) (rows : List Row) → ShowsFrom sums mark from cuts rows → from ≤ later → later ≤ mark → ((later < mark) × (0 < edges_of rows later)) ⊎ ((t : ℕ) → t + 1 ≡ later → living_of rows t ≡ 0)
-    → ((u : ℕ) → u < later → segment_at u cuts' ≡ None) → ((u : ℕ) → later ≤ u → segment_at u cuts' ≡ segment_at u cuts) → ShowsFrom sums mark later cuts' rows
-later_shows sums mark from later cuts cuts' rows h low below starts none same = record {
+later_shows : (asked : Totalled) (mark from later : ℕ) (cuts cuts' : List (ℕ × Segment)) (rows : List Row) → ShowsFrom asked mark from cuts rows → from ≤ later → later ≤ mark → ((later < mark) × (0 < edges_of rows later)) ⊎ ((t : ℕ) → t + 1 ≡ later → living_of rows t ≡ 0)
+    → ((u : ℕ) → u < later → segment_at u cuts' ≡ None) → ((u : ℕ) → later ≤ u → segment_at u cuts' ≡ segment_at u cuts) → ShowsFrom asked mark later cuts' rows
+later_shows asked mark from later cuts cuts' rows h low below starts none same = record {
   below = below;
   starts = starts;
   shows = record {
     at = λ u. elim (cases_lt u later) [
-      | inl before ↦ none u before ∙ sym (shows_none (since later 0 (edges_of rows) u) (since later 0 (living_of rows) u) (since later (replicate (length sums) 0) (sums_of sums rows) u) (since_before later 0 (edges_of rows) u before))
+      | inl before ↦ none u before ∙ sym (shows_none (since later 0 (edges_of rows) u) (since later 0 (living_of rows) u) (since later (no_totals asked) (tally_of asked rows) u) (since_before later 0 (edges_of rows) u before))
       | inr after ↦
           same u after ∙ (h.shows.at u
-          ∙ (ap (λ n. shown n (since from 0 (living_of rows) u) (since from (replicate (length sums) 0) (sums_of sums rows) u)) (since_there from 0 (edges_of rows) u (omega arith) ∙ sym (since_there later 0 (edges_of rows) u after))
-          ∙ (ap (λ n. shown (since later 0 (edges_of rows) u) n (since from (replicate (length sums) 0) (sums_of sums rows) u)) (since_there from 0 (living_of rows) u (omega arith) ∙ sym (since_there later 0 (living_of rows) u after))
-          ∙ ap (λ ns. shown (since later 0 (edges_of rows) u) (since later 0 (living_of rows) u) ns) (since_there from (replicate (length sums) 0) (sums_of sums rows) u (omega arith) ∙ sym (since_there later (replicate (length sums) 0) (sums_of sums rows) u after)))))
+          ∙ (ap (λ n. shown n (since from 0 (living_of rows) u) (since from (no_totals asked) (tally_of asked rows) u)) (since_there from 0 (edges_of rows) u (omega arith) ∙ sym (since_there later 0 (edges_of rows) u after))
+          ∙ (ap (λ n. shown (since later 0 (edges_of rows) u) n (since from (no_totals asked) (tally_of asked rows) u)) (since_there from 0 (living_of rows) u (omega arith) ∙ sym (since_there later 0 (living_of rows) u after))
+          ∙ ap (λ ns. shown (since later 0 (edges_of rows) u) (since later 0 (living_of rows) u) ns) (since_there from (no_totals asked) (tally_of asked rows) u (omega arith) ∙ sym (since_there later (no_totals asked) (tally_of asked rows) u after)))))
     ];
   };
 }
@@ -56,15 +57,15 @@ empty_is : (s : Segment) (o : Option Segment) (b : Bool) → o ≡ Some s → is
 empty_is s o b e h = sym (ap is_empty_from e) ∙ h
 
 -- a group's cut points that are left show its rows
-shows_left : (sums : List ℕ) (mark from at : ℕ) (cuts cuts' : List (ℕ × Segment)) (rows : List Row) (s : Segment) (b : Bool) → is_empty_from (segment_at at cuts) ≡ b → segment_at at cuts ≡ Some s → at < mark → ShowsFrom sums mark from cuts rows
-    → ((u : ℕ) → segment_at u cuts' ≡ left_from at cuts u) → ShowsRows sums mark cuts' rows
-shows_left sums mark from at cuts cuts' rows s true is there early h left =
-    let cut = cut_shown sums mark from cuts rows at s h there in
+shows_left : (asked : Totalled) (mark from at : ℕ) (cuts cuts' : List (ℕ × Segment)) (rows : List Row) (s : Segment) (b : Bool) → is_empty_from (segment_at at cuts) ≡ b → segment_at at cuts ≡ Some s → at < mark → ShowsFrom asked mark from cuts rows
+    → ((u : ℕ) → segment_at u cuts' ≡ left_from at cuts u) → ShowsRows asked mark cuts' rows
+shows_left asked mark from at cuts cuts' rows s true is there early h left =
+    let cut = cut_shown asked mark from cuts rows at s h there in
     let low = cut.low in
     let none : s.living ≡ 0 = eqb-true s.living 0 (empty_is s (segment_at at cuts) true there is) in
     record {
       from = at + 1;
-      shown = later_shows sums mark from (at + 1) cuts cuts' rows h (omega arith) (omega arith)
+      shown = later_shows asked mark from (at + 1) cuts cuts' rows h (omega arith) (omega arith)
           (inr (λ t next. let same : t ≡ at = omega arith in ap (living_of rows) same ∙ (sym cut.living_are ∙ none)))
           (λ u before. left u ∙ none_at u before)
           (λ u after. left u ∙ all_left at u cuts (omega arith));
@@ -75,11 +76,11 @@ shows_left sums mark from at cuts cuts' rows s true is there early h left =
       | inl under ↦ none_left at u cuts under
       | inr not_under ↦ let same : u ≡ at = omega arith in ap (left_from at cuts) same ∙ at_left at cuts true is
     ]
-shows_left sums mark from at cuts cuts' rows s false is there early h left =
-    let cut = cut_shown sums mark from cuts rows at s h there in
+shows_left asked mark from at cuts cuts' rows s false is there early h left =
+    let cut = cut_shown asked mark from cuts rows at s h there in
     record {
       from = at;
-      shown = later_shows sums mark from at cuts cuts' rows h cut.low (omega arith) (inl (early, cut.cut)) (λ u before. left u ∙ none_left at u cuts before) (λ u after. left u ∙ kept_at u after);
+      shown = later_shows asked mark from at cuts cuts' rows h cut.low (omega arith) (inl (early, cut.cut)) (λ u before. left u ∙ none_left at u cuts before) (λ u after. left u ∙ kept_at u after);
     }
   where
     kept_at : (u : ℕ) → at ≤ u → left_from at cuts u ≡ segment_at u cuts
@@ -138,10 +139,10 @@ module _ (g : Grouping) (groups groups' : List (List Field × BTreeMap ℕ Segme
   other_left : (key : List Field) → same_payload point.key key ≡ false → (u : ℕ) → segment_at u (cuts_of groups' key) ≡ segment_at u (cuts_of groups key)
   other_left key h u = settles.cuts_left u key ∙ ap (λ b. cond b (left_from point.at (cuts_of groups key) u) (segment_at u (cuts_of groups key))) h
 
-  shown_at : (key : List Field) (b : Bool) → same_payload point.key key ≡ b → ShowsRows g.sums mark (cuts_of groups' key) (rows_of g key rows)
+  shown_at : (key : List Field) (b : Bool) → same_payload point.key key ≡ b → ShowsRows g.totalled mark (cuts_of groups' key) (rows_of g key rows)
   shown_at key true h =
       let there = there_from_some (segment_at point.at (cuts_of groups key)) (own_there key h) in
-      shows_left g.sums mark (keeps.shown key).from point.at (cuts_of groups key) (cuts_of groups' key) (rows_of g key rows) there.segment (is_empty_from (segment_at point.at (cuts_of groups key))) refl there.is taken.before (keeps.shown key).shown (own_left key h)
+      shows_left g.totalled mark (keeps.shown key).from point.at (cuts_of groups key) (cuts_of groups' key) (rows_of g key rows) there.segment (is_empty_from (segment_at point.at (cuts_of groups key))) refl there.is taken.before (keeps.shown key).shown (own_left key h)
   shown_at key false h =
       let was = (keeps.shown key).shown in
       record { from = (keeps.shown key).from; shown = record { below = was.below; starts = was.starts; shows = record { at = λ u. other_left key h u ∙ was.shows.at u } } }
@@ -168,7 +169,7 @@ module _ (g : Grouping) (groups groups' : List (List Field × BTreeMap ℕ Segme
   lives_at_first : (key : List Field) (s : Segment) (b : Bool) → same_payload point.key key ≡ true → segment_at point.at (cuts_of groups key) ≡ Some s → is_empty_from (segment_at point.at (cuts_of groups key)) ≡ b → is_some (segment_at point.at (cuts_of groups' key)) ≡ true → 0 < living_of (rows_of g key rows) point.at
   lives_at_first key s true h found empty there = absurd (some_of_none (segment_at point.at (cuts_of groups' key)) (own_left key h point.at ∙ at_left point.at (cuts_of groups key) true empty) there)
   lives_at_first key s false h found empty there =
-      let cut = cut_shown g.sums mark (keeps.shown key).from (cuts_of groups key) (rows_of g key rows) point.at s (keeps.shown key).shown found in
+      let cut = cut_shown g.totalled mark (keeps.shown key).from (cuts_of groups key) (rows_of g key rows) point.at s (keeps.shown key).shown found in
       let living = cut.living_are in
       let some = eqb-false s.living 0 (empty_is s (segment_at point.at (cuts_of groups key)) false found empty) in
       omega arith

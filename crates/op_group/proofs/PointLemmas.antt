@@ -14,7 +14,7 @@ use Rattle.op_group.specs.declared.points.CutPoint.{CutPoint}
 use Rattle.op_group.specs.Groups.{same_payload}
 use Rattle.op_group.specs.Cuts.{segment_at, IsEdit}
 use Rattle.op_group.specs.Points.{point_cmp, has_point, Places, Follows, IsFirstTaken, Leaves, is_empty_from}
-use Rattle.op_group.specs.GroupLaws.{payload_exact}
+use Rattle.op_group.specs.PayloadLaws.{payload_exact}
 use Rattle.op_group.specs.TimeLaws.{below_test}
 use Rattle.op_group.proofs.Times.{at_is, gt_cmp}
 

@@ -15,9 +15,11 @@ use Rattle.cedr_base.specs.declared.field.Field.{Field}
 use Rattle.cedr_base.specs.declared.row.Row.{Row}
 use Rattle.cedr_base.specs.Rows.{row_cmp, count_of}
 use Rattle.op_group.specs.declared.segment.Segment.{Segment}
+use Rattle.op_group.specs.declared.segment.Totalled.{Totalled}
 use Rattle.op_group.specs.Groups.{segments}
+use Rattle.op_group.specs.Tallies.{Tally}
 use Rattle.op_group.specs.Cuts.{segment_at, totals, row_begun, ended_at, rows_after, rows_of_cuts}
-use Rattle.op_group.specs.Measures.{living_of, sums_of, among, AllAbove, Ascends, row_from, one_row, rows_at, Fits, is_cut_of}
+use Rattle.op_group.specs.Measures.{living_of, tally_of, among, AllAbove, Ascends, row_from, one_row, rows_at, Fits, is_cut_of}
 use Rattle.op_group.specs.TimeLaws.{above_test, same_count, false_not_true}
 use Rattle.op_group.specs.CutLaws.{above_among, fits_from_there, there_from_fits}
 use Rattle.op_group.specs.SegmentLaws.{fits_alike, segment_fits, fits_segment}
@@ -60,13 +62,13 @@ module _ (p : ℕ → Bool) where
   ascend_kept [] up = tt
   ascend_kept (e ∷ cuts) up = ascend_kept_at e cuts (p e.0) (above_kept e.0 cuts up.0) (ascend_kept cuts up.1)
 
-module _ (living : ℕ → ℕ) (sums : ℕ → List ℕ) where
+module _ (living : ℕ → ℕ) (tally : ℕ → Tally) where
   -- each segment has what is valid at its time
   abbrev AllAgree : List (ℕ × Segment) → Type 0
   AllAgree [] = Unit {0}
-  AllAgree (e ∷ cuts) = ((e.1.living ≡ living e.0) × (e.1.totals ≡ sums e.0)) × AllAgree cuts
+  AllAgree (e ∷ cuts) = ((e.1.living ≡ living e.0) × (e.1.totals ≡ tally e.0)) × AllAgree cuts
 
-  agree_kept_at : (p : ℕ → Bool) (e : ℕ × Segment) (cuts : List (ℕ × Segment)) (b : Bool) → (e.1.living ≡ living e.0) × (e.1.totals ≡ sums e.0) → AllAgree (chosen p cuts) → AllAgree (cond b (e ∷ chosen p cuts) (chosen p cuts))
+  agree_kept_at : (p : ℕ → Bool) (e : ℕ × Segment) (cuts : List (ℕ × Segment)) (b : Bool) → (e.1.living ≡ living e.0) × (e.1.totals ≡ tally e.0) → AllAgree (chosen p cuts) → AllAgree (cond b (e ∷ chosen p cuts) (chosen p cuts))
   agree_kept_at p e cuts true h rest = (h, rest)
   agree_kept_at p e cuts false h rest = rest
 
@@ -74,21 +76,21 @@ module _ (living : ℕ → ℕ) (sums : ℕ → List ℕ) where
   agree_kept p [] h = tt
   agree_kept p (e ∷ cuts) h = agree_kept_at p e cuts (p e.0) h.0 (agree_kept p cuts h.1)
 
-  ended_is : (counted : Bool) (key : List Field) (p q : ℕ) (s : Segment) (b : Bool) → nat_eq s.living 0 ≡ b → s.living ≡ living p → s.totals ≡ sums p → ended_at (cond b None (Some (p, key ++ totals counted s.living s.totals))) q ≡ cond b [] (row_from counted key living sums p q ∷ [])
+  ended_is : (counted : Bool) (key : List Field) (p q : ℕ) (s : Segment) (b : Bool) → nat_eq s.living 0 ≡ b → s.living ≡ living p → s.totals ≡ tally p → ended_at (cond b None (Some (p, key ++ totals counted s.living s.totals))) q ≡ cond b [] (row_from counted key living tally p q ∷ [])
   ended_is counted key p q s true h e f = refl
   ended_is counted key p q s false h e f = ap (λ n. record { end = q; begin = p; payload = key ++ totals counted n s.totals } ∷ []) e ∙ ap (λ ns. record { end = q; begin = p; payload = key ++ totals counted (living p) ns } ∷ []) f
 
-  ended_one : (counted : Bool) (key : List Field) (p q : ℕ) (s : Segment) → s.living ≡ living p → s.totals ≡ sums p → ended_at (row_begun counted key p s) q ≡ one_row counted key living sums p q
-  ended_one counted key p q s e f = ended_is counted key p q s (nat_eq s.living 0) refl e f ∙ ap {B = List Row} (λ n. cond (nat_eq n 0) [] (row_from counted key living sums p q ∷ [])) e
+  ended_one : (counted : Bool) (key : List Field) (p q : ℕ) (s : Segment) → s.living ≡ living p → s.totals ≡ tally p → ended_at (row_begun counted key p s) q ≡ one_row counted key living tally p q
+  ended_one counted key p q s e f = ended_is counted key p q s (nat_eq s.living 0) refl e f ∙ ap {B = List Row} (λ n. cond (nat_eq n 0) [] (row_from counted key living tally p q ∷ [])) e
 
-  after_first : (counted : Bool) (key : List Field) (p : ℕ) (s : Segment) (cuts : List (ℕ × Segment)) → s.living ≡ living p → s.totals ≡ sums p → AllAgree cuts → rows_after counted key (row_begun counted key p s) cuts ≡ rows_at counted key living sums (p ∷ times_of cuts)
+  after_first : (counted : Bool) (key : List Field) (p : ℕ) (s : Segment) (cuts : List (ℕ × Segment)) → s.living ≡ living p → s.totals ≡ tally p → AllAgree cuts → rows_after counted key (row_begun counted key p s) cuts ≡ rows_at counted key living tally (p ∷ times_of cuts)
   after_first counted key p s [] e f agree = refl
   after_first counted key p s (c ∷ cuts) e f agree =
       ap (λ rows. rows ++ rows_after counted key (row_begun counted key c.0 c.1) cuts) (ended_one counted key p c.0 s e f)
-      ∙ ap (λ rows. one_row counted key living sums p c.0 ++ rows) (after_first counted key c.0 c.1 cuts agree.0.0 agree.0.1 agree.1)
+      ∙ ap (λ rows. one_row counted key living tally p c.0 ++ rows) (after_first counted key c.0 c.1 cuts agree.0.0 agree.0.1 agree.1)
 
   -- the rows of entries are those between their times
-  rows_are : (counted : Bool) (key : List Field) (cuts : List (ℕ × Segment)) → AllAgree cuts → rows_of_cuts counted key cuts ≡ rows_at counted key living sums (times_of cuts)
+  rows_are : (counted : Bool) (key : List Field) (cuts : List (ℕ × Segment)) → AllAgree cuts → rows_of_cuts counted key cuts ≡ rows_at counted key living tally (times_of cuts)
   rows_are counted key [] agree = refl
   rows_are counted key (c ∷ cuts) agree = after_first counted key c.0 c.1 cuts agree.0.0 agree.0.1 agree.1
 
@@ -111,13 +113,13 @@ tail_found t p s s0 cuts above found =
     let over = above_among p t (times_of cuts) above (among_times t cuts ∙ ap (λ o. is_some o) found) in
     ap (λ b. cond b (Some s0) (segment_at t cuts)) (at_is t p ∙ above_test t p over) ∙ found
 
-agree_all : (living : ℕ → ℕ) (sums : ℕ → List ℕ) (cuts : List (ℕ × Segment)) → Ascends (times_of cuts) → ((t : ℕ) (s : Segment) → segment_at t cuts ≡ Some s → (s.living ≡ living t) × (s.totals ≡ sums t)) → AllAgree living sums cuts
-agree_all living sums [] up h = tt
-agree_all living sums ((p, s0) ∷ cuts) up h = (h p s0 (head_found p s0 cuts), agree_all living sums cuts up.1 (λ t s found. h t s (tail_found t p s s0 cuts up.0 found)))
+agree_all : (living : ℕ → ℕ) (tally : ℕ → Tally) (cuts : List (ℕ × Segment)) → Ascends (times_of cuts) → ((t : ℕ) (s : Segment) → segment_at t cuts ≡ Some s → (s.living ≡ living t) × (s.totals ≡ tally t)) → AllAgree living tally cuts
+agree_all living tally [] up h = tt
+agree_all living tally ((p, s0) ∷ cuts) up h = (h p s0 (head_found p s0 cuts), agree_all living tally cuts up.1 (λ t s found. h t s (tail_found t p s s0 cuts up.0 found)))
 
 -- what a map shows agrees
-agree_shown : (sums : List ℕ) (mark from : ℕ) (cuts : List (ℕ × Segment)) (rows : List Row) → Ascends (times_of cuts) → ShowsFrom sums mark from cuts rows → AllAgree (living_of rows) (sums_of sums rows) cuts
-agree_shown sums mark from cuts rows up shows = agree_all (living_of rows) (sums_of sums rows) cuts up (λ t s found. let is = cut_shown sums mark from cuts rows t s shows found in (is.living_are, is.sums_are))
+agree_shown : (asked : Totalled) (mark from : ℕ) (cuts : List (ℕ × Segment)) (rows : List Row) → Ascends (times_of cuts) → ShowsFrom asked mark from cuts rows → AllAgree (living_of rows) (tally_of asked rows) cuts
+agree_shown asked mark from cuts rows up shows = agree_all (living_of rows) (tally_of asked rows) cuts up (λ t s found. let is = cut_shown asked mark from cuts rows t s shows found in (is.living_are, is.sums_are))
 
 -- a time lies from one time to another, both included
 abbrev pub within : ℕ → ℕ → ℕ → Bool
@@ -169,33 +171,33 @@ some_cond : (b : Bool) (o : Option Segment) → is_some (cond b o None) ≡ cond
 some_cond true o = refl
 some_cond false o = refl
 
-cut_between : (sums : List ℕ) (mark from : ℕ) (cuts : List (ℕ × Segment)) (rows : List Row) (lo hi t : ℕ) (b : Bool) → within lo hi t ≡ b → ShowsFrom sums mark from cuts rows → from ≤ lo → cond b (is_some (segment_at t cuts)) false ≡ cond b (is_cut_of rows t) false
-cut_between sums mark from cuts rows lo hi t true is shows low = let place = true_within lo hi t is in let over = place.0 in cut_is sums mark from cuts rows t shows (omega arith)
-cut_between sums mark from cuts rows lo hi t false is shows low = refl
+cut_between : (asked : Totalled) (mark from : ℕ) (cuts : List (ℕ × Segment)) (rows : List Row) (lo hi t : ℕ) (b : Bool) → within lo hi t ≡ b → ShowsFrom asked mark from cuts rows → from ≤ lo → cond b (is_some (segment_at t cuts)) false ≡ cond b (is_cut_of rows t) false
+cut_between asked mark from cuts rows lo hi t true is shows low = let place = true_within lo hi t is in let over = place.0 in cut_is asked mark from cuts rows t shows (omega arith)
+cut_between asked mark from cuts rows lo hi t false is shows low = refl
 
 -- the times between two times are the cut points there
-among_between : (sums : List ℕ) (mark from : ℕ) (cuts : List (ℕ × Segment)) (rows : List Row) (lo hi t : ℕ) → ShowsFrom sums mark from cuts rows → from ≤ lo → among t (times_of (between lo hi cuts)) ≡ cond (within lo hi t) (is_cut_of rows t) false
-among_between sums mark from cuts rows lo hi t shows low =
+among_between : (asked : Totalled) (mark from : ℕ) (cuts : List (ℕ × Segment)) (rows : List Row) (lo hi t : ℕ) → ShowsFrom asked mark from cuts rows → from ≤ lo → among t (times_of (between lo hi cuts)) ≡ cond (within lo hi t) (is_cut_of rows t) false
+among_between asked mark from cuts rows lo hi t shows low =
     among_times t (between lo hi cuts)
     ∙ (ap (λ o. is_some o) (lookup-filter-keys (is_at (nat_cmp t)) (within lo hi) (within lo hi t) (λ k found. ap (within lo hi) (sym (eqb-true t k (sym (at_is t k) ∙ found)))) cuts)
     ∙ (some_cond (within lo hi t) (segment_at t cuts)
-    ∙ cut_between sums mark from cuts rows lo hi t (within lo hi t) refl shows low))
+    ∙ cut_between asked mark from cuts rows lo hi t (within lo hi t) refl shows low))
 
 cond_true : (b c : Bool) → cond b c false ≡ true → (b ≡ true) × (c ≡ true)
 cond_true true c h = (refl, h)
 cond_true false c h = cc
 
-module _ (counted : Bool) (sums : List ℕ) (key : List Field) (cuts : List (ℕ × Segment)) (rows : List Row) (lo hi mark from : ℕ) (up : Ascends (times_of cuts)) (shows : ShowsFrom sums mark from cuts rows) (low : from ≤ lo) where
-  found_are : rows_of_cuts counted key (between lo hi cuts) ≡ rows_at counted key (living_of rows) (sums_of sums rows) (times_of (between lo hi cuts))
-  found_are = rows_are (living_of rows) (sums_of sums rows) counted key (between lo hi cuts) (agree_kept (living_of rows) (sums_of sums rows) (within lo hi) cuts (agree_shown sums mark from cuts rows up shows))
+module _ (counted : Bool) (asked : Totalled) (key : List Field) (cuts : List (ℕ × Segment)) (rows : List Row) (lo hi mark from : ℕ) (up : Ascends (times_of cuts)) (shows : ShowsFrom asked mark from cuts rows) (low : from ≤ lo) where
+  found_are : rows_of_cuts counted key (between lo hi cuts) ≡ rows_at counted key (living_of rows) (tally_of asked rows) (times_of (between lo hi cuts))
+  found_are = rows_are (living_of rows) (tally_of asked rows) counted key (between lo hi cuts) (agree_kept (living_of rows) (tally_of asked rows) (within lo hi) cuts (agree_shown asked mark from cuts rows up shows))
 
   found_up : Ascends (times_of (between lo hi cuts))
   found_up = ascend_kept (within lo hi) cuts up
 
-  found_fits : (r : Row) → 0 < count_of r (rows_of_cuts counted key (between lo hi cuts)) → Fits counted key (living_of rows) (sums_of sums rows) (λ t. cond (within lo hi t) (is_cut_of rows t) false) r
-  found_fits r there = fits_alike counted key (living_of rows) (living_of rows) (sums_of sums rows) (sums_of sums rows) (λ t. among t (times_of (between lo hi cuts))) (λ t. cond (within lo hi t) (is_cut_of rows t) false) r
-      (λ t over under. among_between sums mark from cuts rows lo hi t shows low) refl refl
-      (fits_from_there counted key (living_of rows) (sums_of sums rows) (times_of (between lo hi cuts)) r found_up (omega (arith, there, ap (count_of r) found_are)))
+  found_fits : (r : Row) → 0 < count_of r (rows_of_cuts counted key (between lo hi cuts)) → Fits counted key (living_of rows) (tally_of asked rows) (λ t. cond (within lo hi t) (is_cut_of rows t) false) r
+  found_fits r there = fits_alike counted key (living_of rows) (living_of rows) (tally_of asked rows) (tally_of asked rows) (λ t. among t (times_of (between lo hi cuts))) (λ t. cond (within lo hi t) (is_cut_of rows t) false) r
+      (λ t over under. among_between asked mark from cuts rows lo hi t shows low) refl refl
+      (fits_from_there counted key (living_of rows) (tally_of asked rows) (times_of (between lo hi cuts)) r found_up (omega (arith, there, ap (count_of r) found_are)))
 
   -- a row that is found lies between the two times
   pub found_within : (r : Row) → 0 < count_of r (rows_of_cuts counted key (between lo hi cuts)) → (lo ≤ r.begin) × (r.end ≤ hi)
@@ -207,13 +209,13 @@ module _ (counted : Bool) (sums : List ℕ) (key : List Field) (cuts : List (ℕ
   cut_within t low high = ap (λ b. cond b (is_cut_of rows t) false) (within_true lo hi t low high)
 
   -- and is one that the group makes, and each of these between the two times is found
-  pub found_is : (r : Row) → lo ≤ r.begin → r.end ≤ hi → count_of r (rows_of_cuts counted key (between lo hi cuts)) ≡ count_of r (segments (grouping_asked counted sums) key rows)
-  found_is r after before = same_count (count_of r (rows_of_cuts counted key (between lo hi cuts))) (count_of r (segments (grouping_asked counted sums) key rows))
-      (λ there. fits_segment (grouping_asked counted sums) key rows r (fits_alike counted key (living_of rows) (living_of rows) (sums_of sums rows) (sums_of sums rows) (λ t. cond (within lo hi t) (is_cut_of rows t) false) (is_cut_of rows) r
+  pub found_is : (r : Row) → lo ≤ r.begin → r.end ≤ hi → count_of r (rows_of_cuts counted key (between lo hi cuts)) ≡ count_of r (segments (grouping_asked counted asked) key rows)
+  found_is r after before = same_count (count_of r (rows_of_cuts counted key (between lo hi cuts))) (count_of r (segments (grouping_asked counted asked) key rows))
+      (λ there. fits_segment (grouping_asked counted asked) key rows r (fits_alike counted key (living_of rows) (living_of rows) (tally_of asked rows) (tally_of asked rows) (λ t. cond (within lo hi t) (is_cut_of rows t) false) (is_cut_of rows) r
       (λ t over under. cut_within t (omega arith) (omega arith)) refl refl (found_fits r there)))
-      (λ there. ap (count_of r) found_are ∙ there_from_fits counted key (living_of rows) (sums_of sums rows) (times_of (between lo hi cuts)) r found_up
-      (fits_alike counted key (living_of rows) (living_of rows) (sums_of sums rows) (sums_of sums rows) (is_cut_of rows) (λ t. among t (times_of (between lo hi cuts))) r
-      (λ t over under. sym (among_between sums mark from cuts rows lo hi t shows low ∙ cut_within t (omega arith) (omega arith))) refl refl (segment_fits (grouping_asked counted sums) key rows r there)))
+      (λ there. ap (count_of r) found_are ∙ there_from_fits counted key (living_of rows) (tally_of asked rows) (times_of (between lo hi cuts)) r found_up
+      (fits_alike counted key (living_of rows) (living_of rows) (tally_of asked rows) (tally_of asked rows) (is_cut_of rows) (λ t. among t (times_of (between lo hi cuts))) r
+      (λ t over under. sym (among_between asked mark from cuts rows lo hi t shows low ∙ cut_within t (omega arith) (omega arith))) refl refl (segment_fits (grouping_asked counted asked) key rows r there)))
 
   pub found_none : (r : Row) → ((lo ≤ r.begin) × (r.end ≤ hi) → ⊥) → count_of r (rows_of_cuts counted key (between lo hi cuts)) ≡ 0
   found_none r outside = elim (cases_lt 0 (count_of r (rows_of_cuts counted key (between lo hi cuts)))) [ inl there ↦ absurd (outside (found_within r there)) | inr none ↦ omega arith ]

@@ -19,9 +19,13 @@ use Rattle.op_group.specs.declared.segment.Segment.{Segment}
 use Rattle.op_group.specs.declared.points.Points.{Points}
 use Rattle.op_group.specs.Groups.{Grouping, key_of, rows_of, grouped, open_from}
 use Rattle.op_group.specs.Cuts.{differences}
-use Rattle.op_group.specs.Measures.{sums_of}
+use Rattle.op_group.specs.Measures.{tally_of, no_totals}
 use Rattle.op_group.specs.LawWords.{shown_as}
-use Rattle.op_group.specs.State.{KeepsGroups, AnswersGroup, StandsForGroups}
+use Rattle.op_group.specs.Tallies.{Tally}
+use Rattle.op_group.specs.declared.bags.Bags.{Bags}
+use Rattle.std.specs.Map.{keys_of}
+use Rattle.op_group.specs.Bags.{BagKeeps, bag_at}
+use Rattle.op_group.specs.State.{KeepsGroups, KeepsFields, AnswersGroup, StandsForGroups}
 use Rattle.op_group.proofs.GroupRepairs.{group_repairs}
 
 -- on the only port
@@ -45,29 +49,28 @@ on_one tables marks port c after one can moved =
     }
 
 -- the state stands for the new table
-pub stands_after : (g : Grouping) (groups groups' : List (List Field × BTreeMap ℕ Segment)) (points points' : Points) (tables : Tables) (marks : List ℕ) (port : ℕ) (c : Change) (after : List Row)
-    → (g' : Grouping) → g' ≡ g → ((old new : List Row) (mark : ℕ) → KeepsGroups g' groups points.all.keys points.due.keys old mark → MayFollow old [] c → IsMoved c old new → mark ≤ sync_of c → KeepsGroups g' groups' points'.all.keys points'.due.keys new mark)
-    → StandsForGroups g groups points tables marks → CanTake tables marks port c → IsMoved c (table_at tables port) after → StandsForGroups g groups' points' (with_table tables port after) marks
-stands_after g groups groups' points points' tables marks port c after g' same keeps stands can moved =
+pub stands_after : (g : Grouping) (groups groups' : List (List Field × BTreeMap ℕ Segment)) (points points' : Points) (bags bags' : Bags) (tables : Tables) (marks : List ℕ) (port : ℕ) (c : Change) (after : List Row)
+    → ((old new : List Row) (mark : ℕ) → KeepsGroups g groups points.all.keys points.due.keys old mark → KeepsFields g bags points.due.keys old mark → MayFollow old [] c → IsMoved c old new → mark ≤ sync_of c → KeepsGroups g groups' points'.all.keys points'.due.keys new mark)
+    → ((old new : List Row) (mark : ℕ) → KeepsGroups g groups points.all.keys points.due.keys old mark → KeepsFields g bags points.due.keys old mark → MayFollow old [] c → IsMoved c old new → mark ≤ sync_of c → KeepsFields g bags' points'.due.keys new mark)
+    → StandsForGroups g groups points bags tables marks → CanTake tables marks port c → IsMoved c (table_at tables port) after → StandsForGroups g groups' points' bags' (with_table tables port after) marks
+stands_after g groups groups' points points' bags bags' tables marks port c after keeps fields stands can moved =
     let one = on_one tables marks port c after stands.table can moved in
     record {
       table = one.size ∙ stands.table;
       mark = stands.mark;
       rows = subst AreRows (sym one.new_table) (moved_are c (table_at tables 0) after (may_is (table_at tables 0) [] c one.may) one.moved stands.rows);
-      keeps = subst (λ (rows : List Row). KeepsGroups g groups' points'.all.keys points'.due.keys rows (mark_at marks 0)) (sym one.new_table)
-          (subst (λ (k : Grouping). KeepsGroups k groups' points'.all.keys points'.due.keys after (mark_at marks 0)) same
-          (keeps (table_at tables 0) after (mark_at marks 0) (subst (λ (k : Grouping). KeepsGroups k groups points.all.keys points.due.keys (table_at tables 0) (mark_at marks 0)) (sym same) stands.keeps) one.may one.moved one.from));
+      keeps = subst (λ (rows : List Row). KeepsGroups g groups' points'.all.keys points'.due.keys rows (mark_at marks 0)) (sym one.new_table) (keeps (table_at tables 0) after (mark_at marks 0) stands.keeps stands.fields one.may one.moved one.from);
+      fields = subst (λ (rows : List Row). KeepsFields g bags' points'.due.keys rows (mark_at marks 0)) (sym one.new_table) (fields (table_at tables 0) after (mark_at marks 0) stands.keeps stands.fields one.may one.moved one.from);
     }
 
 -- and what was appended repairs the result
-pub gains_after : (g : Grouping) (groups : List (List Field × BTreeMap ℕ Segment)) (points : Points) (tables : Tables) (marks : List ℕ) (port : ℕ) (c : Change) (after : List Row) (outs outs' : List Change)
-    → (g' : Grouping) → g' ≡ g → ((old new : List Row) (mark : ℕ) → KeepsGroups g' groups points.all.keys points.due.keys old mark → MayFollow old [] c → IsMoved c old new → mark ≤ sync_of c → AreRows old → AnswersGroup g'.counted g'.sums (key_of g' (changed_row c)) (rows_of g' (key_of g' (changed_row c)) old) (rows_of g' (key_of g' (changed_row c)) new) outs outs')
-    → StandsForGroups g groups points tables marks → CanTake tables marks port c → IsMoved c (table_at tables port) after
+pub gains_after : (g : Grouping) (groups : List (List Field × BTreeMap ℕ Segment)) (points : Points) (bags : Bags) (tables : Tables) (marks : List ℕ) (port : ℕ) (c : Change) (after : List Row) (outs outs' : List Change)
+    → ((old new : List Row) (mark : ℕ) → KeepsGroups g groups points.all.keys points.due.keys old mark → KeepsFields g bags points.due.keys old mark → MayFollow old [] c → IsMoved c old new → mark ≤ sync_of c → AreRows old → AnswersGroup g.counted g.totalled (key_of g (changed_row c)) (rows_of g (key_of g (changed_row c)) old) (rows_of g (key_of g (changed_row c)) new) outs outs')
+    → StandsForGroups g groups points bags tables marks → CanTake tables marks port c → IsMoved c (table_at tables port) after
     → Gains (grouped g (table_at tables 0)) (grouped g (table_at (with_table tables port after) 0)) (open_from (mark_at marks 0) (grouped g (table_at tables 0))) outs outs'
-gains_after g groups points tables marks port c after outs outs' g' same answers stands can moved =
+gains_after g groups points bags tables marks port c after outs outs' answers stands can moved =
     let one = on_one tables marks port c after stands.table can moved in
-    let answer = subst (λ (k : Grouping). AnswersGroup k.counted k.sums (key_of k (changed_row c)) (rows_of k (key_of k (changed_row c)) (table_at tables 0)) (rows_of k (key_of k (changed_row c)) after) outs outs') same
-    (answers (table_at tables 0) after (mark_at marks 0) (subst (λ (k : Grouping). KeepsGroups k groups points.all.keys points.due.keys (table_at tables 0) (mark_at marks 0)) (sym same) stands.keeps) one.may one.moved one.from stands.rows) in
+    let answer = answers (table_at tables 0) after (mark_at marks 0) stands.keeps stands.fields one.may one.moved one.from stands.rows in
     subst (λ (rows : List Row). Gains (grouped g (table_at tables 0)) (grouped g rows) (open_from (mark_at marks 0) (grouped g (table_at tables 0))) outs outs') (sym one.new_table)
     (record {
       changes = differences answer.olds answer.news;
@@ -75,9 +78,13 @@ gains_after g groups points tables marks port c after outs outs' g' same answers
       repair = group_repairs g (key_of g (changed_row c)) c (table_at tables 0) after (mark_at marks 0) answer.olds answer.news refl (may_is (table_at tables 0) [] c one.may) one.moved one.from stands.rows answer.turned;
     })
 
-nothing_since : (b : Bool) (n : ℕ) (ns ms : List ℕ) → None ≡ shown_as (cond b 0 0) (cond b 0 0) (cond b ns ms)
+nothing_since : (b : Bool) (n : ℕ) (ns ms : Tally) → None ≡ shown_as (cond b 0 0) (cond b 0 0) (cond b ns ms)
 nothing_since true n ns ms = refl
 nothing_since false n ns ms = refl
+
+no_keys : IsStrictlySortedBy payload_cmp []
+unfolding IsStrictlySortedBy
+no_keys = tt
 
 empty_keeps : (g : Grouping) → KeepsGroups g [] [] [] [] 0
 unfolding IsStrictlySortedBy
@@ -85,25 +92,31 @@ empty_keeps g = record {
   sorted = no_keys;
   ordered = λ key. no_times;
   some_cuts = λ key cuts there. cc;
-  shown = λ key. record { from = 0; shown = record { below = omega arith; starts = Rattle.std.proofs.Common.inr (λ t is. absurd (omega arith)); shows = record { at = λ t. nothing_since (nat_le 0 t) 0 (sums_of g.sums [] t) (replicate (length g.sums) 0) } } };
+  shown = λ key. record { from = 0; shown = record { below = omega arith; starts = Rattle.std.proofs.Common.inr (λ t is. absurd (omega arith)); shows = record { at = λ t. nothing_since (nat_le 0 t) 0 (tally_of g.totalled [] t) (no_totals g.totalled) } } };
   entered = λ t key. refl;
   still = λ t key there. there;
   passed = λ t key there. cc;
 }
   where
-    no_keys : IsStrictlySortedBy payload_cmp []
-    no_keys = tt
-
     no_times : IsStrictlySortedBy nat_cmp []
     no_times = tt
 
+empty_fields : (g : Grouping) (bags : Bags) → bags.all.entries ≡ [] → bags.passed ≡ 0 → KeepsFields g bags [] [] 0
+empty_fields g bags none start = record {
+  sorted = subst (λ bs. IsStrictlySortedBy payload_cmp (keys_of bs)) (sym none) no_keys;
+  within = omega (arith, start);
+  each = λ key. subst (λ bs. BagKeeps (bag_at bs key) bags.passed []) (sym none) (λ w early. refl);
+  forgotten = λ t key cut. cc;
+}
+
 -- a new operator stands for an empty table
-pub new_stands : (g : Grouping) (groups : List (List Field × BTreeMap ℕ Segment)) (points : Points) → groups ≡ [] → points.all.keys ≡ [] → points.due.keys ≡ [] → StandsForGroups g groups points ([] ∷ []) (0 ∷ [])
-new_stands g groups points none no_points none_due = record {
+pub new_stands : (g : Grouping) (groups : List (List Field × BTreeMap ℕ Segment)) (points : Points) (bags : Bags) → groups ≡ [] → points.all.keys ≡ [] → points.due.keys ≡ [] → bags.all.entries ≡ [] → bags.passed ≡ 0 → StandsForGroups g groups points bags ([] ∷ []) (0 ∷ [])
+new_stands g groups points bags none no_points none_due no_bags start = record {
   table = refl;
   mark = refl;
   rows = record { each = λ r there. absurd (omega arith) };
   keeps = subst (λ gs. KeepsGroups g gs points.all.keys points.due.keys [] 0) (sym none) (subst (λ ps. KeepsGroups g [] ps points.due.keys [] 0) (sym no_points) (subst (λ ps. KeepsGroups g [] [] ps [] 0) (sym none_due) (empty_keeps g)));
+  fields = subst (λ ps. KeepsFields g bags ps [] 0) (sym none_due) (empty_fields g bags no_bags start);
 }
 
 -- two claims that hold where all went well

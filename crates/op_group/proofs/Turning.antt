@@ -11,11 +11,13 @@ use Rattle.cedr_base.specs.Changes.{IsChange, sync_of}
 use Rattle.change_laws.specs.Repairs.{IsMoved}
 use Rattle.change_laws.proofs.Moves.{sum_by-moved}
 use Rattle.op_group.specs.declared.segment.Segment.{Segment}
+use Rattle.op_group.specs.declared.segment.Totalled.{Totalled}
 use Rattle.op_group.specs.Groups.{column_number, segments}
+use Rattle.op_group.specs.Tallies.{Tally}
 use Rattle.op_group.specs.Cuts.{segment_at, rows_of_cuts, IsNextCut, IsLastCut}
-use Rattle.op_group.specs.Measures.{edge_at, part_at, edges_of, living_of, sums_of, Ascends, Fits, is_cut_of}
+use Rattle.op_group.specs.Measures.{edge_at, part_at, edges_of, living_of, tally_of, Ascends, Fits, is_cut_of}
 use Rattle.op_group.specs.TimeLaws.{below_test, same_count, false_not_true}
-use Rattle.op_group.specs.SegmentLaws.{fits_alike, segment_fits, fits_segment, map_alike}
+use Rattle.op_group.specs.SegmentLaws.{fits_alike, segment_fits, fits_segment, tally_is}
 use Rattle.op_group.specs.LawWords.{last_time, Untouched, Outside}
 use Rattle.op_group.specs.BoundLaws.{untouched_sums, edges_untouched, parts_untouched}
 use Rattle.op_group.specs.State.{ShowsFrom, grouping_asked, Turned}
@@ -24,41 +26,41 @@ use Rattle.op_group.proofs.SinceLemmas.{Starts, cut_is, some_cut, low_cut, gone_
 use Rattle.op_group.proofs.Regions.{times_of, between, found_is, found_within, found_none}
 
 -- outside the times that a change touches a group's rows count the same
-pub group_outside : (sums : List ℕ) (c : Change) (old new : List Row) (t : ℕ) → IsChange c → IsMoved c old new → Outside c t → (edges_of old t ≡ edges_of new t) × (living_of old t ≡ living_of new t) × (sums_of sums old t ≡ sums_of sums new t)
-group_outside sums c old new t is moved outside = (
+pub group_outside : (asked : Totalled) (c : Change) (old new : List Row) (t : ℕ) → IsChange c → IsMoved c old new → Outside c t → (edges_of old t ≡ edges_of new t) × (living_of old t ≡ living_of new t) × (tally_of asked old t ≡ tally_of asked new t)
+group_outside asked c old new t is moved outside = (
   still (edge_at t) (edges_untouched t c is outside),
   still (part_at (λ _. 1) t) (parts_untouched (λ _. 1) (λ r e. refl) t c is outside),
-  map_alike (λ column. sum_by (part_at (column_number column) t) old % 2 ^ 128) (λ column. sum_by (part_at (column_number column) t) new % 2 ^ 128) sums (λ column. ap (λ n. n % 2 ^ 128) (still (part_at (column_number column) t) (parts_untouched (column_number column) (λ r e. refl) t c is outside))),
+  tally_is asked t t old new (λ w. still (part_at (λ (r : Row). w r.payload) t) (parts_untouched (λ (r : Row). w r.payload) (λ r e. refl) t c is outside)),
 )
   where
     still : (w : Row → ℕ) → Untouched w c → sum_by w old ≡ sum_by w new
     still w untouched = omega (arith, sum_by-moved w c old new moved.sums, untouched_sums w c untouched)
 
-module _ (counted : Bool) (sums : List ℕ) (key : List Field) (c : Change) (old new : List Row) (is : IsChange c) (moved : IsMoved c old new) where
+module _ (counted : Bool) (asked : Totalled) (key : List Field) (c : Change) (old new : List Row) (is : IsChange c) (moved : IsMoved c old new) where
   -- a row all of whose times are outside is made of both or of none
-  same_made : (r : Row) → ((t : ℕ) → r.begin ≤ t → t ≤ r.end → Outside c t) → count_of r (segments (grouping_asked counted sums) key old) ≡ count_of r (segments (grouping_asked counted sums) key new)
-  same_made r outside = same_count (count_of r (segments (grouping_asked counted sums) key old)) (count_of r (segments (grouping_asked counted sums) key new))
+  same_made : (r : Row) → ((t : ℕ) → r.begin ≤ t → t ≤ r.end → Outside c t) → count_of r (segments (grouping_asked counted asked) key old) ≡ count_of r (segments (grouping_asked counted asked) key new)
+  same_made r outside = same_count (count_of r (segments (grouping_asked counted asked) key old)) (count_of r (segments (grouping_asked counted asked) key new))
       (λ there.
-      let fits = segment_fits (grouping_asked counted sums) key old r there in
+      let fits = segment_fits (grouping_asked counted asked) key old r there in
       let order : r.begin < r.end = fits.order in
-      let first = group_outside sums c old new r.begin is moved (outside r.begin (omega arith) (omega arith)) in
-      fits_segment (grouping_asked counted sums) key new r (fits_alike counted key (living_of old) (living_of new) (sums_of sums old) (sums_of sums new) (is_cut_of old) (is_cut_of new) r
-      (λ t over under. ap (nat_lt 0) (group_outside sums c old new t is moved (outside t over under)).0) first.1 first.2 fits))
+      let first = group_outside asked c old new r.begin is moved (outside r.begin (omega arith) (omega arith)) in
+      fits_segment (grouping_asked counted asked) key new r (fits_alike counted key (living_of old) (living_of new) (tally_of asked old) (tally_of asked new) (is_cut_of old) (is_cut_of new) r
+      (λ t over under. ap (nat_lt 0) (group_outside asked c old new t is moved (outside t over under)).0) first.1 first.2 fits))
       (λ there.
-      let fits = segment_fits (grouping_asked counted sums) key new r there in
+      let fits = segment_fits (grouping_asked counted asked) key new r there in
       let order : r.begin < r.end = fits.order in
-      let first = group_outside sums c old new r.begin is moved (outside r.begin (omega arith) (omega arith)) in
-      fits_segment (grouping_asked counted sums) key old r (fits_alike counted key (living_of new) (living_of old) (sums_of sums new) (sums_of sums old) (is_cut_of new) (is_cut_of old) r
-      (λ t over under. sym (ap (nat_lt 0) (group_outside sums c old new t is moved (outside t over under)).0)) (sym first.1) (sym first.2) fits))
+      let first = group_outside asked c old new r.begin is moved (outside r.begin (omega arith) (omega arith)) in
+      fits_segment (grouping_asked counted asked) key old r (fits_alike counted key (living_of new) (living_of old) (tally_of asked new) (tally_of asked old) (is_cut_of new) (is_cut_of old) r
+      (λ t over under. sym (ap (nat_lt 0) (group_outside asked c old new t is moved (outside t over under)).0)) (sym first.1) (sym first.2) fits))
 
-between_before : (counted : Bool) (key : List Field) (living : ℕ → ℕ) (sums : ℕ → List ℕ) (is_cut : ℕ → Bool) (r : Row) (lo : ℕ) → Fits counted key living sums is_cut r → is_cut lo ≡ true → r.begin < lo → r.end ≤ lo
-between_before counted key living sums is_cut r lo fits cut less = elim (cases_lt lo r.end) [
+between_before : (counted : Bool) (key : List Field) (living : ℕ → ℕ) (tally : ℕ → Tally) (is_cut : ℕ → Bool) (r : Row) (lo : ℕ) → Fits counted key living tally is_cut r → is_cut lo ≡ true → r.begin < lo → r.end ≤ lo
+between_before counted key living tally is_cut r lo fits cut less = elim (cases_lt lo r.end) [
   | inl over ↦ absurd (false_not_true (is_cut lo) (fits.apart lo less over) cut)
   | inr not_over ↦ not_over
 ]
 
-between_after : (counted : Bool) (key : List Field) (living : ℕ → ℕ) (sums : ℕ → List ℕ) (is_cut : ℕ → Bool) (r : Row) (hi : ℕ) → Fits counted key living sums is_cut r → is_cut hi ≡ true → hi < r.end → hi ≤ r.begin
-between_after counted key living sums is_cut r hi fits cut over = elim (cases_lt r.begin hi) [
+between_after : (counted : Bool) (key : List Field) (living : ℕ → ℕ) (tally : ℕ → Tally) (is_cut : ℕ → Bool) (r : Row) (hi : ℕ) → Fits counted key living tally is_cut r → is_cut hi ≡ true → hi < r.end → hi ≤ r.begin
+between_after counted key living tally is_cut r hi fits cut over = elim (cases_lt r.begin hi) [
   | inl less ↦ absurd (false_not_true (is_cut hi) (fits.apart hi less over) cut)
   | inr not_less ↦ not_less
 ]
@@ -83,85 +85,85 @@ edges_are_times rows t are cut = within_rows rows are (Rattle.std.proofs.lemmas.
       | inr not_here ↦ within_rows rows (others_are x rows are) (omega (arith, some, not_here, Rattle.std.proofs.lemmas.List.Sums.sum_by-cons (edge_at t) x rows))
     ]
 
-module _ (counted : Bool) (sums : List ℕ) (key : List Field) (c : Change) (old new : List Row) (cuts cuts' : List (ℕ × Segment)) (lo hi : ℕ)
+module _ (counted : Bool) (asked : Totalled) (key : List Field) (c : Change) (old new : List Row) (cuts cuts' : List (ℕ × Segment)) (lo hi : ℕ)
     (is : IsChange c) (moved : IsMoved c old new) (old_rows : AreRows old) (new_rows : AreRows new)
-    (up : Ascends (times_of cuts)) (up' : Ascends (times_of cuts')) (mark from : ℕ) (shows : ShowsFrom sums mark from cuts old) (shows' : ShowsFrom sums mark from cuts' new)
+    (up : Ascends (times_of cuts)) (up' : Ascends (times_of cuts')) (mark from : ℕ) (shows : ShowsFrom asked mark from cuts old) (shows' : ShowsFrom asked mark from cuts' new)
     (first : IsLastCut cuts (sync_of c) lo) (last : IsNextCut cuts (last_time c + 1) hi) (late : mark ≤ sync_of c) where
   -- the first of the two times is shown
   low : from ≤ lo
   low = elim first.there [
     | inl none ↦ let below = shows.below in omega (arith, none.0)
-    | inr there ↦ low_cut sums mark from cuts old lo shows there.0
+    | inr there ↦ low_cut asked mark from cuts old lo shows there.0
   ]
 
   -- a cut point that no change touches is one of both tables
   still_cut : (t : ℕ) → Outside c t → is_cut_of old t ≡ is_cut_of new t
-  still_cut t outside = ap (nat_lt 0) (group_outside sums c old new t is moved outside).0
+  still_cut t outside = ap (nat_lt 0) (group_outside asked c old new t is moved outside).0
 
-  before_all : (r : Row) (rows : List Row) → is_cut_of rows lo ≡ true → lo < sync_of c → Fits counted key (living_of rows) (sums_of sums rows) (is_cut_of rows) r → r.begin < lo → (t : ℕ) → r.begin ≤ t → t ≤ r.end → Outside c t
+  before_all : (r : Row) (rows : List Row) → is_cut_of rows lo ≡ true → lo < sync_of c → Fits counted key (living_of rows) (tally_of asked rows) (is_cut_of rows) r → r.begin < lo → (t : ℕ) → r.begin ≤ t → t ≤ r.end → Outside c t
   before_all r rows cut less fits under t over within_end =
-      let ends = between_before counted key (living_of rows) (sums_of sums rows) (is_cut_of rows) r lo fits cut under in
+      let ends = between_before counted key (living_of rows) (tally_of asked rows) (is_cut_of rows) r lo fits cut under in
       inl (omega arith)
 
-  after_all : (r : Row) (rows : List Row) → is_cut_of rows hi ≡ true → Fits counted key (living_of rows) (sums_of sums rows) (is_cut_of rows) r → hi < r.end → (t : ℕ) → r.begin ≤ t → t ≤ r.end → Outside c t
+  after_all : (r : Row) (rows : List Row) → is_cut_of rows hi ≡ true → Fits counted key (living_of rows) (tally_of asked rows) (is_cut_of rows) r → hi < r.end → (t : ℕ) → r.begin ≤ t → t ≤ r.end → Outside c t
   after_all r rows cut fits over t from within_end =
-      let begins = between_after counted key (living_of rows) (sums_of sums rows) (is_cut_of rows) r hi fits cut over in
+      let begins = between_after counted key (living_of rows) (tally_of asked rows) (is_cut_of rows) r hi fits cut over in
       let after = last.after in
       inr (omega arith)
 
   -- where the group has no cut point before the change, a row that begins before it ends before it
-  early_all : (r : Row) (rows : List Row) → ((t : ℕ) → Outside c t → is_cut_of old t ≡ is_cut_of rows t) → Starts rows mark from → Fits counted key (living_of rows) (sums_of sums rows) (is_cut_of rows) r → ((u : ℕ) → u < sync_of c → segment_at u cuts ≡ None) → r.begin < sync_of c → (t : ℕ) → r.begin ≤ t → t ≤ r.end → Outside c t
+  early_all : (r : Row) (rows : List Row) → ((t : ℕ) → Outside c t → is_cut_of old t ≡ is_cut_of rows t) → Starts rows mark from → Fits counted key (living_of rows) (tally_of asked rows) (is_cut_of rows) r → ((u : ℕ) → u < sync_of c → segment_at u cuts ≡ None) → r.begin < sync_of c → (t : ℕ) → r.begin ≤ t → t ≤ r.end → Outside c t
   early_all r rows same starts fits none under t over within_end = elim (cases_lt r.begin from) [
-    | inl gone ↦ let ends = gone_before counted sums key rows mark from r starts shows.below fits gone in inl (omega arith)
+    | inl gone ↦ let ends = gone_before counted asked key rows mark from r starts shows.below fits gone in inl (omega arith)
     | inr there ↦
-        let cut : is_some (segment_at r.begin cuts) ≡ true = cut_is sums mark from cuts old r.begin shows there ∙ (same r.begin (inl under) ∙ fits.starts) in
+        let cut : is_some (segment_at r.begin cuts) ≡ true = cut_is asked mark from cuts old r.begin shows there ∙ (same r.begin (inl under) ∙ fits.starts) in
         absurd (false_not_true (is_some (segment_at r.begin cuts)) (ap (λ o. is_some o) (none r.begin under)) cut)
   ]
 
   -- a row that isn't between the two times has only times that the change doesn't touch
-  others_outside : (rows : List Row) (r : Row) → ((t : ℕ) → Outside c t → is_cut_of old t ≡ is_cut_of rows t) → Starts rows mark from → AreRows rows → Fits counted key (living_of rows) (sums_of sums rows) (is_cut_of rows) r → (r.begin < lo) ⊎ (hi < r.end) → (t : ℕ) → r.begin ≤ t → t ≤ r.end → Outside c t
+  others_outside : (rows : List Row) (r : Row) → ((t : ℕ) → Outside c t → is_cut_of old t ≡ is_cut_of rows t) → Starts rows mark from → AreRows rows → Fits counted key (living_of rows) (tally_of asked rows) (is_cut_of rows) r → (r.begin < lo) ⊎ (hi < r.end) → (t : ℕ) → r.begin ≤ t → t ≤ r.end → Outside c t
   others_outside rows r same starts are fits (inl under) = elim first.there [
     | inl none ↦ early_all r rows same starts fits none.1 (omega (arith, none.0))
     | inr there ↦
         let less = there.1 in
-        before_all r rows (sym (same lo (inl less)) ∙ some_cut sums mark from cuts old lo shows there.0) less fits under
+        before_all r rows (sym (same lo (inl less)) ∙ some_cut asked mark from cuts old lo shows there.0) less fits under
   ]
   others_outside rows r same starts are fits (inr over) = elim last.there [
     | inl most ↦ let time = edges_are_times rows r.end are fits.ends in absurd (omega arith)
-    | inr there ↦ let after = last.after in after_all r rows (sym (same hi (inr (omega arith))) ∙ some_cut sums mark from cuts old hi shows there) fits over
+    | inr there ↦ let after = last.after in after_all r rows (sym (same hi (inr (omega arith))) ∙ some_cut asked mark from cuts old hi shows there) fits over
   ]
 
-  apart_same : (r : Row) → (r.begin < lo) ⊎ (hi < r.end) → count_of r (segments (grouping_asked counted sums) key old) ≡ count_of r (segments (grouping_asked counted sums) key new)
-  apart_same r apart = elim (cases_lt 0 (count_of r (segments (grouping_asked counted sums) key old))) [
-    | inl there ↦ same_made counted sums key c old new is moved r (others_outside old r (λ t outside. refl) shows.starts old_rows (segment_fits (grouping_asked counted sums) key old r there) apart)
-    | inr none ↦ elim (cases_lt 0 (count_of r (segments (grouping_asked counted sums) key new))) [
-      | inl there ↦ same_made counted sums key c old new is moved r (others_outside new r still_cut shows'.starts new_rows (segment_fits (grouping_asked counted sums) key new r there) apart)
+  apart_same : (r : Row) → (r.begin < lo) ⊎ (hi < r.end) → count_of r (segments (grouping_asked counted asked) key old) ≡ count_of r (segments (grouping_asked counted asked) key new)
+  apart_same r apart = elim (cases_lt 0 (count_of r (segments (grouping_asked counted asked) key old))) [
+    | inl there ↦ same_made counted asked key c old new is moved r (others_outside old r (λ t outside. refl) shows.starts old_rows (segment_fits (grouping_asked counted asked) key old r there) apart)
+    | inr none ↦ elim (cases_lt 0 (count_of r (segments (grouping_asked counted asked) key new))) [
+      | inl there ↦ same_made counted asked key c old new is moved r (others_outside new r still_cut shows'.starts new_rows (segment_fits (grouping_asked counted asked) key new r there) apart)
       | inr nothing ↦ omega arith
     ]
   ]
 
-  apart_sums : (r : Row) → (r.begin < lo) ⊎ (hi < r.end) → count_of r (segments (grouping_asked counted sums) key new) + count_of r (rows_of_cuts counted key (between lo hi cuts)) ≡ count_of r (segments (grouping_asked counted sums) key old) + count_of r (rows_of_cuts counted key (between lo hi cuts'))
+  apart_sums : (r : Row) → (r.begin < lo) ⊎ (hi < r.end) → count_of r (segments (grouping_asked counted asked) key new) + count_of r (rows_of_cuts counted key (between lo hi cuts)) ≡ count_of r (segments (grouping_asked counted asked) key old) + count_of r (rows_of_cuts counted key (between lo hi cuts'))
   apart_sums r apart =
       let outside : (lo ≤ r.begin) × (r.end ≤ hi) → ⊥ = λ h. elim apart [ inl under ↦ (let x = h.0 in omega arith) | inr over ↦ (let x = h.1 in omega arith) ] in
-      omega (arith, apart_same r apart, found_none counted sums key cuts old lo hi mark from up shows low r outside, found_none counted sums key cuts' new lo hi mark from up' shows' low r outside)
+      omega (arith, apart_same r apart, found_none counted asked key cuts old lo hi mark from up shows low r outside, found_none counted asked key cuts' new lo hi mark from up' shows' low r outside)
 
-  others_stay : (r : Row) → count_of r (segments (grouping_asked counted sums) key new) + count_of r (rows_of_cuts counted key (between lo hi cuts)) ≡ count_of r (segments (grouping_asked counted sums) key old) + count_of r (rows_of_cuts counted key (between lo hi cuts'))
+  others_stay : (r : Row) → count_of r (segments (grouping_asked counted asked) key new) + count_of r (rows_of_cuts counted key (between lo hi cuts)) ≡ count_of r (segments (grouping_asked counted asked) key old) + count_of r (rows_of_cuts counted key (between lo hi cuts'))
   others_stay r = elim (cases_lt r.begin lo) [
     | inl under ↦ apart_sums r (inl under)
     | inr begins ↦ elim (cases_lt hi r.end) [
       | inl over ↦ apart_sums r (inr over)
-      | inr ends ↦ omega (arith, found_is counted sums key cuts old lo hi mark from up shows low r begins ends, found_is counted sums key cuts' new lo hi mark from up' shows' low r begins ends)
+      | inr ends ↦ omega (arith, found_is counted asked key cuts old lo hi mark from up shows low r begins ends, found_is counted asked key cuts' new lo hi mark from up' shows' low r begins ends)
     ]
   ]
 
-  found_most : (cuts0 : List (ℕ × Segment)) (rows : List Row) → Ascends (times_of cuts0) → ShowsFrom sums mark from cuts0 rows → (r : Row) → count_of r (rows_of_cuts counted key (between lo hi cuts0)) ≤ count_of r (segments (grouping_asked counted sums) key rows)
+  found_most : (cuts0 : List (ℕ × Segment)) (rows : List Row) → Ascends (times_of cuts0) → ShowsFrom asked mark from cuts0 rows → (r : Row) → count_of r (rows_of_cuts counted key (between lo hi cuts0)) ≤ count_of r (segments (grouping_asked counted asked) key rows)
   found_most cuts0 rows up0 shows0 r = elim (cases_lt 0 (count_of r (rows_of_cuts counted key (between lo hi cuts0)))) [
-    | inl there ↦ let place = found_within counted sums key cuts0 rows lo hi mark from up0 shows0 low r there in omega (arith, found_is counted sums key cuts0 rows lo hi mark from up0 shows0 low r place.0 place.1)
+    | inl there ↦ let place = found_within counted asked key cuts0 rows lo hi mark from up0 shows0 low r there in omega (arith, found_is counted asked key cuts0 rows lo hi mark from up0 shows0 low r place.0 place.1)
     | inr none ↦ omega arith
   ]
 
   -- only the rows between the two times may change
-  pub turned_between : Turned counted sums key old new (rows_of_cuts counted key (between lo hi cuts)) (rows_of_cuts counted key (between lo hi cuts'))
+  pub turned_between : Turned counted asked key old new (rows_of_cuts counted key (between lo hi cuts)) (rows_of_cuts counted key (between lo hi cuts'))
   turned_between = record {
     some_old = λ r. found_most cuts old up shows r;
     some_new = λ r. found_most cuts' new up' shows' r;

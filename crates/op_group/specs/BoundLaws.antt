@@ -15,12 +15,14 @@ use Rattle.cedr_base.proofs.Bags.{count_of-cons, one_if_same_exact}
 use Rattle.change_laws.specs.Repairs.{IsMoved}
 use Rattle.change_laws.proofs.BagSums.{count_of-itself, same_back}
 use Rattle.change_laws.proofs.Moves.{sum_by-moved, remnant_some, remnant_none, none_either}
-use Rattle.op_group.specs.Groups.{Grouping, column_number, key_of, same_payload, rows_of, grouped, cut_points, least_from, is_open, open_from, lives_at}
-use Rattle.op_group.specs.Measures.{edge_at, part_at, edges_of, living_of, sums_of, among, row_from, Fits, is_cut_of, key_in, IsGroupRow}
+use Rattle.op_group.specs.Groups.{Grouping, key_of, same_payload, rows_of, segments, grouped, cut_points, least_from, is_open, open_from, lives_at}
+use Rattle.op_group.specs.Measures.{edge_at, part_at, edges_of, living_of, tally_of, among, row_from, Fits, is_cut_of, key_in, IsGroupRow}
 use Rattle.op_group.specs.TimeLaws.{below_test, above_test, one_elsewhere, false_not_true}
 use Rattle.op_group.specs.CutLaws.{next_of}
-use Rattle.op_group.specs.SegmentLaws.{sum_by-filter, cuts_ascend, among_cuts, edge_there, fits_alike}
-use Rattle.op_group.specs.GroupLaws.{fits_key, made_from_there, there_from_made, same_at}
+use Rattle.op_group.specs.FilterLaws.{sum_by-filter}
+use Rattle.op_group.specs.SegmentLaws.{cuts_ascend, among_cuts, edge_there, fits_alike, segment_fits}
+use Rattle.op_group.specs.KeyLaws.{fits_key}
+use Rattle.op_group.specs.GroupLaws.{made_from_there, there_from_made, same_at}
 use Rattle.op_group.specs.LawWords.{IsLeastOpen, Untouched, keyed, Outside, IsBegun, SameAt}
 
 open_test : (mark : ℕ) (begin end : ℕ) → (nat_lt begin mark && nat_le mark end) ≡ true → (begin < mark) × (mark ≤ end)
@@ -172,8 +174,7 @@ module _ (weight : Row → ℕ) (cut_keeps : (r : Row) (end : ℕ) → weight (r
 pub same_outside : (g : Grouping) (key : List Field) (c : Change) (old new : List Row) (t : ℕ) → IsChange c → IsMoved c old new → Outside c t → SameAt g key old new t
 same_outside g key c old new t is moved outside = same_at g key old new t
     (still g key (edge_at t) c old new (edges_untouched t c is outside) moved)
-    (still g key (part_at (λ _. 1) t) c old new (parts_untouched (λ _. 1) (λ r e. refl) t c is outside) moved)
-    (λ column. still g key (part_at (column_number column) t) c old new (parts_untouched (column_number column) (λ r e. refl) t c is outside) moved)
+    (λ w. still g key (part_at (λ (r : Row). w r.payload) t) c old new (parts_untouched (λ (r : Row). w r.payload) (λ r e. refl) t c is outside) moved)
 
 record IsLater (rows : List Row) (p : ℕ) : Type 0 where
   time : ℕ
@@ -197,21 +198,21 @@ ends_later (x ∷ rows) p some = ends_later_at x rows p (lives_at p x) refl (ome
 pub begins_row : (g : Grouping) (key : List Field) (rows : List Row) (p mark : ℕ) → 0 < living_of (rows_of g key rows) p → is_cut_of (rows_of g key rows) p ≡ true → ((u : ℕ) → p < u → u < mark → is_cut_of (rows_of g key rows) u ≡ false) → IsBegun g rows p mark
 begins_row g key rows p mark lives cut none =
     let later = ends_later (rows_of g key rows) p lives in
-    let next = next_of g.counted key (living_of (rows_of g key rows)) (sums_of g.sums (rows_of g key rows)) (cut_points (rows_of g key rows)) p later.time (cuts_ascend (rows_of g key rows)) lives later.above
+    let next = next_of g.counted key (living_of (rows_of g key rows)) (tally_of g.totalled (rows_of g key rows)) (cut_points (rows_of g key rows)) p later.time (cuts_ascend (rows_of g key rows)) lives later.above
     (among_cuts p (rows_of g key rows) ∙ cut) (among_cuts later.time (rows_of g key rows) ∙ lt-ltb 0 (edges_of (rows_of g key rows) later.time) later.cut) in
     begun_by next.next
-    (fits_alike g.counted key (living_of (rows_of g key rows)) (living_of (rows_of g key rows)) (sums_of g.sums (rows_of g key rows)) (sums_of g.sums (rows_of g key rows))
-    (λ t. among t (cut_points (rows_of g key rows))) (is_cut_of (rows_of g key rows)) (row_from g.counted key (living_of (rows_of g key rows)) (sums_of g.sums (rows_of g key rows)) p next.next)
+    (fits_alike g.counted key (living_of (rows_of g key rows)) (living_of (rows_of g key rows)) (tally_of g.totalled (rows_of g key rows)) (tally_of g.totalled (rows_of g key rows))
+    (λ t. among t (cut_points (rows_of g key rows))) (is_cut_of (rows_of g key rows)) (row_from g.counted key (living_of (rows_of g key rows)) (tally_of g.totalled (rows_of g key rows)) p next.next)
     (λ t over under. among_cuts t (rows_of g key rows)) refl refl next.fits)
   where
-    begun_by : (q : ℕ) → Fits g.counted key (living_of (rows_of g key rows)) (sums_of g.sums (rows_of g key rows)) (is_cut_of (rows_of g key rows)) (row_from g.counted key (living_of (rows_of g key rows)) (sums_of g.sums (rows_of g key rows)) p q) → IsBegun g rows p mark
+    begun_by : (q : ℕ) → Fits g.counted key (living_of (rows_of g key rows)) (tally_of g.totalled (rows_of g key rows)) (is_cut_of (rows_of g key rows)) (row_from g.counted key (living_of (rows_of g key rows)) (tally_of g.totalled (rows_of g key rows)) p q) → IsBegun g rows p mark
     begun_by q fits =
-        let key_is = fits_key g key (rows_of g key rows) (is_cut_of (rows_of g key rows)) (row_from g.counted key (living_of (rows_of g key rows)) (sums_of g.sums (rows_of g key rows)) p q) fits in
+        let key_is = fits_key g key rows (is_cut_of (rows_of g key rows)) (row_from g.counted key (living_of (rows_of g key rows)) (tally_of g.totalled (rows_of g key rows)) p q) fits in
         let over : p < q = fits.order in
         record {
-          row = row_from g.counted key (living_of (rows_of g key rows)) (sums_of g.sums (rows_of g key rows)) p q;
-          there = (let one = there_from_made g rows (row_from g.counted key (living_of (rows_of g key rows)) (sums_of g.sums (rows_of g key rows)) p q)
-              (subst (λ k. Fits g.counted k (living_of (rows_of g k rows)) (sums_of g.sums (rows_of g k rows)) (is_cut_of (rows_of g k rows)) (row_from g.counted key (living_of (rows_of g key rows)) (sums_of g.sums (rows_of g key rows)) p q)) (sym key_is) fits) in omega arith);
+          row = row_from g.counted key (living_of (rows_of g key rows)) (tally_of g.totalled (rows_of g key rows)) p q;
+          there = (let one = there_from_made g rows (row_from g.counted key (living_of (rows_of g key rows)) (tally_of g.totalled (rows_of g key rows)) p q)
+              (subst (λ k. Fits g.counted k (living_of (rows_of g k rows)) (tally_of g.totalled (rows_of g k rows)) (is_cut_of (rows_of g k rows)) (row_from g.counted key (living_of (rows_of g key rows)) (tally_of g.totalled (rows_of g key rows)) p q)) (sym key_is) fits) in omega arith);
           begins = refl;
           within = elim (cases_lt q mark) [
             | inl early ↦ absurd (false_not_true (is_cut_of (rows_of g key rows) q) (none q over early) fits.ends)
@@ -250,15 +251,14 @@ was_open g c old new mark r is moved from = open_alike g old new mark r (λ key 
 pub open_stays : (g : Grouping) (c : Change) (old new : List Row) (mark : ℕ) → IsChange c → IsMoved c old new → mark ≤ sync_of c → open_from mark (grouped g old) ≤ open_from mark (grouped g new)
 open_stays g c old new mark is moved from = bound_within g old new mark (λ key u early. same_outside g key c old new u is moved (inl (omega arith)))
 
--- a row of the result that begins below a mark is open at it exactly where it begins at its group's greatest cut point
--- below the mark
-pub open_is_greatest : (g : Grouping) (rows : List Row) (mark : ℕ) (r : Row) → 0 < count_of r (grouped g rows) → r.begin < mark
-    → (mark ≤ r.end) ↔ ((t : ℕ) → t < mark → is_cut_of (rows_of g (key_in g r) rows) t ≡ true → t ≤ r.begin)
-open_is_greatest g rows mark r there less =
-    let made = made_from_there g rows r there in
+-- a row that a group makes and that begins below a mark is open at it exactly where it begins at the group's greatest
+-- cut point below the mark
+pub open_is_greatest : (g : Grouping) (rows : List Row) (mark : ℕ) (key : List Field) (r : Row) → 0 < count_of r (segments g key (rows_of g key rows)) → r.begin < mark → (mark ≤ r.end) ↔ ((t : ℕ) → t < mark → is_cut_of (rows_of g key rows) t ≡ true → t ≤ r.begin)
+open_is_greatest g rows mark key r there less =
+    let made = segment_fits g key (rows_of g key rows) r there in
     let order = made.order in (
       λ within t before cut. elim (cases_lt r.begin t) [
-        | inl over ↦ absurd (false_not_true (is_cut_of (rows_of g (key_in g r) rows) t) (made.apart t over (omega arith)) cut)
+        | inl over ↦ absurd (false_not_true (is_cut_of (rows_of g key rows) t) (made.apart t over (omega arith)) cut)
         | inr not_over ↦ not_over
       ],
       λ greatest. elim (cases_lt r.end mark) [

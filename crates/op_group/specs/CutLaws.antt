@@ -6,6 +6,7 @@ use Rattle.cedr_base.specs.declared.field.Field.{Field}
 use Rattle.cedr_base.specs.declared.row.Row.{Row}
 use Rattle.cedr_base.specs.Rows.{one_if_same, count_of}
 use Rattle.cedr_base.proofs.Bags.{count_of-append, one_of_itself, one_if_same_exact}
+use Rattle.op_group.specs.Tallies.{Tally}
 use Rattle.op_group.specs.Cuts.{totals}
 use Rattle.op_group.specs.Measures.{among, AllAbove, Ascends, row_from, one_row, rows_at, Fits}
 use Rattle.op_group.specs.TimeLaws.{below_test, above_test, false_not_true}
@@ -41,33 +42,33 @@ pub above_lower : (u t : ℕ) (ts : List ℕ) → u ≤ t → AllAbove t ts → 
 above_lower u t [] h above = tt
 above_lower u t (s ∷ ts) h above = (let x = above.0 in omega arith, above_lower u t ts h above.1)
 
-module _ (counted : Bool) (key : List Field) (living : ℕ → ℕ) (sums : ℕ → List ℕ) where
+module _ (counted : Bool) (key : List Field) (living : ℕ → ℕ) (tally : ℕ → Tally) where
   abbrev IsIn : List ℕ → Row → Type 0
-  IsIn ts r = Fits counted key living sums (λ t. among t ts) r
+  IsIn ts r = Fits counted key living tally (λ t. among t ts) r
 
   record IsOne (r : Row) (p q : ℕ) : Type 0 where
     lives : 0 < living p
-    is : r ≡ row_from counted key living sums p q
+    is : r ≡ row_from counted key living tally p q
 
-  one_at_most : (r : Row) (p q : ℕ) (b : Bool) → nat_eq (living p) 0 ≡ b → 0 < count_of r (cond b [] (row_from counted key living sums p q ∷ [])) → IsOne r p q
+  one_at_most : (r : Row) (p q : ℕ) (b : Bool) → nat_eq (living p) 0 ≡ b → 0 < count_of r (cond b [] (row_from counted key living tally p q ∷ [])) → IsOne r p q
   one_at_most r p q true h there = absurd (omega arith)
   one_at_most r p q false h there =
       let some = eqb-false (living p) 0 h in
-      record { lives = omega arith; is = one_if_same_exact r (row_from counted key living sums p q) (omega arith) }
+      record { lives = omega arith; is = one_if_same_exact r (row_from counted key living tally p q) (omega arith) }
 
   -- what is in the row between two times is that row
-  one_from_there : (r : Row) (p q : ℕ) → 0 < count_of r (one_row counted key living sums p q) → IsOne r p q
+  one_from_there : (r : Row) (p q : ℕ) → 0 < count_of r (one_row counted key living tally p q) → IsOne r p q
   one_from_there r p q there = one_at_most r p q (nat_eq (living p) 0) refl there
 
-  one_there_at : (r : Row) (p q : ℕ) (b : Bool) → nat_eq (living p) 0 ≡ b → 0 < living p → r ≡ row_from counted key living sums p q → count_of r (cond b [] (row_from counted key living sums p q ∷ [])) ≡ 1
+  one_there_at : (r : Row) (p q : ℕ) (b : Bool) → nat_eq (living p) 0 ≡ b → 0 < living p → r ≡ row_from counted key living tally p q → count_of r (cond b [] (row_from counted key living tally p q ∷ [])) ≡ 1
   one_there_at r p q true h lives is = let none = eqb-true (living p) 0 h in absurd (omega arith)
   one_there_at r p q false h lives is = omega (arith, one_of_itself r, ap (one_if_same r) is)
 
-  one_there : (r : Row) (p q : ℕ) → 0 < living p → r ≡ row_from counted key living sums p q → count_of r (one_row counted key living sums p q) ≡ 1
+  one_there : (r : Row) (p q : ℕ) → 0 < living p → r ≡ row_from counted key living tally p q → count_of r (one_row counted key living tally p q) ≡ 1
   one_there r p q lives is = one_there_at r p q (nat_eq (living p) 0) refl lives is
 
   -- the row between the first two times
-  pub first_fits : (p q : ℕ) (ts : List ℕ) → Ascends (p ∷ q ∷ ts) → 0 < living p → IsIn (p ∷ q ∷ ts) (row_from counted key living sums p q)
+  pub first_fits : (p q : ℕ) (ts : List ℕ) → Ascends (p ∷ q ∷ ts) → 0 < living p → IsIn (p ∷ q ∷ ts) (row_from counted key living tally p q)
   first_fits p q ts up lives =
       let less = up.0.0 in
       record {
@@ -94,15 +95,15 @@ module _ (counted : Bool) (key : List Field) (living : ℕ → ℕ) (sums : ℕ 
       }
 
   -- a row of those between neighbouring times fits
-  pub fits_from_there : (ts : List ℕ) (r : Row) → Ascends ts → 0 < count_of r (rows_at counted key living sums ts) → IsIn ts r
+  pub fits_from_there : (ts : List ℕ) (r : Row) → Ascends ts → 0 < count_of r (rows_at counted key living tally ts) → IsIn ts r
   fits_from_there [] r up there = absurd (omega arith)
   fits_from_there (p ∷ []) r up there = absurd (omega arith)
-  fits_from_there (p ∷ q ∷ ts) r up there = elim (cases_lt 0 (count_of r (one_row counted key living sums p q))) [
+  fits_from_there (p ∷ q ∷ ts) r up there = elim (cases_lt 0 (count_of r (one_row counted key living tally p q))) [
     | inl here ↦
         let one = one_from_there r p q here in
         subst (IsIn (p ∷ q ∷ ts)) (sym one.is) (first_fits p q ts up one.lives)
     | inr not_here ↦
-        later_fits p (q ∷ ts) r up.0 (fits_from_there (q ∷ ts) r up.1 (omega (arith, there, not_here, count_of-append r (one_row counted key living sums p q) (rows_at counted key living sums (q ∷ ts)))))
+        later_fits p (q ∷ ts) r up.0 (fits_from_there (q ∷ ts) r up.1 (omega (arith, there, not_here, count_of-append r (one_row counted key living tally p q) (rows_at counted key living tally (q ∷ ts)))))
   ]
 
   only_time : (t p : ℕ) (b : Bool) → nat_eq t p ≡ b → cond b true false ≡ true → t ≡ p
@@ -123,9 +124,9 @@ module _ (counted : Bool) (key : List Field) (living : ℕ → ℕ) (sums : ℕ 
         ]
       ]
 
-  row_is : (r : Row) (p q : ℕ) → r.begin ≡ p → r.end ≡ q → r.payload ≡ key ++ totals counted (living r.begin) (sums r.begin) → r ≡ row_from counted key living sums p q
+  row_is : (r : Row) (p q : ℕ) → r.begin ≡ p → r.end ≡ q → r.payload ≡ key ++ totals counted (living r.begin) (tally r.begin) → r ≡ row_from counted key living tally p q
   row_is r p q b e y =
-      let payload = y ∙ ap (λ t. key ++ totals counted (living t) (sums t)) b in
+      let payload = y ∙ ap (λ t. key ++ totals counted (living t) (tally t)) b in
       λ i. record { end = e i; begin = b i; payload = payload i }
 
   dropped_fits : (p : ℕ) (ts : List ℕ) (r : Row) → AllAbove p ts → nat_eq r.begin p ≡ false → IsIn (p ∷ ts) r → IsIn ts r
@@ -142,23 +143,23 @@ module _ (counted : Bool) (key : List Field) (living : ℕ → ℕ) (sums : ℕ 
         payload_is = fits.payload_is;
       }
 
-  there_at : (p q : ℕ) (ts : List ℕ) (r : Row) (b : Bool) → nat_eq r.begin p ≡ b → Ascends (p ∷ q ∷ ts) → IsIn (p ∷ q ∷ ts) r → (IsIn (q ∷ ts) r → count_of r (rows_at counted key living sums (q ∷ ts)) ≡ 1) → count_of r (one_row counted key living sums p q) + count_of r (rows_at counted key living sums (q ∷ ts)) ≡ 1
+  there_at : (p q : ℕ) (ts : List ℕ) (r : Row) (b : Bool) → nat_eq r.begin p ≡ b → Ascends (p ∷ q ∷ ts) → IsIn (p ∷ q ∷ ts) r → (IsIn (q ∷ ts) r → count_of r (rows_at counted key living tally (q ∷ ts)) ≡ 1) → count_of r (one_row counted key living tally p q) + count_of r (rows_at counted key living tally (q ∷ ts)) ≡ 1
   there_at p q ts r true is up fits rest =
       let begins = eqb-true r.begin p is in
       let first = one_there r p q (subst (λ t. 0 < living t) begins fits.lives) (row_is r p q begins (ends_next p q ts r up begins fits) fits.payload_is) in
-      elim (cases_lt 0 (count_of r (rows_at counted key living sums (q ∷ ts)))) [
+      elim (cases_lt 0 (count_of r (rows_at counted key living tally (q ∷ ts)))) [
         | inl again ↦ let over = above_among p r.begin (q ∷ ts) up.0 (fits_from_there (q ∷ ts) r up.1 again).starts in absurd (omega arith)
         | inr no_more ↦ omega arith
       ]
   there_at p q ts r false is up fits rest =
       let other = eqb-false r.begin p is in
-      elim (cases_lt 0 (count_of r (one_row counted key living sums p q))) [
+      elim (cases_lt 0 (count_of r (one_row counted key living tally p q))) [
         | inl here ↦ absurd (other (ap (λ (x : Row). x.begin) (one_from_there r p q here).is))
         | inr not_here ↦ omega (arith, rest (dropped_fits p (q ∷ ts) r up.0 is fits))
       ]
 
   -- a row that fits is there once
-  pub there_from_fits : (ts : List ℕ) (r : Row) → Ascends ts → IsIn ts r → count_of r (rows_at counted key living sums ts) ≡ 1
+  pub there_from_fits : (ts : List ℕ) (r : Row) → Ascends ts → IsIn ts r → count_of r (rows_at counted key living tally ts) ≡ 1
   there_from_fits [] r up fits = let h = fits.starts in cc
   there_from_fits (p ∷ []) r up fits =
       let begins = only_time r.begin p (nat_eq r.begin p) refl fits.starts in
@@ -166,23 +167,23 @@ module _ (counted : Bool) (key : List Field) (living : ℕ → ℕ) (sums : ℕ 
       let order = fits.order in
       absurd (omega arith)
   there_from_fits (p ∷ q ∷ ts) r up fits =
-      count_of-append r (one_row counted key living sums p q) (rows_at counted key living sums (q ∷ ts))
+      count_of-append r (one_row counted key living tally p q) (rows_at counted key living tally (q ∷ ts))
       ∙ there_at p q ts r (nat_eq r.begin p) refl up fits (there_from_fits (q ∷ ts) r up.1)
 
   pub record IsNext (ts : List ℕ) (p : ℕ) : Type 0 where
     pub next : ℕ
-    pub fits : IsIn ts (row_from counted key living sums p next)
+    pub fits : IsIn ts (row_from counted key living tally p next)
 
   next_at : (p u p0 q0 : ℕ) (ts : List ℕ) (b : Bool) → nat_eq p p0 ≡ b → Ascends (p0 ∷ q0 ∷ ts) → 0 < living p → p < u → among p (p0 ∷ q0 ∷ ts) ≡ true → among u (p0 ∷ q0 ∷ ts) ≡ true
       → (among p (q0 ∷ ts) ≡ true → among u (q0 ∷ ts) ≡ true → IsNext (q0 ∷ ts) p) → IsNext (p0 ∷ q0 ∷ ts) p
   next_at p u p0 q0 ts true is up lives less here later rest =
       let same = eqb-true p p0 is in
-      record { next = q0; fits = subst (λ t. IsIn (p0 ∷ q0 ∷ ts) (row_from counted key living sums t q0)) (sym same) (first_fits p0 q0 ts up (subst (λ t. 0 < living t) same lives)) }
+      record { next = q0; fits = subst (λ t. IsIn (p0 ∷ q0 ∷ ts) (row_from counted key living tally t q0)) (sym same) (first_fits p0 q0 ts up (subst (λ t. 0 < living t) same lives)) }
   next_at p u p0 q0 ts false is up lives less here later rest =
       let in_rest : among p (q0 ∷ ts) ≡ true = sym (among_tail p p0 (q0 ∷ ts) is) ∙ here in
       let begins = above_among p0 p (q0 ∷ ts) up.0 in_rest in
       let found = rest in_rest (sym (among_tail u p0 (q0 ∷ ts) (above_test u p0 (omega arith))) ∙ later) in
-      record { next = found.next; fits = later_fits p0 (q0 ∷ ts) (row_from counted key living sums p found.next) up.0 found.fits }
+      record { next = found.next; fits = later_fits p0 (q0 ∷ ts) (row_from counted key living tally p found.next) up.0 found.fits }
 
   -- a time from which rows are valid begins a row, where a later time is there
   pub next_of : (ts : List ℕ) (p u : ℕ) → Ascends ts → 0 < living p → p < u → among p ts ≡ true → among u ts ≡ true → IsNext ts p

@@ -1,7 +1,7 @@
 -- The cut points of one group, as a map keeps them.
-use Rattle.std.specs.Prelude.{ℕ, ◌≡◌, ◌<◌, ◌≤◌, ◌+◌, ◌-◌, ◌%◌, ◌^◌, List, [], ◌∷◌, ◌++◌, Bool, true, false, cond, Option, Some, None, map, nat_lt, nat_eq, replicate, if◌then◌else◌, IsSome, ◌⊎◌}
+use Rattle.std.specs.Prelude.{ℕ, ◌≡◌, ◌<◌, ◌≤◌, ◌+◌, ◌-◌, ◌%◌, ◌^◌, List, [], ◌∷◌, ◌++◌, Bool, true, false, cond, Option, Some, None, map, nat_lt, nat_eq, if◌then◌else◌, IsSome, ◌⊎◌}
 use Rattle.std.specs.Int.{w128, cast_signed}
-use Rattle.std.specs.List.{flat_map}
+use Rattle.std.specs.List.{flat_map, filter_map}
 use Rattle.std.specs.Map.{lookup}
 use Rattle.std.specs.BTreeMap.{is_at}
 use Rattle.std.specs.Ordering.{nat_cmp}
@@ -13,30 +13,32 @@ use Rattle.cedr_base.specs.declared.change.Change.TheVariants.{Add, Cut}
 use Rattle.cedr_base.specs.Rows.{count_of}
 use Rattle.op_group.specs.declared.segment.Segment.{Segment}
 use Rattle.op_group.specs.Groups.{modular}
+use Rattle.op_group.specs.Tallies.{Tally}
 
 -- what a map has at a time
 abbrev pub segment_at : ℕ → List (ℕ × Segment) → Option Segment
 segment_at t cuts = lookup (is_at (nat_cmp t)) cuts
 
 -- The map shows these numbers: at a time where some begins and ends stand, how many they are, how many rows live from
--- there on, and the sums over them; and nothing at any other time.
-pub record ShowsCuts (cuts : List (ℕ × Segment)) (edges living : ℕ → ℕ) (sums : ℕ → List ℕ) : Type 0 where
-  pub at : (t : ℕ) → segment_at t cuts ≡ (if nat_eq (edges t) 0 then None else Some (record { edges = edges t; living = living t; totals = sums t }))
+-- there on, and their totals; and nothing at any other time.
+pub record ShowsCuts (cuts : List (ℕ × Segment)) (edges living : ℕ → ℕ) (tally : ℕ → Tally) : Type 0 where
+  pub at : (t : ℕ) → segment_at t cuts ≡ (if nat_eq (edges t) 0 then None else Some (record { edges = edges t; living = living t; totals = tally t }))
 
--- where no begin and no end stands the rows that live stay the same, and before all of them there are none
-pub record StaysBetweenCuts (width : ℕ) (edges living : ℕ → ℕ) (sums : ℕ → List ℕ) : Type 0 where
+-- where no begin and no end stands the rows that live stay the same, and before all of them there are none, with the
+-- totals of none
+pub record StaysBetweenCuts (empty : Tally) (edges living : ℕ → ℕ) (tally : ℕ → Tally) : Type 0 where
   pub living_stays : (p t : ℕ) → p ≤ t → ((u : ℕ) → p < u → u ≤ t → edges u ≡ 0) → living t ≡ living p
-  pub sums_stay : (p t : ℕ) → p ≤ t → ((u : ℕ) → p < u → u ≤ t → edges u ≡ 0) → sums t ≡ sums p
+  pub sums_stay : (p t : ℕ) → p ≤ t → ((u : ℕ) → p < u → u ≤ t → edges u ≡ 0) → tally t ≡ tally p
   pub none_live : (t : ℕ) → ((u : ℕ) → u ≤ t → edges u ≡ 0) → living t ≡ 0
-  pub none_summed : (t : ℕ) → ((u : ℕ) → u ≤ t → edges u ≡ 0) → sums t ≡ replicate width 0
+  pub none_summed : (t : ℕ) → ((u : ℕ) → u ≤ t → edges u ≡ 0) → tally t ≡ empty
 
 -- one at a time, and nothing at each other
 abbrev pub one_at : ℕ → ℕ → ℕ
 one_at t u = if nat_eq t u then 1 else 0
 
 -- the fields of a row of the result after its key
-abbrev pub totals : Bool → ℕ → List ℕ → List Field
-totals counted living sums = (if counted then modular living ∷ [] else []) ++ map (λ n. Number (cast_signed w128 n)) sums
+abbrev pub totals : Bool → ℕ → Tally → List Field
+totals counted living tally = (if counted then modular living ∷ [] else []) ++ (map (λ n. Number (cast_signed w128 n)) tally.sums ++ filter_map (λ extreme. extreme) tally.extremes)
 
 -- a row of the result that begins at a cut point and isn't ended yet
 abbrev pub row_begun : Bool → List Field → ℕ → Segment → Option (ℕ × List Field)
@@ -67,9 +69,13 @@ abbrev pub shifted_by : Bool → ℕ → ℕ
 shifted_by true n = n
 shifted_by false n = (2 ^ 128 - n) % 2 ^ 128
 
--- a row more or a row less
-abbrev pub segment_shifted : Bool → List ℕ → Segment → Segment
-segment_shifted up numbers s = record { edges = s.edges; living = if up then s.living + 1 else s.living - 1; totals = summed s.totals numbers }
+-- totals to which numbers are added, with these least and greatest fields
+abbrev pub tally_shifted : List ℕ → List (Option Field) → Tally → Tally
+tally_shifted numbers extremes tally = record { sums = summed tally.sums numbers; extremes = extremes }
+
+-- a row more or a row less, which adds numbers to the sums, and after which these are the least and greatest fields
+abbrev pub segment_shifted : Bool → List ℕ → List (Option Field) → Segment → Segment
+segment_shifted up numbers extremes s = record { edges = s.edges; living = if up then s.living + 1 else s.living - 1; totals = tally_shifted numbers extremes s.totals }
 
 -- a begin or an end more
 abbrev pub edge_raised : Segment → Segment
@@ -92,9 +98,9 @@ pub record IsLastCut (cuts : List (ℕ × Segment)) (t last : ℕ) : Type 0 wher
   pub there : ((last ≡ t) × ((u : ℕ) → u < t → segment_at u cuts ≡ None)) ⊎ (IsSome (segment_at last cuts) × (last < t))
 
 -- a segment has what is valid just before a time
-pub record IsCarried (cuts : List (ℕ × Segment)) (t width : ℕ) (s : Segment) : Type 0 where
+pub record IsCarried (cuts : List (ℕ × Segment)) (t : ℕ) (empty : Tally) (s : Segment) : Type 0 where
   pub one_edge : s.edges ≡ 1
-  pub carried : (((u : ℕ) → u < t → segment_at u cuts ≡ None) × (s.living ≡ 0) × (s.totals ≡ replicate width 0))
+  pub carried : (((u : ℕ) → u < t → segment_at u cuts ≡ None) × (s.living ≡ 0) × (s.totals ≡ empty))
       ⊎ ((p : ℕ) × (before : Segment) × (p < t) × (segment_at p cuts ≡ Some before) × ((u : ℕ) → p < u → u < t → segment_at u cuts ≡ None) × (s.living ≡ before.living) × (s.totals ≡ before.totals))
 
 -- a row of the result is withdrawn where it isn't among others

@@ -4,14 +4,12 @@ use Rattle.std.specs.Prelude.{nat_lt, map, sum_by, ◌||◌}
 use Rattle.std.specs.declared.cmp.Ordering.{Ordering}
 use Rattle.std.specs.declared.cmp.Ordering.TheVariants.{Less, Equal, Greater}
 use Rattle.std.specs.Ordering.{is_eq}
-use Rattle.std.specs.Int.{w128, cast_signed}
 use Rattle.std.specs.List.{flat_map, list_any}
 use Rattle.std.proofs.lemmas.Cmp.{tied_itself}
 use Rattle.std.proofs.lemmas.Bool.{cases_lt}
 use Rattle.std.proofs.lemmas.List.{length-map, take-append-le, take_all}
 use Rattle.std.proofs.lemmas.List.Sums.{sum_by-cons, sum_by-append}
 use Rattle.cedr_base.specs.declared.field.Field.{Field}
-use Rattle.cedr_base.specs.declared.field.Field.TheVariants.{Number}
 use Rattle.cedr_base.specs.declared.row.Row.{Row}
 use Rattle.cedr_base.specs.Order.{payload_cmp}
 use Rattle.cedr_base.specs.OrderLaws.{payload_total}
@@ -19,26 +17,14 @@ use Rattle.cedr_base.specs.Rows.{one_if_same, count_of, SameRows}
 use Rattle.cedr_base.proofs.RowLemmas.{exact_rows}
 use Rattle.change_laws.proofs.BagSums.{sum_by-same}
 use Rattle.op_group.specs.Groups.{Grouping, column_number, key_of, same_payload, distinct, rows_of, segments, grouped}
-use Rattle.op_group.specs.Cuts.{totals}
-use Rattle.op_group.specs.Measures.{edge_at, part_at, living_of, sums_of, Fits, is_cut_of, key_in, IsGroupRow}
+use Rattle.op_group.specs.Measures.{edge_at, part_at, living_of, tally_of, Fits, is_cut_of, key_in, IsGroupRow}
 use Rattle.op_group.specs.TimeLaws.{same_count}
-use Rattle.op_group.specs.SegmentLaws.{sum_by-filter, fits_alike, segment_fits, fits_segment, map_alike}
+use Rattle.op_group.specs.FilterLaws.{sum_by-filter}
+use Rattle.op_group.specs.LawWords.{SameAlive}
+use Rattle.op_group.specs.SegmentLaws.{fits_alike, segment_fits, fits_segment, tally_is}
+use Rattle.op_group.specs.PayloadLaws.{payload_exact, payload_itself}
+use Rattle.op_group.specs.KeyLaws.{fits_key}
 use Rattle.op_group.specs.LawWords.{SameAt}
-
-from_is_eq : (o : Ordering) → is_eq o ≡ true → o ≡ Equal
-from_is_eq Less h = cc
-from_is_eq Equal h = refl
-from_is_eq Greater h = cc
-
--- payloads that compare as equal are one
-pub payload_exact : (a b : List Field) → same_payload a b ≡ true → a ≡ b
-payload_exact a b h =
-    let rows = exact_rows (record { end = 0; begin = 0; payload = a }) (record { end = 0; begin = 0; payload = b }) (from_is_eq (payload_cmp a b) h) in
-    ap (λ (r : Row). r.payload) rows
-
--- a payload is the same as itself
-pub payload_itself : (a : List Field) → same_payload a a ≡ true
-payload_itself a = ap is_eq (tied_itself payload_total a)
 
 other_payload : (a b : List Field) (c : Bool) → same_payload a b ≡ c → c ≡ false → a ≡ b → ⊥
 other_payload a b true h k e = cc
@@ -82,28 +68,6 @@ none_chosen : (g : Grouping) (key : List Field) (rows : List Row) → list_any (
 none_chosen g key [] h = refl
 none_chosen g key (r ∷ rows) h = none_chosen_at g key r rows (same_payload key (key_of g r)) h (none_chosen g key rows)
 
-width_of : (g : Grouping) (living : ℕ) (sums : List ℕ) → length sums ≡ length g.sums → length (totals g.counted living sums) ≡ cond g.counted 1 0 + length g.sums
-width_of g living sums h = width_at g.counted
-  where
-    width_at : (b : Bool) → length (totals b living sums) ≡ cond b 1 0 + length g.sums
-    width_at true = omega (arith, length-map sums (λ n. Number (cast_signed w128 n)), h)
-    width_at false = omega (arith, length-map sums (λ n. Number (cast_signed w128 n)), h)
-
-before_totals : (key rest : List Field) (n : ℕ) → length rest ≡ n → take (length (key ++ rest) - n) (key ++ rest) ≡ key
-before_totals key rest n h =
-    let long : length (key ++ rest) - n ≡ length key = omega (arith, Rattle.std.proofs.Common.length-append key rest, h) in
-    ap (λ k. take k (key ++ rest)) long ∙ (take-append-le (length key) key rest (omega arith) ∙ take_all (length key) key (omega arith))
-
--- a row of the result shows its key
-pub key_found : (g : Grouping) (key : List Field) (living : ℕ) (sums : List ℕ) (r : Row) → length sums ≡ length g.sums → r.payload ≡ key ++ totals g.counted living sums → key_in g r ≡ key
-key_found g key living sums r wide is =
-    ap (λ p. take (length p - (cond g.counted 1 0 + length g.sums)) p) is
-    ∙ before_totals key (totals g.counted living sums) (cond g.counted 1 0 + length g.sums) (width_of g living sums wide)
-
--- a row between neighbouring cut points of a group has the key of that group
-pub fits_key : (g : Grouping) (key : List Field) (rows : List Row) (is_cut : ℕ → Bool) (r : Row) → Fits g.counted key (living_of rows) (sums_of g.sums rows) is_cut r → key_in g r ≡ key
-fits_key g key rows is_cut r fits = key_found g key (living_of rows r.begin) (sums_of g.sums rows r.begin) r (length-map g.sums (λ column. sum_by (part_at (column_number column) r.begin) rows % 2 ^ 128)) fits.payload_is
-
 empty_at : (g : Grouping) (key : List Field) (r : Row) (rows : List Row) (b : Bool) → list_any (same_payload key) (map (key_of g) rows) ≡ b → cond b (count_of r (segments g key (rows_of g key rows))) 0 ≡ count_of r (segments g key (rows_of g key rows))
 empty_at g key r rows true h = refl
 empty_at g key r rows false h = sym (ap (λ (xs : List Row). count_of r (segments g key xs)) (none_chosen g key rows h))
@@ -117,7 +81,7 @@ pub grouped_count : (g : Grouping) (rows : List Row) (r : Row) → count_of r (g
 grouped_count g rows r =
     sum_flat_map r (λ key. segments g key (rows_of g key rows)) (distinct (map (key_of g) rows))
     ∙ (distinct_sum (λ key. count_of r (segments g key (rows_of g key rows))) (key_in g r)
-    (λ other some. sym (fits_key g other (rows_of g other rows) (is_cut_of (rows_of g other rows)) r (segment_fits g other (rows_of g other rows) r some)))
+    (λ other some. sym (fits_key g other rows (is_cut_of (rows_of g other rows)) r (segment_fits g other (rows_of g other rows) r some)))
     (map (key_of g) rows)
     ∙ empty_at g (key_in g r) r rows (list_any (same_payload (key_in g r)) (map (key_of g) rows)) refl)
 
@@ -129,19 +93,14 @@ made_from_there g rows r there = segment_fits g (key_in g r) (rows_of g (key_in 
 pub there_from_made : (g : Grouping) (rows : List Row) (r : Row) → IsGroupRow g rows r → count_of r (grouped g rows) ≡ 1
 there_from_made g rows r made = grouped_count g rows r ∙ fits_segment g (key_in g r) (rows_of g (key_in g r) rows) r made
 
--- sums over a group that are the same make it the same
-pub same_at : (g : Grouping) (key : List Field) (xs ys : List Row) (t : ℕ) → sum_by (edge_at t) (rows_of g key xs) ≡ sum_by (edge_at t) (rows_of g key ys)
-    → sum_by (part_at (λ _. 1) t) (rows_of g key xs) ≡ sum_by (part_at (λ _. 1) t) (rows_of g key ys)
-    → ((column : ℕ) → sum_by (part_at (column_number column) t) (rows_of g key xs) ≡ sum_by (part_at (column_number column) t) (rows_of g key ys)) → SameAt g key xs ys t
-same_at g key xs ys t e l s = record {
-  edges = e;
-  living = l;
-  sums = map_alike (λ column. sum_by (part_at (column_number column) t) (rows_of g key xs) % 2 ^ 128) (λ column. sum_by (part_at (column_number column) t) (rows_of g key ys) % 2 ^ 128) g.sums (λ column. ap (λ n. n % 2 ^ 128) (s column));
-}
+-- a group is the same at a time where as many begins and ends stand there, and a sum over the payloads of the rows that are
+-- valid is the same
+pub same_at : (g : Grouping) (key : List Field) (xs ys : List Row) (t : ℕ) → sum_by (edge_at t) (rows_of g key xs) ≡ sum_by (edge_at t) (rows_of g key ys) → SameAlive t (rows_of g key xs) (rows_of g key ys) → SameAt g key xs ys t
+same_at g key xs ys t e alive = record { edges = e; living = alive (λ _. 1); totals = tally_is g.totalled t t (rows_of g key xs) (rows_of g key ys) alive }
 
 -- where a group of one table is at a time the same as in another, it is so the other way round
 pub same_back_at : (g : Grouping) (key : List Field) (xs ys : List Row) (t : ℕ) → SameAt g key xs ys t → SameAt g key ys xs t
-same_back_at g key xs ys t same = record { edges = sym same.edges; living = sym same.living; sums = sym same.sums }
+same_back_at g key xs ys t same = record { edges = sym same.edges; living = sym same.living; totals = sym same.totals }
 
 -- a row is made of two tables alike, where its group is the same all the while
 pub made_alike : (g : Grouping) (xs ys : List Row) (r : Row) → ((t : ℕ) → r.begin ≤ t → t ≤ r.end → SameAt g (key_in g r) xs ys t) → IsGroupRow g xs r → IsGroupRow g ys r
@@ -149,9 +108,9 @@ made_alike g xs ys r same made =
     let key = key_in g r in
     let order = made.order in
     let first = same r.begin (omega arith) (omega arith) in
-    fits_alike g.counted (key_in g r) (living_of (rows_of g (key_in g r) xs)) (living_of (rows_of g (key_in g r) ys)) (sums_of g.sums (rows_of g (key_in g r) xs)) (sums_of g.sums (rows_of g (key_in g r) ys))
+    fits_alike g.counted (key_in g r) (living_of (rows_of g (key_in g r) xs)) (living_of (rows_of g (key_in g r) ys)) (tally_of g.totalled (rows_of g (key_in g r) xs)) (tally_of g.totalled (rows_of g (key_in g r) ys))
     (is_cut_of (rows_of g (key_in g r) xs)) (is_cut_of (rows_of g (key_in g r) ys)) r
-    (λ t over under. ap (nat_lt 0) (same t over under).edges) first.living first.sums made
+    (λ t over under. ap (nat_lt 0) (same t over under).edges) first.living first.totals made
 
 -- a row is as often in the results of two tables where its group is the same from its begin to its end
 pub count_alike : (g : Grouping) (xs ys : List Row) (r : Row) → ((t : ℕ) → r.begin ≤ t → t ≤ r.end → SameAt g (key_in g r) xs ys t) → count_of r (grouped g xs) ≡ count_of r (grouped g ys)
@@ -169,5 +128,5 @@ group_sum g key w xs ys same =
 -- two tables that are the same bag make the same result
 pub same_grouped : (g : Grouping) (xs ys : List Row) → SameRows xs ys → SameRows (grouped g xs) (grouped g ys)
 same_grouped g xs ys same = record {
-  each = λ r. count_alike g xs ys r (λ t over under. same_at g (key_in g r) xs ys t (group_sum g (key_in g r) (edge_at t) xs ys same) (group_sum g (key_in g r) (part_at (λ _. 1) t) xs ys same) (λ column. group_sum g (key_in g r) (part_at (column_number column) t) xs ys same));
+  each = λ r. count_alike g xs ys r (λ t over under. same_at g (key_in g r) xs ys t (group_sum g (key_in g r) (edge_at t) xs ys same) (λ w. group_sum g (key_in g r) (part_at (λ (x : Row). w x.payload) t) xs ys same));
 }

@@ -1,27 +1,34 @@
 -- Groups of rows: what each group makes of its rows, and what may be promised at a mark.
 use Rattle.std.specs.Prelude.{ℕ, ◌%◌, ◌^◌, List, [], ◌∷◌, ◌++◌, Bool, false, ◌&&◌, ◌||◌, Option, Some, None, length, map, sum_by, min, nat_lt, nat_le, nat_eq, if◌then◌else◌}
 use Rattle.std.specs.Int.{w128, cast_unsigned, cast_signed}
-use Rattle.std.specs.List.{filter, flat_map, list_any, slice_get, count_by}
+use Rattle.std.specs.List.{filter, filter_map, flat_map, list_any, slice_get, count_by}
 use Rattle.std.specs.Ordering.{is_eq}
 use Rattle.cedr_base.specs.declared.field.Field.{Field}
 use Rattle.cedr_base.specs.declared.field.Field.TheVariants.{Number, Bytes}
 use Rattle.cedr_base.specs.declared.row.Row.{Row}
 use Rattle.cedr_base.specs.Order.{payload_cmp}
 use Rattle.cedr_expr.specs.Columns.{kept_columns}
+use Rattle.cedr_living.specs.Fields.{least_field, greatest_field}
 use Rattle.cedr_table.specs.Operators.{Meaning, table_at, mark_at}
+use Rattle.op_group.specs.declared.segment.Totalled.{Totalled}
 
 -- What is asked of groups.
 -- keys: the columns of the key.
 -- counted: whether the rows are counted.
--- sums: the columns to be summed.
+-- totalled: the columns to be summed, and those of which the least or the greatest field is asked for.
 pub record Grouping : Type 0 where
   pub keys : List ℕ
   pub counted : Bool
-  pub sums : List ℕ
+  pub totalled : Totalled
 
--- the grouping with these columns of the key, with a count or without, and with these summed columns
-abbrev pub grouping_by : List ℕ → Bool → List ℕ → Grouping
-grouping_by keys counted sums = record { keys = keys; counted = counted; sums = sums }
+-- the grouping with these columns of the key, with a count or without, and with the totals of these columns
+abbrev pub grouping_with : List ℕ → Bool → Totalled → Grouping
+grouping_with keys counted totalled = record { keys = keys; counted = counted; totalled = totalled }
+
+-- the grouping with these columns of the key, with a count or without, with these summed columns, and with the least
+-- and the greatest fields of these columns
+abbrev pub grouping_by : List ℕ → Bool → List ℕ → List ℕ → List ℕ → Grouping
+grouping_by keys counted sums least greatest = grouping_with keys counted (record { sums = sums; least = least; greatest = greatest })
 
 -- the key of a row: the fields in the columns of the key
 abbrev pub key_of : Grouping → Row → List Field
@@ -74,9 +81,24 @@ field_number (Some (Bytes text)) = 0
 abbrev pub column_number : ℕ → Row → ℕ
 column_number column r = field_number (slice_get r.payload column)
 
--- the count of rows, where it is asked for, and then each sum over them
+-- the fields of rows in a column: a row without it has none
+abbrev pub column_fields : List Row → ℕ → List Field
+column_fields rows column = filter_map (λ (r : Row). slice_get r.payload column) rows
+
+-- the least field of rows in a column, in the order of fields; none where no row has the column
+abbrev pub least_in : List Row → ℕ → Option Field
+least_in rows column = least_field (column_fields rows column)
+
+-- the greatest one likewise
+abbrev pub greatest_in : List Row → ℕ → Option Field
+greatest_in rows column = greatest_field (column_fields rows column)
+
+-- the count of rows, where it is asked for, then each sum over them, and then their least and their greatest fields: a
+-- field is left out where no row has its column
 abbrev pub totals_of : Grouping → List Row → List Field
-totals_of grouping rows = (if grouping.counted then modular (length rows) ∷ [] else []) ++ map (λ column. modular (sum_by (column_number column) rows)) grouping.sums
+totals_of grouping rows = (if grouping.counted then modular (length rows) ∷ [] else [])
+    ++ (map (λ column. modular (sum_by (column_number column) rows)) grouping.totalled.sums
+    ++ (filter_map (least_in rows) grouping.totalled.least ++ filter_map (greatest_in rows) grouping.totalled.greatest))
 
 -- the row of two neighbouring cut points and of the rows that are valid between them: none where there are no such rows
 abbrev pub row_between : Grouping → List Field → ℕ → ℕ → List Row → List Row
@@ -114,6 +136,18 @@ lives_at t r = nat_le r.begin t && nat_lt t r.end
 abbrev pub may_be_held : Grouping → List Row → ℕ → Row → Bool
 may_be_held grouping rows mark r = nat_le mark r.begin || (nat_le mark r.end && nat_lt 0 (count_by (lives_at r.begin) (rows_of grouping r.payload rows)))
 
+-- the fields of a row whose least or greatest ones are asked for
+abbrev pub ranked_fields : Grouping → Row → List Field
+ranked_fields grouping r = kept_columns (grouping.totalled.least ++ grouping.totalled.greatest) r.payload
+
+-- a row tells of a field of another one: it is valid as long as that one, and has the key of that one and then the field
+abbrev pub shows_field : Grouping → Row → Row → Bool
+shows_field grouping r x = (nat_eq r.begin x.begin && nat_eq r.end x.end) && list_any (λ field. same_payload r.payload (key_of grouping x ++ (field ∷ []))) (ranked_fields grouping x)
+
+-- At a mark a field may still be held, as a row that tells of it, where it is one of a row that doesn't end before the mark.
+abbrev pub field_may_be_held : Grouping → List Row → ℕ → Row → Bool
+field_may_be_held grouping rows mark r = nat_le mark r.end && list_any (shows_field grouping r) rows
+
 -- the meaning of a grouping: the rows of all groups, and as the bound the least of the mark and of the
 -- begins of open rows
 abbrev pub group_of : Grouping → Meaning
@@ -121,7 +155,7 @@ group_of grouping = record {
   ports = 1;
   result = λ tables. grouped grouping (table_at tables 0);
   bound = λ tables marks. open_from (mark_at marks 0) (grouped grouping (table_at tables 0));
-  may_hold = λ tables marks port r. nat_eq port 0 && may_be_held grouping (table_at tables 0) (mark_at marks 0) r;
+  may_hold = λ tables marks port r. nat_eq port 0 && (may_be_held grouping (table_at tables 0) (mark_at marks 0) r || field_may_be_held grouping (table_at tables 0) (mark_at marks 0) r);
   echoes = false;
   stateless = false;
 }

@@ -1,8 +1,8 @@
 -- The rows that one group makes are those between its cut points.
 use Rattle.std.proofs.Common.{◌≡◌, ℕ, ◌+◌, ◌%◌, ◌^◌, ◌<◌, ◌≤◌, inl, inr, List, [], ◌∷◌, ◌++◌, Bool, true, false, cond, length, refl, ap, sym, ◌∙◌, arith}
-use Rattle.std.specs.Prelude.{nat_eq, nat_lt, nat_le, ◌&&◌, map, sum_by, replicate}
+use Rattle.std.specs.Prelude.{nat_eq, nat_lt, nat_le, ◌&&◌, map, sum_by, replicate, Option}
 use Rattle.std.specs.Int.{w128, cast_signed}
-use Rattle.std.specs.List.{filter, flat_map}
+use Rattle.std.specs.List.{filter, filter_map, flat_map, slice_get}
 use Rattle.std.proofs.lemmas.Bool.{cases_lt, eq-eqb, eqb-false, lt-ltb, ltb-true, ltb-false}
 use Rattle.std.proofs.lemmas.Bool.Decides.{nat_tests}
 use Rattle.std.proofs.lemmas.List.Sums.{sum_by-cons}
@@ -12,10 +12,14 @@ use Rattle.cedr_base.specs.declared.row.Row.{Row}
 use Rattle.cedr_base.specs.Rows.{count_of}
 use Rattle.cedr_base.proofs.Bags.{count_of-cons}
 use Rattle.change_laws.proofs.BagSums.{count_of-itself, sum_by-without}
-use Rattle.op_group.specs.Groups.{Grouping, modular, column_number, totals_of, row_between, spans, neighbours, cut_points, put_time, segments, lives_at}
+use Rattle.op_group.specs.declared.segment.Totalled.{Totalled}
+use Rattle.op_group.specs.Groups.{Grouping, modular, field_number, column_number, least_in, greatest_in, totals_of, row_between, spans, neighbours, cut_points, put_time, segments, lives_at}
+use Rattle.op_group.specs.Tallies.{Tally}
 use Rattle.op_group.specs.Cuts.{one_at, totals, StaysBetweenCuts}
-use Rattle.op_group.specs.Measures.{edge_at, part_at, edges_of, living_of, sums_of, among, AllAbove, Ascends, one_row, rows_at, Fits, is_cut_of}
+use Rattle.op_group.specs.Measures.{edge_at, part_at, edges_of, living_of, tally_of, extremes_of, no_totals, among, AllAbove, Ascends, one_row, rows_at, Fits, is_cut_of}
 use Rattle.op_group.specs.TimeLaws.{above_test, one_here, false_not_true, still_valid, not_valid_yet}
+use Rattle.op_group.specs.FilterLaws.{sum_by-filter, map_alike}
+use Rattle.op_group.specs.ExtremeLaws.{extremes_alike, alive_alike, extremes_there}
 use Rattle.op_group.specs.CutLaws.{among_tail, none_between, above_lower, fits_from_there, there_from_fits}
 
 -- two tests that agree on the rows of a list choose the same ones
@@ -25,17 +29,6 @@ filter_alike p q (x ∷ xs) h =
     let here : p x ≡ q x = h x (count_of-itself x xs) in
     let rest : filter p xs ≡ filter q xs = filter_alike p q xs (λ r there. h r (omega (arith, count_of-cons r x xs, there))) in
     ap (λ b. cond b (x ∷ filter p xs) (filter p xs)) here ∙ ap (λ ys. cond (q x) (x ∷ ys) ys) rest
-
-sum_filter_at : (f : Row → ℕ) (x : Row) (ys : List Row) (b : Bool) → sum_by f (cond b (x ∷ ys) ys) ≡ cond b (f x) 0 + sum_by f ys
-sum_filter_at f x ys true = sum_by-cons f x ys
-sum_filter_at f x ys false = omega arith
-
--- a sum over chosen rows
-pub sum_by-filter : (f : Row → ℕ) (p : Row → Bool) (xs : List Row) → sum_by f (filter p xs) ≡ sum_by (λ x. cond (p x) (f x) 0) xs
-sum_by-filter f p [] = refl
-sum_by-filter f p (x ∷ xs) =
-    let rest = sum_by-filter f p xs in
-    omega (arith, sum_filter_at f x (filter p xs) (p x), sum_by-cons (λ (y : Row). cond (p y) (f y) 0) x xs, rest)
 
 length_is : (xs : List Row) → length xs ≡ sum_by (λ _. 1) xs
 length_is [] = refl
@@ -120,37 +113,35 @@ map_numbers : (f : ℕ → ℕ) (columns : List ℕ) → map (λ column. modular
 map_numbers f [] = refl
 map_numbers f (column ∷ columns) = ap (λ rest. modular (f column) ∷ rest) (map_numbers f columns)
 
-totals_are : (g : Grouping) (rows : List Row) (living : ℕ) (sums : List ℕ) → length rows ≡ living → map (λ column. sum_by (column_number column) rows % 2 ^ 128) g.sums ≡ sums → totals_of g rows ≡ totals g.counted living sums
-totals_are g rows living sums e f =
-    ap (λ rest. cond g.counted (modular (length rows) ∷ []) [] ++ rest) (map_numbers (λ column. sum_by (column_number column) rows) g.sums ∙ ap (λ ns. map (λ n. Number (cast_signed w128 n)) ns) f)
-    ∙ ap (λ n. totals g.counted n sums) e
+totals_are : (g : Grouping) (rows : List Row) (living : ℕ) (tally : Tally) → length rows ≡ living → map (λ column. sum_by (column_number column) rows % 2 ^ 128) g.totalled.sums ≡ tally.sums → extremes_of g.totalled rows ≡ tally.extremes
+    → totals_of g rows ≡ totals g.counted living tally
+totals_are g rows living tally e f h =
+    ap (λ fields. cond g.counted (modular (length rows) ∷ []) [] ++ (fields ++ (filter_map (least_in rows) g.totalled.least ++ filter_map (greatest_in rows) g.totalled.greatest)))
+    (map_numbers (λ column. sum_by (column_number column) rows) g.totalled.sums ∙ ap (λ ns. map (λ n. Number (cast_signed w128 n)) ns) f)
+    ∙ (ap (λ fields. cond g.counted (modular (length rows) ∷ []) [] ++ (map (λ n. Number (cast_signed w128 n)) tally.sums ++ fields)) (sym (extremes_there g.totalled rows) ∙ ap (filter_map (λ (o : Option Field). o)) h)
+    ∙ ap (λ n. totals g.counted n tally) e)
 
-row_between_at : (g : Grouping) (key : List Field) (p q : ℕ) (rows : List Row) (living : ℕ) (sums : List ℕ) → length rows ≡ living → totals_of g rows ≡ totals g.counted living sums
-    → row_between g key p q rows ≡ cond (nat_eq living 0) [] (record { end = q; begin = p; payload = key ++ totals g.counted living sums } ∷ [])
-row_between_at g key p q [] living sums e f = sym (ap {B = List Row} (λ b. cond b [] (record { end = q; begin = p; payload = key ++ totals g.counted living sums } ∷ [])) (eq-eqb living 0 (sym e)))
-row_between_at g key p q (r ∷ rows) living sums e f =
+row_between_at : (g : Grouping) (key : List Field) (p q : ℕ) (rows : List Row) (living : ℕ) (tally : Tally) → length rows ≡ living → totals_of g rows ≡ totals g.counted living tally
+    → row_between g key p q rows ≡ cond (nat_eq living 0) [] (record { end = q; begin = p; payload = key ++ totals g.counted living tally } ∷ [])
+row_between_at g key p q [] living tally e f = sym (ap {B = List Row} (λ b. cond b [] (record { end = q; begin = p; payload = key ++ totals g.counted living tally } ∷ [])) (eq-eqb living 0 (sym e)))
+row_between_at g key p q (r ∷ rows) living tally e f =
     let some : nat_eq living 0 ≡ false = above_test living 0 (omega arith) in
     ap (λ y. record { end = q; begin = p; payload = key ++ y } ∷ []) f
-    ∙ sym (ap {B = List Row} (λ b. cond b [] (record { end = q; begin = p; payload = key ++ totals g.counted living sums } ∷ [])) some)
-
--- what is the same for each column makes the same list of all columns
-pub map_alike : (f h : ℕ → ℕ) (columns : List ℕ) → ((column : ℕ) → f column ≡ h column) → map f columns ≡ map h columns
-map_alike f h [] e = refl
-map_alike f h (column ∷ columns) e = ap (λ n. n ∷ map f columns) (e column) ∙ ap (λ ns. h column ∷ ns) (map_alike f h columns e)
+    ∙ sym (ap {B = List Row} (λ b. cond b [] (record { end = q; begin = p; payload = key ++ totals g.counted living tally } ∷ [])) some)
 
 spans_is : (begin end p q : ℕ) → p < q → (p < end → q ≤ end) → (nat_le begin p && nat_le q end) ≡ (nat_le begin p && nat_lt p end)
 spans_is begin end p q h k = grind (arith, nat_tests)
 
 -- between two neighbours the rows that span them are those that are valid at the first
 row_of_two : (g : Grouping) (key : List Field) (rows : List Row) (p q : ℕ) → p < q → ((r : Row) → 0 < count_of r rows → p < r.end → q ≤ r.end)
-    → row_between g key p q (filter (spans p q) rows) ≡ one_row g.counted key (living_of rows) (sums_of g.sums rows) p q
+    → row_between g key p q (filter (spans p q) rows) ≡ one_row g.counted key (living_of rows) (tally_of g.totalled rows) p q
 row_of_two g key rows p q less ends =
     let chosen : filter (spans p q) rows ≡ filter (lives_at p) rows = filter_alike (spans p q) (lives_at p) rows (λ r there. spans_is r.begin r.end p q less (ends r there)) in
     let many : length (filter (spans p q) rows) ≡ living_of rows p = ap (λ (xs : List Row). length xs) chosen ∙ (length_is (filter (lives_at p) rows) ∙ sum_by-filter (λ _. 1) (lives_at p) rows) in
-    let sums : map (λ column. sum_by (column_number column) (filter (spans p q) rows) % 2 ^ 128) g.sums ≡ sums_of g.sums rows p =
-    map_alike (λ column. sum_by (column_number column) (filter (spans p q) rows) % 2 ^ 128) (λ column. sum_by (part_at (column_number column) p) rows % 2 ^ 128) g.sums
+    let sums : map (λ column. sum_by (column_number column) (filter (spans p q) rows) % 2 ^ 128) g.totalled.sums ≡ (tally_of g.totalled rows p).sums =
+    map_alike (λ column. sum_by (column_number column) (filter (spans p q) rows) % 2 ^ 128) (λ column. sum_by (part_at (column_number column) p) rows % 2 ^ 128) g.totalled.sums
     (λ column. ap (λ n. n % 2 ^ 128) (ap (sum_by (column_number column)) chosen ∙ sum_by-filter (column_number column) (lives_at p) rows)) in
-    row_between_at g key p q (filter (spans p q) rows) (living_of rows p) (sums_of g.sums rows p) many (totals_are g (filter (spans p q) rows) (living_of rows p) (sums_of g.sums rows p) many sums)
+    row_between_at g key p q (filter (spans p q) rows) (living_of rows p) (tally_of g.totalled rows p) many (totals_are g (filter (spans p q) rows) (living_of rows p) (tally_of g.totalled rows p) many sums (ap (extremes_of g.totalled) chosen))
 
 next_end : (p q end : ℕ) (ts : List ℕ) → AllAbove q ts → p < q → among end (p ∷ q ∷ ts) ≡ true → p < end → q ≤ end
 next_end p q end ts above less is over = elim (cases_lt end q) [
@@ -163,28 +154,28 @@ rest_ends p q end ts less over is = sym (among_tail end p (q ∷ ts) (above_test
 
 -- the rows of a group along its cut points
 along_cuts : (g : Grouping) (key : List Field) (rows : List Row) (p : ℕ) (ts : List ℕ) → Ascends (p ∷ ts) → ((r : Row) → 0 < count_of r rows → p < r.end → among r.end (p ∷ ts) ≡ true)
-    → flat_map (λ n. row_between g key n.0 n.1 (filter (spans n.0 n.1) rows)) (neighbours (p ∷ ts)) ≡ rows_at g.counted key (living_of rows) (sums_of g.sums rows) (p ∷ ts)
+    → flat_map (λ n. row_between g key n.0 n.1 (filter (spans n.0 n.1) rows)) (neighbours (p ∷ ts)) ≡ rows_at g.counted key (living_of rows) (tally_of g.totalled rows) (p ∷ ts)
 along_cuts g key rows p [] up ends = refl
 along_cuts g key rows p (q ∷ ts) up ends =
     let less = up.0.0 in
     let first = row_of_two g key rows p q less (λ r there over. next_end p q r.end ts up.1.0 less (ends r there over) over) in
     let rest = along_cuts g key rows q ts up.1 (λ r there over. rest_ends p q r.end ts less over (ends r there (omega arith))) in
     ap (λ xs. xs ++ flat_map (λ n. row_between g key n.0 n.1 (filter (spans n.0 n.1) rows)) (neighbours (q ∷ ts))) first
-    ∙ ap (λ xs. one_row g.counted key (living_of rows) (sums_of g.sums rows) p q ++ xs) rest
+    ∙ ap (λ xs. one_row g.counted key (living_of rows) (tally_of g.totalled rows) p q ++ xs) rest
 
 segments_along : (g : Grouping) (key : List Field) (rows : List Row) (ts : List ℕ) → Ascends ts → ((r : Row) → 0 < count_of r rows → among r.end ts ≡ true)
-    → flat_map (λ n. row_between g key n.0 n.1 (filter (spans n.0 n.1) rows)) (neighbours ts) ≡ rows_at g.counted key (living_of rows) (sums_of g.sums rows) ts
+    → flat_map (λ n. row_between g key n.0 n.1 (filter (spans n.0 n.1) rows)) (neighbours ts) ≡ rows_at g.counted key (living_of rows) (tally_of g.totalled rows) ts
 segments_along g key rows [] up ends = refl
 segments_along g key rows (p ∷ ts) up ends = along_cuts g key rows p ts up (λ r there over. ends r there)
 
 -- the rows that a group makes are those between its cut points
-pub segments_are : (g : Grouping) (key : List Field) (rows : List Row) → segments g key rows ≡ rows_at g.counted key (living_of rows) (sums_of g.sums rows) (cut_points rows)
+pub segments_are : (g : Grouping) (key : List Field) (rows : List Row) → segments g key rows ≡ rows_at g.counted key (living_of rows) (tally_of g.totalled rows) (cut_points rows)
 segments_are g key rows = segments_along g key rows (cut_points rows) (cuts_ascend rows) (λ r there. among_cuts r.end rows ∙ lt-ltb 0 (edges_of rows r.end) (edge_there rows r there))
 
 -- what fits fits where the same cut points, and the same rows live
-pub fits_alike : (counted : Bool) (key : List Field) (living living' : ℕ → ℕ) (sums sums' : ℕ → List ℕ) (is_cut is_cut' : ℕ → Bool) (r : Row)
-    → ((t : ℕ) → r.begin ≤ t → t ≤ r.end → is_cut t ≡ is_cut' t) → living r.begin ≡ living' r.begin → sums r.begin ≡ sums' r.begin
-    → Fits counted key living sums is_cut r → Fits counted key living' sums' is_cut' r
+pub fits_alike : (counted : Bool) (key : List Field) (living living' : ℕ → ℕ) (tally tally' : ℕ → Tally) (is_cut is_cut' : ℕ → Bool) (r : Row)
+    → ((t : ℕ) → r.begin ≤ t → t ≤ r.end → is_cut t ≡ is_cut' t) → living r.begin ≡ living' r.begin → tally r.begin ≡ tally' r.begin
+    → Fits counted key living tally is_cut r → Fits counted key living' tally' is_cut' r
 fits_alike counted key l l' s s' c c' r cuts lives summed fits =
     let order = fits.order in
     let some = fits.lives in
@@ -198,18 +189,18 @@ fits_alike counted key l l' s s' c c' r cuts lives summed fits =
     }
 
 -- a row that a group makes fits
-pub segment_fits : (g : Grouping) (key : List Field) (rows : List Row) (r : Row) → 0 < count_of r (segments g key rows) → Fits g.counted key (living_of rows) (sums_of g.sums rows) (is_cut_of rows) r
+pub segment_fits : (g : Grouping) (key : List Field) (rows : List Row) (r : Row) → 0 < count_of r (segments g key rows) → Fits g.counted key (living_of rows) (tally_of g.totalled rows) (is_cut_of rows) r
 segment_fits g key rows r there =
-    let there_at : 0 < count_of r (rows_at g.counted key (living_of rows) (sums_of g.sums rows) (cut_points rows)) = omega (arith, there, ap (count_of r) (segments_are g key rows)) in
-    fits_alike g.counted key (living_of rows) (living_of rows) (sums_of g.sums rows) (sums_of g.sums rows) (λ t. among t (cut_points rows)) (is_cut_of rows) r
-    (λ t over under. among_cuts t rows) refl refl (fits_from_there g.counted key (living_of rows) (sums_of g.sums rows) (cut_points rows) r (cuts_ascend rows) there_at)
+    let there_at : 0 < count_of r (rows_at g.counted key (living_of rows) (tally_of g.totalled rows) (cut_points rows)) = omega (arith, there, ap (count_of r) (segments_are g key rows)) in
+    fits_alike g.counted key (living_of rows) (living_of rows) (tally_of g.totalled rows) (tally_of g.totalled rows) (λ t. among t (cut_points rows)) (is_cut_of rows) r
+    (λ t over under. among_cuts t rows) refl refl (fits_from_there g.counted key (living_of rows) (tally_of g.totalled rows) (cut_points rows) r (cuts_ascend rows) there_at)
 
 -- and what fits it makes, once
-pub fits_segment : (g : Grouping) (key : List Field) (rows : List Row) (r : Row) → Fits g.counted key (living_of rows) (sums_of g.sums rows) (is_cut_of rows) r → count_of r (segments g key rows) ≡ 1
+pub fits_segment : (g : Grouping) (key : List Field) (rows : List Row) (r : Row) → Fits g.counted key (living_of rows) (tally_of g.totalled rows) (is_cut_of rows) r → count_of r (segments g key rows) ≡ 1
 fits_segment g key rows r fits =
     ap (count_of r) (segments_are g key rows)
-    ∙ there_from_fits g.counted key (living_of rows) (sums_of g.sums rows) (cut_points rows) r (cuts_ascend rows)
-    (fits_alike g.counted key (living_of rows) (living_of rows) (sums_of g.sums rows) (sums_of g.sums rows) (is_cut_of rows) (λ t. among t (cut_points rows)) r (λ t over under. sym (among_cuts t rows)) refl refl fits)
+    ∙ there_from_fits g.counted key (living_of rows) (tally_of g.totalled rows) (cut_points rows) r (cuts_ascend rows)
+    (fits_alike g.counted key (living_of rows) (living_of rows) (tally_of g.totalled rows) (tally_of g.totalled rows) (is_cut_of rows) (λ t. among t (cut_points rows)) r (λ t over under. sym (among_cuts t rows)) refl refl fits)
 
 module _ (weight : Row → ℕ) where
   no_edge_first : (r : Row) (rows : List Row) (u : ℕ) → edges_of (r ∷ rows) u ≡ 0 → one_at r.begin u + one_at r.end u ≡ 0
@@ -239,11 +230,25 @@ zeros : (f : ℕ → ℕ) (columns : List ℕ) → ((column : ℕ) → f column 
 zeros f [] h = refl
 zeros f (column ∷ columns) h = ap (λ n. n ∷ map f columns) (h column) ∙ ap (λ ns. 0 ∷ ns) (zeros f columns h)
 
+-- totals are what they are made of
+pub tally_is : (asked : Totalled) (t u : ℕ) (xs ys : List Row) → ((w : List Field → ℕ) → sum_by (part_at (λ (r : Row). w r.payload) t) xs ≡ sum_by (part_at (λ (r : Row). w r.payload) u) ys) → tally_of asked xs t ≡ tally_of asked ys u
+tally_is asked t u xs ys h =
+    let sums = map_alike (λ column. sum_by (part_at (column_number column) t) xs % 2 ^ 128) (λ column. sum_by (part_at (column_number column) u) ys % 2 ^ 128) asked.sums (λ column. ap (λ n. n % 2 ^ 128) (h (λ payload. field_number (slice_get payload column)))) in
+    let extremes = alive_alike asked t u xs ys h in
+    λ i. record { sums = sums i; extremes = extremes i }
+
+-- where no row is valid the totals are those of no rows
+pub tally_none : (asked : Totalled) (t : ℕ) (rows : List Row) → ((w : List Field → ℕ) → sum_by (part_at (λ (r : Row). w r.payload) t) rows ≡ 0) → tally_of asked rows t ≡ no_totals asked
+tally_none asked t rows h =
+    let sums = zeros (λ column. sum_by (part_at (column_number column) t) rows % 2 ^ 128) asked.sums (λ column. ap (λ n. n % 2 ^ 128) (h (λ payload. field_number (slice_get payload column)))) in
+    let extremes = extremes_alike asked (filter (lives_at t) rows) [] (λ w. sum_by-filter (λ (r : Row). w r.payload) (lives_at t) rows ∙ h w) in
+    λ i. record { sums = sums i; extremes = extremes i }
+
 -- the rows of a group stay valid between its cut points
-pub group_stays : (columns : List ℕ) (rows : List Row) → StaysBetweenCuts (length columns) (edges_of rows) (living_of rows) (sums_of columns rows)
-group_stays columns rows = record {
+pub group_stays : (asked : Totalled) (rows : List Row) → StaysBetweenCuts (no_totals asked) (edges_of rows) (living_of rows) (tally_of asked rows)
+group_stays asked rows = record {
   living_stays = λ p t h none. part_stays (λ _. 1) rows p t h none;
-  sums_stay = λ p t h none. map_alike (λ column. sum_by (part_at (column_number column) t) rows % 2 ^ 128) (λ column. sum_by (part_at (column_number column) p) rows % 2 ^ 128) columns (λ column. ap (λ n. n % 2 ^ 128) (part_stays (column_number column) rows p t h none));
+  sums_stay = λ p t h none. tally_is asked t p rows rows (λ w. part_stays (λ (r : Row). w r.payload) rows p t h none);
   none_live = λ t none. none_yet (λ _. 1) rows t none;
-  none_summed = λ t none. zeros (λ column. sum_by (part_at (column_number column) t) rows % 2 ^ 128) columns (λ column. ap (λ n. n % 2 ^ 128) (none_yet (column_number column) rows t none));
+  none_summed = λ t none. tally_none asked t rows (λ w. none_yet (λ (r : Row). w r.payload) rows t none);
 }

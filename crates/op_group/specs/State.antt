@@ -1,5 +1,5 @@
 -- What an operator over groups keeps, and how it answers a change.
-use Rattle.std.specs.Prelude.{ℕ, ◌≡◌, ◌<◌, ◌≤◌, ◌+◌, ◌⊎◌, List, [], ◌++◌, Bool, true, false, Option, Some, None, length, replicate, nat_le, is_some, not, ◌&&◌, if◌then◌else◌}
+use Rattle.std.specs.Prelude.{ℕ, ◌≡◌, ◌<◌, ◌≤◌, ◌+◌, ◌⊎◌, List, [], ◌++◌, Bool, true, false, Option, Some, None, length, nat_le, is_some, not, ◌&&◌, if◌then◌else◌}
 use Rattle.std.specs.Map.{lookup, keys_of}
 use Rattle.std.specs.List.Sorted.{IsStrictlySortedBy}
 use Rattle.std.specs.Ordering.{nat_cmp}
@@ -13,10 +13,15 @@ use Rattle.cedr_table.specs.Operators.{Tables, table_at, mark_at}
 use Rattle.op_group.specs.declared.segment.Segment.{Segment}
 use Rattle.op_group.specs.declared.points.CutPoint.{CutPoint}
 use Rattle.op_group.specs.declared.points.Points.{Points}
+use Rattle.op_group.specs.declared.bags.Bags.{Bags}
+use Rattle.cedr_living.specs.declared.living.LivingFields.{LivingFields}
+use Rattle.op_group.specs.declared.segment.Totalled.{Totalled}
+use Rattle.op_group.specs.Bags.{bag_at, BagKeeps, lives_of}
+use Rattle.cedr_living.specs.Lives.{Living}
 use Rattle.op_group.specs.Points.{has_point, left_from, IsOpenCut}
-use Rattle.op_group.specs.Groups.{Grouping, same_payload, rows_of, segments}
+use Rattle.op_group.specs.Groups.{Grouping, grouping_with, same_payload, rows_of, segments}
 use Rattle.op_group.specs.Cuts.{ShowsCuts, segment_at, differences}
-use Rattle.op_group.specs.Measures.{edges_of, living_of, sums_of}
+use Rattle.op_group.specs.Measures.{edges_of, living_of, tally_of, no_totals, is_cut_of}
 
 -- the cut points of a group, where there are any
 abbrev pub entries_of : Option (BTreeMap ℕ Segment) → List (ℕ × Segment)
@@ -33,15 +38,15 @@ since from before f t = if nat_le from t then f t else before
 
 -- A map shows the rows of a group from a time on, which is no later than the mark: a cut point before the mark, or a
 -- time before which nothing was valid.
-pub record ShowsFrom (sums : List ℕ) (mark from : ℕ) (cuts : List (ℕ × Segment)) (rows : List Row) : Type 0 where
+pub record ShowsFrom (asked : Totalled) (mark from : ℕ) (cuts : List (ℕ × Segment)) (rows : List Row) : Type 0 where
   pub below : from ≤ mark
   pub starts : ((from < mark) × (0 < edges_of rows from)) ⊎ ((t : ℕ) → t + 1 ≡ from → living_of rows t ≡ 0)
-  pub shows : ShowsCuts cuts (since from 0 (edges_of rows)) (since from 0 (living_of rows)) (since from (replicate (length sums) 0) (sums_of sums rows))
+  pub shows : ShowsCuts cuts (since from 0 (edges_of rows)) (since from 0 (living_of rows)) (since from (no_totals asked) (tally_of asked rows))
 
 -- the map shows the rows of a group from some time on
-pub record ShowsRows (sums : List ℕ) (mark : ℕ) (cuts : List (ℕ × Segment)) (rows : List Row) : Type 0 where
+pub record ShowsRows (asked : Totalled) (mark : ℕ) (cuts : List (ℕ × Segment)) (rows : List Row) : Type 0 where
   pub from : ℕ
-  pub shown : ShowsFrom sums mark from cuts rows
+  pub shown : ShowsFrom asked mark from cuts rows
 
 -- the cut points of each group ascend
 abbrev pub AllOrdered : List (List Field × BTreeMap ℕ Segment) → Type 0
@@ -63,34 +68,47 @@ pub record KeepsGroups (g : Grouping) (groups : List (List Field × BTreeMap ℕ
   pub sorted : IsStrictlySortedBy payload_cmp (keys_of groups)
   pub ordered : AllOrdered groups
   pub some_cuts : NoneEmpty groups
-  pub shown : (key : List Field) → ShowsRows g.sums mark (cuts_of groups key) (rows_of g key rows)
+  pub shown : (key : List Field) → ShowsRows g.totalled mark (cuts_of groups key) (rows_of g key rows)
   pub entered : (t : ℕ) (key : List Field) → has_point all t key ≡ is_some (segment_at t (cuts_of groups key))
   pub still : (t : ℕ) (key : List Field) → has_point due t key ≡ true → has_point all t key ≡ true
   pub passed : (t : ℕ) (key : List Field) → has_point all t key ≡ true → has_point due t key ≡ false → IsPassed g groups rows mark t key
 
+-- a group's bag, if it has one, keeps what lives from a cut point of the group on, which a mark has passed
+pub record IsForgotten (bags : Bags) (t : ℕ) (key : List Field) : Type 0 where
+  pub within : t ≤ bags.passed
+  pub from_there : (bag : LivingFields) → bag_at bags.all.entries key ≡ Some bag → t ≤ bag.from
+
+-- The bags keep the fields of each group's rows: those that end after each cut point that a mark has passed.
+pub record KeepsFields (g : Grouping) (bags : Bags) (due : List CutPoint) (rows : List Row) (mark : ℕ) : Type 0 where
+  pub sorted : IsStrictlySortedBy payload_cmp (keys_of bags.all.entries)
+  pub within : bags.passed ≤ mark
+  pub each : (key : List Field) → BagKeeps (bag_at bags.all.entries key) bags.passed (lives_of g.totalled (rows_of g key rows))
+  pub forgotten : (t : ℕ) (key : List Field) → is_cut_of (rows_of g key rows) t ≡ true → has_point due t key ≡ false → IsForgotten bags t key
+
 -- one port, whose table is kept by groups
-pub record StandsForGroups (g : Grouping) (groups : List (List Field × BTreeMap ℕ Segment)) (points : Points) (tables : Tables) (marks : List ℕ) : Type 0 where
+pub record StandsForGroups (g : Grouping) (groups : List (List Field × BTreeMap ℕ Segment)) (points : Points) (bags : Bags) (tables : Tables) (marks : List ℕ) : Type 0 where
   pub table : length tables ≡ 1
   pub mark : length marks ≡ 1
   pub rows : AreRows (table_at tables 0)
   pub keeps : KeepsGroups g groups points.all.keys points.due.keys (table_at tables 0) (mark_at marks 0)
+  pub fields : KeepsFields g bags points.due.keys (table_at tables 0) (mark_at marks 0)
 
 -- what is asked of groups, but for the columns of the key
-abbrev pub grouping_asked : Bool → List ℕ → Grouping
-grouping_asked counted sums = record { keys = []; counted = counted; sums = sums }
+abbrev pub grouping_asked : Bool → Totalled → Grouping
+grouping_asked counted asked = grouping_with [] counted asked
 
 -- the rows of one group's result that may change, before a change and after it: all others stay
-pub record Turned (counted : Bool) (sums : List ℕ) (key : List Field) (old new olds news : List Row) : Type 0 where
-  pub some_old : (r : Row) → count_of r olds ≤ count_of r (segments (grouping_asked counted sums) key old)
-  pub some_new : (r : Row) → count_of r news ≤ count_of r (segments (grouping_asked counted sums) key new)
-  pub others : (r : Row) → count_of r (segments (grouping_asked counted sums) key new) + count_of r olds ≡ count_of r (segments (grouping_asked counted sums) key old) + count_of r news
+pub record Turned (counted : Bool) (asked : Totalled) (key : List Field) (old new olds news : List Row) : Type 0 where
+  pub some_old : (r : Row) → count_of r olds ≤ count_of r (segments (grouping_asked counted asked) key old)
+  pub some_new : (r : Row) → count_of r news ≤ count_of r (segments (grouping_asked counted asked) key new)
+  pub others : (r : Row) → count_of r (segments (grouping_asked counted asked) key new) + count_of r olds ≡ count_of r (segments (grouping_asked counted asked) key old) + count_of r news
 
 -- what is appended is the difference between such rows
-pub record AnswersGroup (counted : Bool) (sums : List ℕ) (key : List Field) (old new : List Row) (before after : List Change) : Type 0 where
+pub record AnswersGroup (counted : Bool) (asked : Totalled) (key : List Field) (old new : List Row) (before after : List Change) : Type 0 where
   pub olds : List Row
   pub news : List Row
   pub appended : after ≡ before ++ differences olds news
-  pub turned : Turned counted sums key old new olds news
+  pub turned : Turned counted asked key old new olds news
 
 -- At a cut point of a group what was before it is left out of its cut points, and so is the cut point itself where
 -- nothing is valid from it on. What leaves the group leaves the set of all cut points.
@@ -100,6 +118,15 @@ pub record Settles (at : ℕ) (key : List Field) (groups groups' : List (List Fi
   pub some_cuts : NoneEmpty groups → NoneEmpty groups'
   pub cuts_left : (u : ℕ) (other : List Field) → segment_at u (cuts_of groups' other) ≡ (if same_payload key other then left_from at (cuts_of groups other) u else segment_at u (cuts_of groups other))
   pub points_left : (u : ℕ) (other : List Field) → has_point all' u other ≡ (if is_some (segment_at u (cuts_of groups other)) && not (is_some (segment_at u (cuts_of groups' other))) then false else has_point all u other)
+
+-- at a cut point of a group its fields are kept from it on, and what all bags keep stays the same
+pub record SettlesFields (at : ℕ) (key : List Field) (bags bags' : Bags) : Type 0 where
+  pub sorted : IsStrictlySortedBy payload_cmp (keys_of bags'.all.entries)
+  pub passed : bags'.passed ≡ bags.passed
+  pub others : (other : List Field) → same_payload key other ≡ false → bag_at bags'.all.entries other ≡ bag_at bags.all.entries other
+  pub keeps : (lives : List Living) → at ≤ bags.passed → BagKeeps (bag_at bags.all.entries key) bags.passed lives → BagKeeps (bag_at bags'.all.entries key) bags.passed lives
+  pub from_there : (bag : LivingFields) → bag_at bags'.all.entries key ≡ Some bag → at ≤ bag.from
+  pub stays : (t : ℕ) → IsForgotten bags t key → (bag : LivingFields) → bag_at bags'.all.entries key ≡ Some bag → t ≤ bag.from
 
 -- at a mark a time is the first cut point that is open at it, or else the mark
 pub record IsFirstOpen (groups : List (List Field × BTreeMap ℕ Segment)) (all : List CutPoint) (mark result : ℕ) : Type 0 where

@@ -28,7 +28,7 @@ fn begun(
     }
     let mut fields = Vec::with_capacity(alloc, key.fields().len() + 2)?;
     key.copy_fields(alloc, &mut fields)?;
-    segment.push_to(counted, &mut fields)?;
+    segment.push_to(alloc, counted, &mut fields)?;
     let payload = Payload::from_fields(alloc, fields)?;
     Ok(Some((at, payload)))
 }

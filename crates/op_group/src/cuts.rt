@@ -1,8 +1,17 @@
-ghost use Rattle.std.specs.Prelude.{◌≡◌, ◌+◌, ◌-◌, ◌<◌, ◌≤◌, ◌⊎◌, ℕ, List, Option, Some, None, IfOk, OnOk, cond, nat_le, nat_lt, ◌&&◌, length, option_map, if◌then◌else◌};
-ghost use Rattle.op_group.specs.Cuts.{ShowsCuts, StaysBetweenCuts, IsEdit, IsNextCut, IsLastCut, IsCarried, segment_at, one_at, edge_raised, segment_shifted, summed};
+ghost use Rattle.std.specs.Prelude.{◌≡◌, ◌+◌, ◌-◌, ◌<◌, ◌≤◌, ◌⊎◌, ℕ, List, Option, Some, None, IfOk, OnOk, cond, nat_le, nat_lt, ◌&&◌, true, false, option_map, if◌then◌else◌};
+ghost use Rattle.std.specs.List.{filter};
+ghost use Rattle.cedr_base.specs.declared.time.TheConstants.{FOREVER};
+ghost use Rattle.cedr_base.specs.declared.row.Row.{Row};
+ghost use Rattle.op_group.specs.Cuts.{ShowsCuts, StaysBetweenCuts, IsEdit, IsNextCut, IsLastCut, IsCarried, segment_at, one_at, edge_raised, segment_shifted, tally_shifted};
+ghost use Rattle.op_group.specs.Groups.{lives_at};
+ghost use Rattle.op_group.specs.Measures.{no_totals, extremes_of};
+ghost use Rattle.op_group.specs.Sides.{Passes, PassesBetween, Tells, TellsBetween, HasExtremes, HaveExtremes, TalliesExtremes};
+ghost use Rattle.op_group.specs.Tallies.{Tally};
 
-use crate::segment::{Segment, Totals};
+use crate::extremes::Passing;
+use crate::segment::{Segment, Totalled, Totals};
 use cedr_base::{OutOfMemory, Time};
+use cedr_living::LivingFields;
 use std::alloc::Global;
 use std::collections::BTreeMap;
 
@@ -30,8 +39,8 @@ pub(crate) fn cut_before(cuts: &Cuts, to: Time) -> Time
 }
 
 /// A cut point with one begin or end, that has what is valid just before it.
-fn carried(alloc: Global, cuts: &Cuts, at: Time, width: usize) -> Result<Segment, OutOfMemory>
-    ensures { IfOk result (λ s. IsCarried cuts.now.entries at width s) }
+fn carried(alloc: Global, asked: &Totalled, cuts: &Cuts, at: Time) -> Result<Segment, OutOfMemory>
+    ensures { IfOk result (λ s. IsCarried cuts.now.entries at (no_totals asked.now) s) }
 {
     match cuts.range(..at).next_back() {
         Some((_, before)) => {
@@ -43,7 +52,7 @@ fn carried(alloc: Global, cuts: &Cuts, at: Time, width: usize) -> Result<Segment
             })
         }
         None => {
-            let totals = Totals::zeros(alloc, width)?;
+            let totals = Totals::nothing(alloc, asked)?;
             Ok(Segment {
                 edges: 1,
                 living: 0,
@@ -64,20 +73,20 @@ fn raise(cuts: &mut Cuts, at: Time) -> Result<(), OutOfMemory>
 }
 
 /// A begin or an end more stands at a time.
-fn add_edge(alloc: Global, cuts: &mut Cuts, at: Time, width: usize) -> Result<(), OutOfMemory>
-    ensures { OnOk result ((edges : ℕ → ℕ) (living : ℕ → ℕ) (sums : ℕ → List ℕ) → ShowsCuts cuts.old.entries edges living sums → StaysBetweenCuts width edges living sums → ShowsCuts cuts.new.entries (λ t. edges t + one_at at t) living sums) }
+fn add_edge(alloc: Global, asked: &Totalled, cuts: &mut Cuts, at: Time) -> Result<(), OutOfMemory>
+    ensures { OnOk result ((edges : ℕ → ℕ) (living : ℕ → ℕ) (tally : ℕ → Tally) → ShowsCuts cuts.old.entries edges living tally → StaysBetweenCuts (no_totals asked.now) edges living tally → ShowsCuts cuts.new.entries (λ t. edges t + one_at at t) living tally) }
 {
     if cuts.contains_key(&at) {
         return raise(cuts, at);
     }
-    let segment = carried(alloc, cuts, at, width)?;
+    let segment = carried(alloc, asked, cuts, at)?;
     cuts.insert(at, segment)?;
     Ok(())
 }
 
 /// A begin or an end less stands at a cut point, which goes with the last one.
 fn take_edge(cuts: &mut Cuts, at: Time)
-    ensures { (edges : ℕ → ℕ) (living : ℕ → ℕ) (sums : ℕ → List ℕ) → ShowsCuts cuts.old.entries edges living sums → 0 < edges at → ShowsCuts cuts.new.entries (λ t. edges t - one_at at t) living sums }
+    ensures { (edges : ℕ → ℕ) (living : ℕ → ℕ) (tally : ℕ → Tally) → ShowsCuts cuts.old.entries edges living tally → 0 < edges at → ShowsCuts cuts.new.entries (λ t. edges t - one_at at t) living tally }
 {
     let edges = match cuts.get(&at) {
         Some(segment) => segment.edges,
@@ -91,89 +100,108 @@ fn take_edge(cuts: &mut Cuts, at: Time)
 }
 
 /// A row more is valid from a cut point on, or a row less.
-fn shift_at(cuts: &mut Cuts, at: Time, up: bool, numbers: &[u128]) -> Result<(), OutOfMemory>
-    ensures { OnOk result (IsEdit at (option_map (segment_shifted up numbers.now) (segment_at at cuts.old.entries)) cuts.old.entries cuts.new.entries) }
+fn shift_at(
+    alloc: Global,
+    asked: &Totalled,
+    cuts: &mut Cuts,
+    at: Time,
+    passing: &Passing,
+    living: &LivingFields,
+) -> Result<(), OutOfMemory>
+    requires { at < FOREVER }
+    ensures { OnOk result ((old new : List Row) → Passes passing.now.up passing.now.payload old new → Tells asked.now living.now at new → HasExtremes asked.now old (segment_at at cuts.old.entries) → IsEdit at (option_map (segment_shifted passing.now.up passing.now.numbers (extremes_of asked.now new)) (segment_at at cuts.old.entries)) cuts.old.entries cuts.new.entries) }
 {
     match cuts.get_mut(&at) {
-        Some(segment) => segment.shift(up, numbers),
+        Some(segment) => segment.shift(alloc, asked, at, passing, living),
         None => Ok(()),
     }
 }
 
-/// A row more is valid from each cut point between two times on, or a row less. O(log n) for each of them.
+/// A row more is valid from each cut point between two times on, or a row less. O(log n) for each of them, and a question
+/// to `living` for each field that goes with the row and was the least or the greatest there.
 fn shift_between(
+    alloc: Global,
+    asked: &Totalled,
     cuts: &mut Cuts,
     from: Time,
     to: Time,
-    up: bool,
-    numbers: &[u128],
+    passing: &Passing,
+    living: &LivingFields,
 ) -> Result<(), OutOfMemory>
-    ensures { OnOk result ((u : ℕ) → segment_at u cuts.new.entries ≡ (if nat_le from u && nat_lt u to then option_map (segment_shifted up numbers.now) (segment_at u cuts.old.entries) else segment_at u cuts.old.entries)) }
+    requires { to ≤ FOREVER }
+    ensures { OnOk result ((old new : List Row) → PassesBetween passing.now from to old new → TellsBetween asked.now living.now from to new → HaveExtremes asked.now from to old cuts.old.entries → (u : ℕ) → segment_at u cuts.new.entries ≡ (if nat_le from u && nat_lt u to then option_map (segment_shifted passing.now.up passing.now.numbers (extremes_of asked.now (filter (lives_at u) new))) (segment_at u cuts.old.entries) else segment_at u cuts.old.entries)) }
 {
     let mut at = from;
     while at < to {
-        shift_at(cuts, at, up, numbers)?;
+        shift_at(alloc, asked, cuts, at, passing, living)?;
         at = cut_from(cuts, at + 1);
     }
     Ok(())
 }
 
-/// A row comes, with what it adds to the sums.
+/// A row comes.
 pub(crate) fn add_row(
     alloc: Global,
+    asked: &Totalled,
     cuts: &mut Cuts,
     begin: Time,
     end: Time,
-    numbers: &[u128],
+    passing: &Passing,
+    living: &LivingFields,
 ) -> Result<(), OutOfMemory>
-    ensures { OnOk result ((edges : ℕ → ℕ) (living : ℕ → ℕ) (sums : ℕ → List ℕ) → ShowsCuts cuts.old.entries edges living sums → StaysBetweenCuts (length numbers.now) edges living sums
-        → ShowsCuts cuts.new.entries (λ t. edges t + one_at begin t + one_at end t) (λ t. if nat_le begin t && nat_lt t end then living t + 1 else living t) (λ t. if nat_le begin t && nat_lt t end then summed (sums t) numbers.now else sums t)) }
+    requires comes { passing.now.up ≡ true }
+    requires ends { end ≤ FOREVER }
+    ensures { OnOk result ((old new : List Row) → PassesBetween passing.now begin end old new → TellsBetween asked.now living.now begin end new → (edges : ℕ → ℕ) (living : ℕ → ℕ) (tally : ℕ → Tally) → ShowsCuts cuts.old.entries edges living tally → StaysBetweenCuts (no_totals asked.now) edges living tally → TalliesExtremes asked.now begin end old tally
+        → ShowsCuts cuts.new.entries (λ t. edges t + one_at begin t + one_at end t) (λ t. if nat_le begin t && nat_lt t end then living t + 1 else living t) (λ t. if nat_le begin t && nat_lt t end then tally_shifted passing.now.numbers (extremes_of asked.now (filter (lives_at t) new)) (tally t) else tally t)) }
 {
-    let width = numbers.len();
-    add_edge(alloc, cuts, begin, width)?;
-    add_edge(alloc, cuts, end, width)?;
-    shift_between(cuts, begin, end, true, numbers)
+    add_edge(alloc, asked, cuts, begin)?;
+    add_edge(alloc, asked, cuts, end)?;
+    shift_between(alloc, asked, cuts, begin, end, passing, living)
 }
 
 /// A cut row ends at a cut point, where anything is left of it.
 fn add_earlier_end(
     alloc: Global,
+    asked: &Totalled,
     cuts: &mut Cuts,
     begin: Time,
     earlier: Time,
-    width: usize,
 ) -> Result<(), OutOfMemory>
-    ensures { OnOk result ((edges : ℕ → ℕ) (living : ℕ → ℕ) (sums : ℕ → List ℕ) → ShowsCuts cuts.old.entries edges living sums → StaysBetweenCuts width edges living sums → ShowsCuts cuts.new.entries (λ t. edges t + (if nat_lt begin earlier then one_at earlier t else 0)) living sums) }
+    ensures { OnOk result ((edges : ℕ → ℕ) (living : ℕ → ℕ) (tally : ℕ → Tally) → ShowsCuts cuts.old.entries edges living tally → StaysBetweenCuts (no_totals asked.now) edges living tally → ShowsCuts cuts.new.entries (λ t. edges t + (if nat_lt begin earlier then one_at earlier t else 0)) living tally) }
 {
     if begin < earlier {
-        return add_edge(alloc, cuts, earlier, width);
+        return add_edge(alloc, asked, cuts, earlier);
     }
     Ok(())
 }
 
 /// A cut row begins no more, where nothing is left of it.
 fn take_begin(cuts: &mut Cuts, begin: Time, earlier: Time)
-    ensures { (edges : ℕ → ℕ) (living : ℕ → ℕ) (sums : ℕ → List ℕ) → ShowsCuts cuts.old.entries edges living sums → (earlier ≤ begin → 0 < edges begin) → ShowsCuts cuts.new.entries (λ t. edges t - (if nat_lt begin earlier then 0 else one_at begin t)) living sums }
+    ensures { (edges : ℕ → ℕ) (living : ℕ → ℕ) (tally : ℕ → Tally) → ShowsCuts cuts.old.entries edges living tally → (earlier ≤ begin → 0 < edges begin) → ShowsCuts cuts.new.entries (λ t. edges t - (if nat_lt begin earlier then 0 else one_at begin t)) living tally }
 {
     if earlier <= begin {
         take_edge(cuts, begin);
     }
 }
 
-/// A row gets an earlier end, with what takes its part of the sums away. Where that is its begin it goes.
+/// A row gets an earlier end. Where that is its begin it goes.
 pub(crate) fn cut_row(
     alloc: Global,
+    asked: &Totalled,
     cuts: &mut Cuts,
     begin: Time,
     end: Time,
     earlier: Time,
-    numbers: &[u128],
+    passing: &Passing,
+    living: &LivingFields,
 ) -> Result<(), OutOfMemory>
-    ensures { OnOk result ((edges : ℕ → ℕ) (living : ℕ → ℕ) (sums : ℕ → List ℕ) → ShowsCuts cuts.old.entries edges living sums → StaysBetweenCuts (length numbers.now) edges living sums → (earlier ≤ begin → 0 < edges begin) → 0 < edges end → begin < end
-        → ShowsCuts cuts.new.entries (λ t. (edges t + (if nat_lt begin earlier then one_at earlier t else 0)) - one_at end t - (if nat_lt begin earlier then 0 else one_at begin t)) (λ t. if nat_le earlier t && nat_lt t end then living t - 1 else living t) (λ t. if nat_le earlier t && nat_lt t end then summed (sums t) numbers.now else sums t)) }
+    requires goes { passing.now.up ≡ false }
+    requires ends { end ≤ FOREVER }
+    ensures { OnOk result ((old new : List Row) → PassesBetween passing.now earlier end old new → TellsBetween asked.now living.now earlier end new → (edges : ℕ → ℕ) (living : ℕ → ℕ) (tally : ℕ → Tally) → ShowsCuts cuts.old.entries edges living tally → StaysBetweenCuts (no_totals asked.now) edges living tally → TalliesExtremes asked.now earlier end old tally → (earlier ≤ begin → 0 < edges begin) → 0 < edges end → begin < end
+        → ShowsCuts cuts.new.entries (λ t. (edges t + (if nat_lt begin earlier then one_at earlier t else 0)) - one_at end t - (if nat_lt begin earlier then 0 else one_at begin t)) (λ t. if nat_le earlier t && nat_lt t end then living t - 1 else living t) (λ t. if nat_le earlier t && nat_lt t end then tally_shifted passing.now.numbers (extremes_of asked.now (filter (lives_at t) new)) (tally t) else tally t)) }
 {
-    add_earlier_end(alloc, cuts, begin, earlier, numbers.len())?;
-    shift_between(cuts, earlier, end, false, numbers)?;
+    add_earlier_end(alloc, asked, cuts, begin, earlier)?;
+    shift_between(alloc, asked, cuts, earlier, end, passing, living)?;
     take_edge(cuts, end);
     take_begin(cuts, begin, earlier);
     Ok(())

@@ -5,8 +5,9 @@ ghost use Rattle.cedr_base.specs.declared.row.Row.{Row};
 ghost use Rattle.op_group.specs.Groups.{Grouping};
 ghost use Rattle.op_group.specs.Cuts.{segment_at, IsEdit};
 ghost use Rattle.op_group.specs.Points.{IsFirstTaken, NoneBefore, Leaves, is_empty_from, left_from};
-ghost use Rattle.op_group.specs.State.{KeepsGroups, Settles};
+ghost use Rattle.op_group.specs.State.{KeepsGroups, KeepsFields, Settles};
 
+use crate::bags::{Bags, forget_fields};
 use crate::cuts::Cuts;
 use crate::group::Groups;
 use crate::points::{CutPoint, Points};
@@ -107,12 +108,16 @@ fn settle(groups: &mut Groups, all: &mut BTreeSet<CutPoint>, point: CutPoint)
 }
 
 /// Forgets what is before a mark: each group keeps of the cut points before it the last one, where some row is valid
-/// from it on. O(log n) for each cut point that it forgets or that the mark passes. It takes no memory.
-pub(crate) fn forget(groups: &mut Groups, points: &mut Points, mark: Time)
+/// from it on, and of its fields what lives from there on. O(log n) for each cut point that it forgets or that the mark
+/// passes, and for each piece of a field's life. It takes no memory.
+pub(crate) fn forget(groups: &mut Groups, points: &mut Points, bags: &mut Bags, mark: Time)
     ensures keeps { (g : Grouping) (rows : List Row) → KeepsGroups g groups.old.entries points.old.all.keys points.old.due.keys rows mark → KeepsGroups g groups.new.entries points.new.all.keys points.new.due.keys rows mark }
+    ensures fields { (g : Grouping) (rows : List Row) → KeepsFields g bags.old points.old.due.keys rows mark → KeepsFields g bags.new points.new.due.keys rows mark }
     ensures passed { NoneBefore points.new.due.keys mark }
 {
+    bags.passed = bags.passed.max(mark);
     while let Some(point) = take_first(&mut points.due, mark) {
+        forget_fields(bags, &point.key, point.at);
         settle(groups, &mut points.all, point);
     }
 }

@@ -1,13 +1,16 @@
-//! Grouped counts and sums: the rows with equal key fields form one group, and each two neighbouring cut points of a
-//! group between which some of its rows are valid give one row of the result.
+//! Counts, sums, least and greatest fields of groups: the rows with equal key fields form one group, and each two
+//! neighbouring cut points of a group between which some of its rows are valid give one row of the result.
 //!
-//! `Group` keeps, for each group, its cut points in an ordered map, and repairs the segments that a change touches. At
-//! a mark it forgets those cut points on which no later change and no bound depends.
+//! `Group` keeps, for each group, its cut points in an ordered map, and repairs the segments that a change touches. Where
+//! least or greatest fields are asked for it keeps the fields of the rows too, by the times at which they live, since the
+//! field that goes may have been the least. At a mark it forgets what no later change and no bound depends on.
 #![tactic(auto)]
 
 mod answer;
+mod bags;
 mod bound;
 mod cuts;
+mod extremes;
 mod forget;
 mod group;
 mod law;

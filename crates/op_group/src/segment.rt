@@ -1,24 +1,55 @@
-ghost use Rattle.std.specs.Prelude.{◌≡◌, ◌+◌, ◌-◌, ◌%◌, ◌^◌, ◌<◌, ◌++◌, ℕ, IfOk, OnOk, OnErr, Some, false, length, map, replicate};
-ghost use Rattle.std.specs.List.{slice_get};
+ghost use Rattle.std.specs.Prelude.{◌≡◌, ◌+◌, ◌-◌, ◌%◌, ◌^◌, ◌<◌, ◌++◌, List, ℕ, IfOk, OnOk, OnErr, Some, None, false, length, map, replicate};
+ghost use Rattle.std.specs.List.{slice_get, filter_map};
 ghost use Rattle.op_group.specs.Groups.{field_number};
+ghost use Rattle.std.specs.Int.{w128, cast_signed};
+ghost use Rattle.cedr_base.specs.declared.time.TheConstants.{FOREVER};
+ghost use Rattle.cedr_base.specs.declared.row.Row.{Row};
+ghost use Rattle.cedr_base.specs.declared.field.Field.TheVariants.{Number};
 ghost use Rattle.op_group.specs.Cuts.{edge_raised, segment_shifted, shifted_by, summed, totals};
+ghost use Rattle.op_group.specs.Measures.{extremes_of, no_totals};
+ghost use Rattle.op_group.specs.Sides.{Passes, Tells};
 
-use cedr_base::{Field, OutOfMemory, Payload};
+use crate::extremes::{Passing, renew_all};
+use cedr_base::{Field, OutOfMemory, Payload, Time};
+use cedr_expr::Keep;
+use cedr_living::LivingFields;
 use std::alloc::Global;
 use std::marker::Model;
 
-/// Sums modulo 2^128, one per summed column. Contracts see the list of them.
+/// The columns over which a segment has totals.
+pub struct Totalled {
+    /// Those that are summed.
+    pub sums: Keep,
+    /// Those whose least field is asked for.
+    pub least: Keep,
+    /// Those whose greatest field is asked for.
+    pub greatest: Keep,
+}
+
+impl Drop for Totalled {
+    fn drop(self) {
+        let Totalled {
+            sums: _,
+            least: _,
+            greatest: _,
+        } = self;
+    }
+}
+
+/// The totals of some rows: sums modulo 2^128, one per summed column, and the least and the greatest fields that are
+/// asked for, where some row has the column. Contracts see both lists.
 #[derive(Drop)]
 pub struct Totals {
     sums: Vec<u128>,
+    extremes: Vec<Option<Field>>,
 }
 
 impl Model for Totals {
-    ghost use Rattle.std.specs.Prelude.{List, ℕ};
+    ghost use Rattle.op_group.specs.Tallies.{Tally};
 
-    ghost Value = { List ℕ };
+    ghost Value = { Tally };
 
-    ghost view = { λ t. t.sums.items };
+    ghost view = { λ t. record { sums = t.sums.items; extremes = t.extremes.items } };
 }
 
 /// A cut point of a group, and what is valid from there on up to the next one.
@@ -33,40 +64,102 @@ pub struct Segment {
 }
 
 impl Totals {
-    /// A sum of 0 for each of so many columns.
-    pub(crate) fn zeros(alloc: Global, width: usize) -> Result<Totals, OutOfMemory>
-        ensures { IfOk result (λ t. t ≡ replicate width 0) }
+    /// The totals of no rows.
+    pub(crate) fn nothing(alloc: Global, asked: &Totalled) -> Result<Totals, OutOfMemory>
+        ensures { IfOk result (λ t. t ≡ no_totals asked.now) }
     {
-        let sums = vec![in alloc; 0u128; width]?;
-        Ok(Totals { sums })
+        let sums = vec![in alloc; 0u128; asked.sums.columns().len()]?;
+        let mut extremes = Vec::new(alloc);
+        put_none(asked.least.columns().len(), &mut extremes)?;
+        put_none(asked.greatest.columns().len(), &mut extremes)?;
+        Ok(Totals { sums, extremes })
     }
 
     pub(crate) fn copy(&self, alloc: Global) -> Result<Totals, OutOfMemory>
         ensures { IfOk result (λ t. t ≡ self.now) }
     {
         let sums = Vec::from_slice(alloc, self.sums.as_slice())?;
-        Ok(Totals { sums })
+        let extremes = copy_fields(alloc, self.extremes.as_slice())?;
+        Ok(Totals { sums, extremes })
     }
 
-    /// Adds numbers, one to each sum.
-    fn add(&mut self, numbers: &[u128])
-        ensures { self.new ≡ summed self.old numbers.now }
-    {
-        let width = self.sums.len().min(numbers.len());
-        for i in 0..width {
-            self.sums[i] = self.sums[i].wrapping_add(numbers[i]);
-        }
-    }
-
-    /// Appends the sums as fields.
-    fn push_to(&self, fields: &mut Vec<Field>) -> Result<(), OutOfMemory>
+    /// Appends the sums as fields, and then the least and the greatest fields that are there.
+    fn push_to(&self, alloc: Global, fields: &mut Vec<Field>) -> Result<(), OutOfMemory>
         ensures { OnOk result (fields.new.items ≡ fields.old.items ++ totals false 0 self.now) }
     {
-        for sum in &self.sums {
-            fields.push(Field::Number(sum.cast_signed()))?;
-        }
-        Ok(())
+        push_sums(self.sums.as_slice(), fields)?;
+        push_extremes(alloc, self.extremes.as_slice(), fields)
     }
+}
+
+/// Appends so many places without a field.
+fn put_none(count: usize, extremes: &mut Vec<Option<Field>>) -> Result<(), OutOfMemory>
+    ensures { OnOk result (extremes.new.items ≡ extremes.old.items ++ replicate count None) }
+{
+    for _ in 0..count {
+        extremes.push(None)?;
+    }
+    Ok(())
+}
+
+fn copy_fields(alloc: Global, extremes: &[Option<Field>]) -> Result<Vec<Option<Field>>, OutOfMemory>
+    ensures { IfOk result (λ copied. copied.items ≡ extremes.now) }
+{
+    let mut copied = Vec::with_capacity(alloc, extremes.len())?;
+    for extreme in extremes {
+        let field = copy_field(alloc, extreme)?;
+        copied.push(field)?;
+    }
+    Ok(copied)
+}
+
+fn copy_field(alloc: Global, extreme: &Option<Field>) -> Result<Option<Field>, OutOfMemory>
+    ensures { IfOk result (λ copied. copied ≡ extreme.now) }
+{
+    match extreme {
+        Some(field) => Ok(Some(field.copy(alloc)?)),
+        None => Ok(None),
+    }
+}
+
+/// Adds numbers, one to each sum.
+fn add_numbers(sums: &mut Vec<u128>, numbers: &[u128])
+    ensures { sums.new.items ≡ summed sums.old.items numbers.now }
+{
+    let width = sums.len().min(numbers.len());
+    for i in 0..width {
+        sums[i] = sums[i].wrapping_add(numbers[i]);
+    }
+}
+
+/// Appends sums as fields.
+fn push_sums(sums: &[u128], fields: &mut Vec<Field>) -> Result<(), OutOfMemory>
+    ensures { OnOk result (fields.new.items ≡ fields.old.items ++ map (λ n. Number (cast_signed w128 n)) sums.now) }
+{
+    for sum in sums {
+        fields.push(Field::Number(sum.cast_signed()))?;
+    }
+    Ok(())
+}
+
+/// Appends those of the least and the greatest fields that are there.
+fn push_extremes(
+    alloc: Global,
+    extremes: &[Option<Field>],
+    fields: &mut Vec<Field>,
+) -> Result<(), OutOfMemory>
+    ensures { OnOk result (fields.new.items ≡ fields.old.items ++ filter_map (λ extreme. extreme) extremes.now) }
+{
+    for extreme in extremes {
+        match extreme {
+            Some(field) => {
+                let copied = field.copy(alloc)?;
+                fields.push(copied)?;
+            }
+            None => {}
+        }
+    }
+    Ok(())
 }
 
 impl Segment {
@@ -83,11 +176,20 @@ impl Segment {
         }
     }
 
-    /// A row more is valid from the cut point on, or a row less, and the numbers are added to the sums.
-    pub(crate) fn shift(&mut self, up: bool, numbers: &[u128]) -> Result<(), OutOfMemory>
-        ensures { OnOk result (self.new ≡ segment_shifted up numbers.now self.old) }
+    /// A row more is valid from the cut point on, or a row less: the numbers are added to the sums, and the least and the
+    /// greatest fields are those of the rows that are valid after it, which `living` already tells.
+    pub(crate) fn shift(
+        &mut self,
+        alloc: Global,
+        asked: &Totalled,
+        at: Time,
+        passing: &Passing,
+        living: &LivingFields,
+    ) -> Result<(), OutOfMemory>
+        requires { at < FOREVER }
+        ensures { OnOk result ((old new : List Row) → Passes passing.now.up passing.now.payload old new → Tells asked.now living.now at new → self.old.totals.extremes ≡ extremes_of asked.now old → self.new ≡ segment_shifted passing.now.up passing.now.numbers (extremes_of asked.now new) self.old) }
     {
-        if up {
+        if passing.up {
             if self.living == usize::MAX {
                 return Err(OutOfMemory);
             }
@@ -95,19 +197,24 @@ impl Segment {
         } else {
             self.living = self.living.saturating_sub(1);
         }
-        self.totals.add(numbers);
-        Ok(())
+        add_numbers(&mut self.totals.sums, passing.numbers.as_slice());
+        renew_all(alloc, asked, at, passing, living, &mut self.totals.extremes)
     }
 
-    /// Appends the count, where it is asked for, and then the sums.
-    pub(crate) fn push_to(&self, counted: bool, fields: &mut Vec<Field>) -> Result<(), OutOfMemory>
+    /// Appends the count, where it is asked for, then the sums, and then the least and the greatest fields.
+    pub(crate) fn push_to(
+        &self,
+        alloc: Global,
+        counted: bool,
+        fields: &mut Vec<Field>,
+    ) -> Result<(), OutOfMemory>
         ensures { OnOk result (fields.new.items ≡ fields.old.items ++ totals counted self.now.living self.now.totals) }
     {
         if counted {
             let count = self.living as u128;
             fields.push(Field::Number(count.cast_signed()))?;
         }
-        self.totals.push_to(fields)
+        self.totals.push_to(alloc, fields)
     }
 }
 

@@ -17,35 +17,12 @@ use Rattle.change_laws.proofs.Moves.{may_is, applied, applied_moves}
 use Rattle.cedr_table.specs.Counted.{LacksRow, ends_after}
 use Rattle.cedr_table.proofs.FilterLemmas.{count-filter, among_moved, among_along, among_fewer, among_filter, ends_earlier}
 use Rattle.cedr_table.proofs.RowsLemmas.{moved_are, fewer_are}
-use Rattle.op_join.specs.declared.filed.Filed.{Filed}
-use Rattle.op_join.specs.Filed.{FiledRows, under, all_under, Files}
-use Rattle.op_join.specs.Ends.{AreEnds}
+use Rattle.filed_rows.specs.declared.filed.Filed.{Filed}
+use Rattle.filed_rows.specs.Filed.{FiledRows, under, all_under, Files}
+use Rattle.filed_rows.specs.Ends.{AreEnds}
 use Rattle.op_join.specs.Joins.{Keeps}
-use Rattle.op_join.proofs.FiledLemmas.{files_moved, count_all}
-
--- what is filed goes through a change as its bag does, with the tag as the code has it
-pub files_after : (tag : List Field → ℕ) (c : Change) (t : ℕ) (old new : FiledRows) (table after : List Row) → t ≡ tag (changed_row c).payload → Files tag old table
-    → SameRows (under new t ++ takes c) (under old t ++ puts c) → ((q : ℕ) → q ≢ t → under new q ≡ under old q) → IsMoved c table after → Files tag new after
-files_after tag c t old new table after is files here others moved =
-    subst (λ (k : ℕ). SameRows (under new k ++ takes c) (under old k ++ puts c) → ((q : ℕ) → q ≢ k → under new q ≡ under old q) → Files tag new after) (sym is)
-    (λ here_at others_at. files_moved tag c old new table after files here_at others_at moved) here others
-
--- a row that may be cut is under its tag
-pub row_there : (tag : List Field → ℕ) (c : Change) (t : ℕ) (filed : FiledRows) (rows : List Row) → t ≡ tag (changed_row c).payload → Files tag filed rows → MayFollow rows [] c → LacksRow (under filed t) c → ⊥
-row_there tag (Add a) t filed rows is files may lacks = lacks
-row_there tag (Cut a e) t filed rows is files may lacks =
-    let there = may.1 in
-    let filed_there = files.there a in
-    let at = ap (λ (k : ℕ). count_of a (under filed k)) is in
-    omega (arith, lacks, filed_there, at, there)
-
--- the rows under all tags are those that are filed
-pub all_same : (tag : List Field → ℕ) (filed : FiledRows) (rows : List Row) → IsStrictlySortedBy nat_cmp (keys_of filed) → Files tag filed rows → SameRows (all_under filed) rows
-all_same tag filed rows sorted files = record { each = λ r. count_all filed sorted (tag r.payload) r (λ q other. files.only q r other) ∙ files.there r }
-
--- of no row nothing is filed
-pub none_filed : (tag : List Field → ℕ) (filed : FiledRows) → ((q : ℕ) → under filed q ≡ []) → Files tag filed []
-none_filed tag filed none = record { there = λ r. ap (count_of r) (none (tag r.payload)); only = λ t r apart. ap (count_of r) (none t) }
+use Rattle.filed_rows.proofs.FiledLemmas.{count_all}
+use Rattle.filed_rows.proofs.NoteLemmas.{files_after}
 
 module _ (tag : List Field → ℕ) (filed : Filed) (time : ℕ) (table : List Row) (h : Keeps tag filed time table) where
   -- of a row that ends later all copies are kept

@@ -1,10 +1,7 @@
-pub mod FiledLemmas
-pub mod EndLemmas
 pub mod SumLemmas
 pub mod CutLemmas
 pub mod PairLemmas
 pub mod SkipLemmas
-pub mod SpanLemmas
 pub mod JoinLemmas
 pub mod KeepLemmas
 pub mod PortLemmas

@@ -23,29 +23,19 @@ use Rattle.cedr_table.specs.Counted.{ends_after, SameAmong}
 use Rattle.cedr_table.proofs.ChoiceLemmas.{chosen_repairs}
 use Rattle.cedr_table.proofs.FilterLemmas.{among_itself, among_along, among_same}
 use Rattle.cedr_table.proofs.RowsLemmas.{same_are}
-use Rattle.op_join.specs.declared.filed.Filed.{Filed}
+use Rattle.filed_rows.specs.declared.filed.Filed.{Filed}
 use Rattle.cedr_expr.specs.declared.side.Side.{Side}
 use Rattle.cedr_expr.specs.declared.side.Side.TheVariants.{Left, Right}
 use Rattle.cedr_expr.specs.Tags.{tag_of, left_tag, right_tag}
-use Rattle.op_join.specs.Filed.{FiledRows, under, all_under, Files, right_partners, left_partners}
-use Rattle.op_join.specs.Ends.{AreEnds}
+use Rattle.filed_rows.specs.Filed.{FiledRows, under, all_under, Files, right_partners, left_partners}
+use Rattle.filed_rows.specs.Ends.{AreEnds}
 use Rattle.op_join.specs.Pairs.{met, passes_on, all_changes}
 use Rattle.op_join.specs.Joins.{join_of, joined_rows, Keeps, StandsOnTwo}
 use Rattle.cedr_expr.proofs.TagLemmas.{tag_same}
-use Rattle.op_join.proofs.KeepLemmas.{all_same, none_filed, kept_later, keeps_moved, keeps_forgotten, held_ends_later}
+use Rattle.filed_rows.proofs.NoteLemmas.{all_same, none_filed, filed_anew, under_most}
+use Rattle.filed_rows.proofs.PartnerLemmas.{right_partner, right_fewer, left_partner}
+use Rattle.op_join.proofs.KeepLemmas.{kept_later, keeps_moved, keeps_forgotten, held_ends_later}
 use Rattle.op_join.proofs.JoinLemmas.{may_meet, pairs_turn, count_left, count_right}
-
--- an addition puts a row at a list's end
-pub pushed_moves : (rows : List Row) (row : Row) → IsMoved (Add row) rows (rows ++ row ∷ [])
-pushed_moves rows row = record { sums = record { each = λ r. omega (arith, count_of-append r (rows ++ row ∷ []) []) } }
-
-none_left : (tag : List Field → ℕ) (filed : FiledRows) (rows : List Row) → length filed ≡ 0 → Files tag filed rows → (r : Row) → count_of r rows ≡ 0
-none_left tag [] rows empty files r = sym (files.there r)
-none_left tag (e ∷ es) rows empty files r = absurd (omega arith)
-
-filed_anew : (old_tag new_tag : List Field → ℕ) (filed : FiledRows) (rows : List Row) → length filed ≡ 0 → Files old_tag filed rows → Files new_tag filed rows
-filed_anew old_tag new_tag [] rows empty files = record { there = λ r. sym (none_left old_tag [] rows empty files r); only = λ q r apart. refl }
-filed_anew old_tag new_tag (e ∷ es) rows empty files = absurd (omega arith)
 
 -- where no left row is held the right rows may be filed anew
 pub stands_settled : (tests : List Test) (width later : ℕ) (left right filed : Filed) (tables : Tables) (marks : List ℕ) → length left.by_tag.entries ≡ 0 → IsStrictlySortedBy nat_cmp (keys_of right.by_tag.entries) → Files (right_tag later tests) filed.by_tag.entries (all_under right.by_tag.entries)
@@ -93,14 +83,6 @@ stands_first tests left right left_ends left_none left_ordered right_ends right_
   rights = nothing_kept (right_tag 0 tests) right right_ends right_none right_ordered;
 }
 
-under_at : (tag : List Field → ℕ) (filed : FiledRows) (rows : List Row) (t : ℕ) (r : Row) → Files tag filed rows → (t ≡ tag r.payload) ⊎ (t ≢ tag r.payload) → count_of r (under filed t) ≤ count_of r rows
-under_at tag filed rows t r files (inl same) = let there = files.there r in let at = ap (λ (k : ℕ). count_of r (under filed k)) same in omega (arith, there, at)
-under_at tag filed rows t r files (inr other) = let nothing = files.only t r other in omega (arith, nothing)
-
--- no row is under a tag more often than in the bag
-under_most : (tag : List Field → ℕ) (filed : FiledRows) (rows : List Row) (t : ℕ) (r : Row) → Files tag filed rows → count_of r (under filed t) ≤ count_of r rows
-under_most tag filed rows t r files = under_at tag filed rows t r files (cases_eq t (tag r.payload))
-
 two_left : (tables : Tables) (xs : List Row) → length tables ≡ 2 → with_table tables 0 xs ≡ xs ∷ table_at tables 1 ∷ []
 two_left [] xs h = absurd (omega arith)
 two_left (t ∷ []) xs h = absurd (omega arith)
@@ -137,52 +119,25 @@ module _ (tests : List Test) (width : ℕ) (left right : Filed) (tables : Tables
       let late = ltb-true (sync_of c) o.end (and_parts (passes_on (passes tests) Right (changed_row c).payload o.payload) (ends_after (sync_of c) o) meet).1 in
       kept_later (left_tag width tests) left (least_of marks) (table_at tables 0) h.lefts o (omega arith)
 
-  right_at : (c : Change) (b : Bool) → least_of marks ≤ sync_of c → nat_eq (length (changed_row c).payload) width ≡ b
-      → SameAmong (may_meet (passes tests) Left c) (right_partners right.by_tag.entries (cond b (tag_of Left width tests (changed_row c).payload) 0)) (table_at tables 1) × AreRows (right_partners right.by_tag.entries (cond b (tag_of Left width tests (changed_row c).payload) 0))
-  right_at c true from is =
-      let a = changed_row c in
-      let t = tag_of Left width tests a.payload in
-      let some : nat_eq t 0 ≡ false = ne_eqb t 0 (λ e. omega (arith, e)) in
-      subst (λ (b : Bool). SameAmong (may_meet (passes tests) Left c) (cond b (all_under right.by_tag.entries) (under right.by_tag.entries t)) (table_at tables 1) × AreRows (cond b (all_under right.by_tag.entries) (under right.by_tag.entries t))) (sym some) (
-        record {
-          each = λ o meet.
-              let pass = (and_parts (passes_on (passes tests) Left a.payload o.payload) (ends_after (sync_of c) o) meet).0 in
-              let one : t ≡ right_tag width tests o.payload = subst (λ (w : ℕ). tag_of Left w tests a.payload ≡ right_tag w tests o.payload) (eqb-true (length a.payload) width is) (tag_same tests a.payload o.payload pass) in
-              let at = ap (λ (k : ℕ). count_of o (under right.by_tag.entries k)) one in
-              let there = h.rights.files.there o in
-              omega (arith, at, there, right_under c o from meet);
-        },
-        record { each = λ o there. let most = under_most (right_tag width tests) right.by_tag.entries h.rights.kept t o h.rights.files in h.rights.rows.each o (omega (arith, most)) },
-      )
-  right_at c false from is =
-      let same = all_same (right_tag width tests) right.by_tag.entries h.rights.kept h.rights.ordered h.rights.files in (
-        record { each = λ o meet. same.each o ∙ right_under c o from meet },
-        same_are (all_under right.by_tag.entries) h.rights.kept same h.rights.rows,
-      )
-
   -- the right rows that may meet a left row are found
+  right_finds_at : (c : Change) → least_of marks ≤ sync_of c → SameAmong (may_meet (passes tests) Left c) (right_partners right.by_tag.entries (left_tag width tests (changed_row c).payload)) (table_at tables 1) × AreRows (right_partners right.by_tag.entries (left_tag width tests (changed_row c).payload))
+  right_finds_at c from = (
+    record {
+      each = λ o meet.
+          let pass = (and_parts (passes_on (passes tests) Left (changed_row c).payload o.payload) (ends_after (sync_of c) o) meet).0 in
+          right_partner width tests right.by_tag.entries h.rights.kept h.rights.ordered h.rights.files (changed_row c).payload o pass ∙ right_under c o from meet;
+    },
+    record { each = λ o there. h.rights.rows.each o (omega (arith, right_fewer width tests right.by_tag.entries h.rights.kept h.rights.ordered h.rights.files (left_tag width tests (changed_row c).payload) o)) },
+  )
+
   pub right_finds : (c : Change) (t : ℕ) → least_of marks ≤ sync_of c → t ≡ left_tag width tests (changed_row c).payload
       → SameAmong (may_meet (passes tests) Left c) (right_partners right.by_tag.entries t) (table_at tables 1) × AreRows (right_partners right.by_tag.entries t)
   right_finds c t from is =
       subst (λ (k : ℕ). SameAmong (may_meet (passes tests) Left c) (right_partners right.by_tag.entries k) (table_at tables 1) × AreRows (right_partners right.by_tag.entries k)) (sym is)
-      (right_at c (nat_eq (length (changed_row c).payload) width) from refl)
+      (right_finds_at c from)
 
   left_counts : (o b : Row) → count_of o (left_partners left.by_tag.entries (right_tag width tests b.payload)) ≡ count_of o (under left.by_tag.entries (right_tag width tests b.payload)) + count_of o (under left.by_tag.entries 0)
   left_counts o b = count_of-append o (under left.by_tag.entries (right_tag width tests b.payload)) (under left.by_tag.entries 0)
-
-  left_at : (o b : Row) (fits : Bool) → nat_eq (length o.payload) width ≡ fits → left_tag width tests o.payload ≡ cond fits (tag_of Left width tests o.payload) 0 → passes tests o.payload b.payload ≡ true
-      → count_of o (under left.by_tag.entries (right_tag width tests b.payload)) + count_of o (under left.by_tag.entries 0) ≡ count_of o h.lefts.kept
-  left_at o b true is t pass =
-      let one : tag_of Left width tests o.payload ≡ right_tag width tests b.payload = subst (λ (w : ℕ). tag_of Left w tests o.payload ≡ right_tag w tests b.payload) (eqb-true (length o.payload) width is) (tag_same tests o.payload b.payload pass) in
-      let at = ap (λ (k : ℕ). count_of o (under left.by_tag.entries k)) (t ∙ one) in
-      let there = h.lefts.files.there o in
-      let nothing = h.lefts.files.only 0 o (λ e. omega (arith, e, t)) in
-      omega (arith, at, there, nothing)
-  left_at o b false is t pass =
-      let at = ap (λ (k : ℕ). count_of o (under left.by_tag.entries k)) t in
-      let there = h.lefts.files.there o in
-      let nothing = h.lefts.files.only (right_tag width tests b.payload) o (λ e. omega (arith, e, t)) in
-      omega (arith, at, there, nothing)
 
   -- the left rows that may meet a right row are found
   left_finds_at : (c : Change) → least_of marks ≤ sync_of c → SameAmong (may_meet (passes tests) Right c) (left_partners left.by_tag.entries (right_tag width tests (changed_row c).payload)) (table_at tables 0) × AreRows (left_partners left.by_tag.entries (right_tag width tests (changed_row c).payload))
@@ -190,7 +145,7 @@ module _ (tests : List Test) (width : ℕ) (left right : Filed) (tables : Tables
     record {
       each = λ o meet.
           let pass = (and_parts (passes_on (passes tests) Right (changed_row c).payload o.payload) (ends_after (sync_of c) o) meet).0 in
-          left_counts o (changed_row c) ∙ (left_at o (changed_row c) (nat_eq (length o.payload) width) refl refl pass ∙ left_under c o from meet);
+          left_counts o (changed_row c) ∙ (left_partner width tests left.by_tag.entries h.lefts.kept h.lefts.files (changed_row c).payload o pass ∙ left_under c o from meet);
     },
     record {
       each = λ o there.

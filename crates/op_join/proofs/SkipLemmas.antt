@@ -1,8 +1,9 @@
 -- Rows that ended before a change is seen, or begin once its row ended, say nothing to it.
-use Rattle.std.proofs.Common.{◌≡◌, ◌<◌, ◌≤◌, ◌+◌, inl, inr, ℕ, List, [], ◌∷◌, ◌++◌, Bool, true, false, cond, refl, ap, sym, ◌∙◌, arith, min, max}
+use Rattle.std.proofs.Common.{◌≡◌, ◌<◌, ◌≤◌, ◌+◌, inl, inr, ℕ, List, [], ◌∷◌, ◌++◌, Bool, true, false, cond, refl, ap, sym, ◌∙◌, subst, arith, min, max, append_assoc}
 use Rattle.std.specs.Prelude.{nat_lt}
 use Rattle.std.specs.List.{filter, flat_map}
 use Rattle.std.proofs.lemmas.Bool.{cases_lt}
+use Rattle.std.proofs.lemmas.List.Concat.{flat_map-append}
 use Rattle.std.proofs.lemmas.Bool.Decides.{nat_tests}
 use Rattle.cedr_base.specs.declared.field.Field.{Field}
 use Rattle.cedr_base.specs.declared.row.Row.{Row}
@@ -14,7 +15,7 @@ use Rattle.cedr_base.proofs.Bags.{count_of-cons, one_of_itself}
 use Rattle.cedr_expr.specs.declared.side.Side.{Side}
 use Rattle.op_join.specs.Joins.{PairTest, meet}
 use Rattle.cedr_table.specs.Counted.{ends_after}
-use Rattle.op_join.specs.Spans.{AreShort, ends_within, begins_before}
+use Rattle.filed_rows.specs.Spans.{lives_within}
 use Rattle.op_join.specs.Pairs.{met, passes_on, both_on, cut_to, pair_changes, all_changes}
 
 never_meet : (b : Bool) (w : List Field) (s t : ℕ) → nat_lt s t ≡ false → meet b w s t ≡ []
@@ -59,20 +60,28 @@ module _ (p : PairTest) (side : Side) where
       first_skipped q c o (filter q os) (q o) refl (none o (omega (arith, count_of-cons o o os, one_of_itself o)))
       ∙ ap (λ (cs : List Change). pair_changes c (met p side (changed_row c) o) ++ cs) (skip q c os (λ r there. none r (omega (arith, count_of-cons r o os))))
 
-  -- of a table those that ended may be left out
-  pub skip_ended : (c : Change) (os : List Row) → all_changes p side c (filter (ends_after (sync_of c)) os) ≡ all_changes p side c os
-  skip_ended c os = skip (ends_after (sync_of c)) c os (λ o there gone. ended_alone c o gone)
-
-  within_alone : (c : Change) (o : Row) (longest : ℕ) → o.end ≤ o.begin + longest → ends_within (sync_of c) ((changed_row c).end + longest) o ≡ false → pair_changes c (met p side (changed_row c) o) ≡ []
-  within_alone c o longest short out = elim (cases_lt (sync_of c) o.end) [
+  away_alone : (c : Change) (o : Row) → lives_within (sync_of c) (changed_row c).end o ≡ false → pair_changes c (met p side (changed_row c) o) ≡ []
+  away_alone c o out = elim (cases_lt (sync_of c) o.end) [
     | inr ended ↦ ended_alone c o (grind (arith, nat_tests, ended))
-    | inl later ↦ begun_alone c o (grind (arith, nat_tests, later, short, out))
+    | inl later ↦ begun_alone c o (grind (arith, nat_tests, later, out))
   ]
 
-  -- and of rows none of which is valid for longer than some time those that end so long after the changed row
-  pub skip_within : (c : Change) (os : List Row) (longest : ℕ) → AreShort longest os → all_changes p side c (filter (ends_within (sync_of c) ((changed_row c).end + longest)) os) ≡ all_changes p side c os
-  skip_within c os longest short = skip (ends_within (sync_of c) ((changed_row c).end + longest)) c os (λ o there out. within_alone c o longest (short o there) out)
-
   -- and those that begin once the changed row ended
-  pub skip_begun : (c : Change) (os : List Row) → all_changes p side c (filter (begins_before (changed_row c).end) os) ≡ all_changes p side c os
-  skip_begun c os = skip (begins_before (changed_row c).end) c os (λ o there out. begun_alone c o (grind (arith, nat_tests, out)))
+  skip_away : (c : Change) (os : List Row) → all_changes p side c (filter (lives_within (sync_of c) (changed_row c).end) os) ≡ all_changes p side c os
+  skip_away c os = skip (lives_within (sync_of c) (changed_row c).end) c os (λ o there out. away_alone c o out)
+
+  -- rows that are the same but for those say the same
+  pub same_within : (c : Change) (os others : List Row) → filter (lives_within (sync_of c) (changed_row c).end) os ≡ filter (lives_within (sync_of c) (changed_row c).end) others → all_changes p side c os ≡ all_changes p side c others
+  same_within c os others same = sym (skip_away c os) ∙ (ap (all_changes p side c) same ∙ skip_away c others)
+
+  -- what both ranges of rows say is what all say that they were found among
+  pub both_ranges : (c : Change) (found begun others : List Row) (outs outs' outs'' : List Change) (time last : ℕ) → time ≡ sync_of c → last ≡ (changed_row c).end → outs' ≡ outs ++ all_changes p side c found → outs'' ≡ outs' ++ all_changes p side c begun
+      → filter (lives_within time last) (found ++ begun) ≡ filter (lives_within time last) others → outs'' ≡ outs ++ all_changes p side c others
+  both_ranges c found begun others outs outs' outs'' time last at end one two same =
+      let there : filter (lives_within (sync_of c) (changed_row c).end) (found ++ begun) ≡ filter (lives_within (sync_of c) (changed_row c).end) others =
+      subst (λ (t : ℕ). filter (lives_within t (changed_row c).end) (found ++ begun) ≡ filter (lives_within t (changed_row c).end) others) at
+      (subst (λ (t : ℕ). filter (lives_within time t) (found ++ begun) ≡ filter (lives_within time t) others) end same) in
+      two
+      ∙ (ap (λ (cs : List Change). cs ++ all_changes p side c begun) one
+      ∙ (append_assoc outs (all_changes p side c found) (all_changes p side c begun)
+      ∙ ap (λ (cs : List Change). outs ++ cs) (sym (flat_map-append (λ o. pair_changes c (met p side (changed_row c) o)) found begun) ∙ same_within c (found ++ begun) others there)))

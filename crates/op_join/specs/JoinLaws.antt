@@ -11,7 +11,7 @@ use Rattle.cedr_table.proofs.ChoiceLemmas.{same_chosen, nothing_chosen}
 use Rattle.cedr_table.specs.Counted.{ends_after}
 use Rattle.cedr_table.proofs.FilterLemmas.{among_along, among_same, among_fewer, ends_earlier}
 use Rattle.cedr_expr.specs.Tests.{passes}
-use Rattle.op_join.specs.declared.filed.Filed.{Filed}
+use Rattle.filed_rows.specs.declared.filed.Filed.{Filed}
 use Rattle.op_join.specs.Joins.{Keeps, StandsOnTwo, join_of, joined_rows}
 
 -- what is kept of a table is kept of each list of it

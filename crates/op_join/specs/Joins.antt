@@ -13,10 +13,10 @@ use Rattle.change_laws.specs.Repairs.{IsMoved}
 use Rattle.cedr_table.specs.Operators.{Tables, Meaning, table_at, with_table, least_of, CanTake, Gains}
 use Rattle.cedr_table.specs.Choices.{chosen}
 use Rattle.cedr_table.specs.Counted.{ends_after, SameAmong}
-use Rattle.op_join.specs.declared.filed.Filed.{Filed}
+use Rattle.filed_rows.specs.declared.filed.Filed.{Filed}
 use Rattle.cedr_expr.specs.Tags.{left_tag, right_tag}
-use Rattle.op_join.specs.Filed.{Files}
-use Rattle.op_join.specs.Ends.{AreEnds}
+use Rattle.filed_rows.specs.Filed.{Files}
+use Rattle.filed_rows.specs.Ends.{AreEnds}
 
 -- which pairs of payloads pass
 abbrev pub PairTest : Type 0

@@ -2,7 +2,7 @@
 use Rattle.std.specs.Prelude.{[], ◌∷◌}
 use Rattle.cedr_table.specs.Readings.{Reading}
 use Rattle.op_join.specs.declared.join.Join.{Join}
-use Rattle.op_join.specs.Filed.{all_under}
+use Rattle.filed_rows.specs.Filed.{all_under}
 use Rattle.op_join.specs.Joins.{join_of, StandsOnTwo}
 
 abbrev pub join_reading : Reading Join

@@ -1,17 +1,13 @@
 ghost use Rattle.std.specs.Prelude.{◌≡◌, ◌∷◌, ◌++◌, [], ℕ, List, true, IfOk, OnOk, OnErr, length, take};
-ghost use Rattle.std.specs.BTreeMap.{IsOrdered};
-ghost use Rattle.std.specs.Ordering.{nat_cmp};
 ghost use Rattle.cedr_table.specs.Operators.{Tables, CanTake};
-ghost use Rattle.cedr_expr.specs.Tags.{right_tag, side_tag};
-ghost use Rattle.op_join.specs.Filed.{Files, all_under};
-ghost use Rattle.op_join.specs.Ends.{AreEnds};
+ghost use Rattle.cedr_expr.specs.Tags.{side_tag};
 ghost use Rattle.op_join.specs.Joins.{join_of, StandsOnTwo, StandsAfter, RepairsAfter};
 
-use crate::filed::{ByTag, Filed, all_rows};
 use crate::partners::{repair_left, repair_right};
-use cedr_base::{Change, OutOfMemory, Payload, Row, Time};
+use cedr_base::{Change, OutOfMemory, Time};
 use cedr_expr::{Side, Tests};
 use cedr_table::{Operator, least_mark};
+use filed_rows::{Filed, refiled};
 use std::alloc::Global;
 
 /// One row for each pair of a left row and a right one whose payloads pass tests: it is valid while both are, and
@@ -28,8 +24,8 @@ pub struct Join {
     alloc: Global,
     tests: Tests,
     width: usize,
-    pub(crate) left: Filed,
-    pub(crate) right: Filed,
+    left: Filed,
+    right: Filed,
 }
 
 impl Drop for Join {
@@ -69,7 +65,7 @@ impl Join {
         if self.width == width || !self.left.by_tag.is_empty() {
             return Ok(());
         }
-        self.right = file_right(self.alloc, width, &self.tests, &self.right.by_tag)?;
+        self.right = refiled(self.alloc, width, &self.tests, &self.right.by_tag)?;
         self.width = width;
         Ok(())
     }
@@ -103,27 +99,6 @@ impl Join {
             Ok(())
         }
     }
-}
-
-/// The right rows, filed beside left payloads of this width.
-fn file_right(
-    alloc: Global,
-    width: usize,
-    tests: &Tests,
-    right: &ByTag,
-) -> Result<Filed, OutOfMemory>
-    ensures filed { IfOk result (λ filed. Files (right_tag width tests.now) filed.by_tag.entries (all_under right.now.entries)) }
-    ensures ends { IfOk result (λ filed. AreEnds filed.by_tag.entries filed.ends) }
-    ensures ordered { IfOk result (λ filed. IsOrdered nat_cmp filed.by_tag) }
-    ensures was_ordered { OnOk result (IsOrdered nat_cmp right.now) }
-{
-    let rows = all_rows(alloc, right)?;
-    let mut filed = Filed::new(alloc);
-    for row in rows {
-        let tag = tests.tag(Side::Right, width, &row.payload);
-        filed.note(alloc, tag, Change::Add(row))?;
-    }
-    Ok(filed)
 }
 
 impl Operator for Join {

@@ -4,10 +4,8 @@
 //! compare, and those under one tag by their times, so that a change looks only at the rows that may meet it.
 #![tactic(auto)]
 
-mod filed;
 mod join;
 mod pairs;
 mod partners;
-mod spans;
 
 pub use join::Join;

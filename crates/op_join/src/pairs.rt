@@ -1,15 +1,13 @@
 ghost use Rattle.std.specs.Prelude.{◌≡◌, ◌<◌, ◌++◌, [], OnOk, OnErr, IfOk, option_to_list, replicate, take, length};
-ghost use Rattle.std.specs.List.{filter};
 ghost use Rattle.cedr_base.specs.declared.time.TheConstants.{FOREVER};
 ghost use Rattle.cedr_base.specs.Changes.{sync_of, changed_row};
-ghost use Rattle.cedr_table.specs.Counted.{spread, ends_after};
+ghost use Rattle.cedr_table.specs.Counted.{spread};
 ghost use Rattle.cedr_expr.specs.Tests.{passes};
 ghost use Rattle.op_join.specs.Pairs.{passes_on, both_on, met, pair_changes, all_changes};
-ghost use Rattle.op_join.specs.Spans.{AreShort, AreOpen, ends_within, begins_before};
 
-use cedr_base::{Change, FOREVER, OutOfMemory, Payload, Row, Time};
+use cedr_base::{Change, OutOfMemory, Payload, Row};
 use cedr_expr::{Side, Tests};
-use cedr_table::Table;
+use filed_rows::Spans;
 use std::alloc::Global;
 use std::collections::btree_map::Range;
 
@@ -121,89 +119,22 @@ fn repair_range(
     Ok(())
 }
 
-/// What comes before each row that ends at a time.
-fn first_at(alloc: Global, end: Time) -> Row
-    ensures { result ≡ record { end = end; begin = 0; payload = [] } }
-{
-    Row {
-        end,
-        begin: 0,
-        payload: Payload::new(alloc),
-    }
-}
-
-/// The rows that end after a time, in order, with the number of their copies.
-fn ending_after(alloc: Global, rows: &Table, time: Time) -> Range<'_, Row, usize>
-    requires { time < FOREVER }
-    ensures { spread result ≡ filter (ends_after time) rows.now }
-{
-    rows.range(first_at(alloc, time + 1)..)
-}
-
-/// The rows that end after a time and before another one, in order, with the number of their copies.
-fn ending_within(alloc: Global, rows: &Table, time: Time, last: Time) -> Range<'_, Row, usize>
-    requires { (time < FOREVER) × (time < last) }
-    ensures { spread result ≡ filter (ends_within time last) rows.now }
-{
-    rows.range(first_at(alloc, time + 1)..first_at(alloc, last))
-}
-
-/// The rows without end that begin before a time, in order, with the number of their copies.
-fn begun_before(alloc: Global, rows: &Table, time: Time) -> Range<'_, Row, usize>
-    requires { AreOpen rows.now }
-    ensures { spread result ≡ filter (begins_before time) rows.now }
-{
-    let last = Row {
-        end: FOREVER,
-        begin: time,
-        payload: Payload::new(alloc),
-    };
-    rows.range(..last)
-}
-
-/// Appends what a change does to the rows of its pairs with rows that end, none of which is valid for longer than this.
-/// Where memory runs out a part may stand there.
-pub(crate) fn repair_ending(
+/// Appends what a change does to the rows of its pairs with these rows. O(log n) comparisons, and O(1) for each row
+/// that ends after the change is seen and, by the longest one, may begin before the changed row ends. Where memory runs
+/// out a part may stand there.
+pub(crate) fn repair_pairs(
     alloc: Global,
     tests: &Tests,
     side: Side,
     change: &Change,
-    others: &Table,
-    longest: u64,
+    others: &Spans,
     out: &mut Vec<Change>,
 ) -> Result<(), OutOfMemory>
-    requires seen { sync_of change.now < FOREVER }
-    requires short { AreShort longest others.now }
+    requires { sync_of change.now < FOREVER }
     ensures ok { OnOk result (out.new.items ≡ out.old.items ++ all_changes (passes tests.now) side change.now others.now) }
     ensures err { OnErr result (take (length out.old.items) out.new.items ≡ out.old.items) }
 {
-    let sync = change.sync();
-    match change.row().end.checked_add(longest) {
-        Some(last) if sync < last => {
-            let found = ending_within(alloc, others, sync, last);
-            repair_range(alloc, tests, side, change, found, out)
-        }
-        _ => {
-            let found = ending_after(alloc, others, sync);
-            repair_range(alloc, tests, side, change, found, out)
-        }
-    }
-}
-
-/// Appends what a change does to the rows of its pairs with rows without end. Where memory runs out a part may stand
-/// there.
-pub(crate) fn repair_open(
-    alloc: Global,
-    tests: &Tests,
-    side: Side,
-    change: &Change,
-    others: &Table,
-    out: &mut Vec<Change>,
-) -> Result<(), OutOfMemory>
-    requires { AreOpen others.now }
-    ensures ok { OnOk result (out.new.items ≡ out.old.items ++ all_changes (passes tests.now) side change.now others.now) }
-    ensures err { OnErr result (take (length out.old.items) out.new.items ≡ out.old.items) }
-{
-    let found = begun_before(alloc, others, change.row().end);
-    repair_range(alloc, tests, side, change, found, out)
+    let (ending, unended) = others.meeting(alloc, change.sync(), change.row().end);
+    repair_range(alloc, tests, side, change, ending, out)?;
+    repair_range(alloc, tests, side, change, unended, out)
 }

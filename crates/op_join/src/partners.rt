@@ -5,12 +5,13 @@ ghost use Rattle.cedr_base.specs.declared.time.TheConstants.{FOREVER};
 ghost use Rattle.cedr_base.specs.Changes.{sync_of};
 ghost use Rattle.cedr_expr.specs.Tests.{passes};
 ghost use Rattle.cedr_expr.specs.declared.side.Side.TheVariants.{Left, Right};
-ghost use Rattle.op_join.specs.Filed.{under, all_under, left_partners, right_partners};
+ghost use Rattle.filed_rows.specs.Filed.{under, all_under, left_partners, right_partners};
 ghost use Rattle.op_join.specs.Pairs.{all_changes};
 
-use crate::filed::ByTag;
+use crate::pairs::repair_pairs;
 use cedr_base::{Change, OutOfMemory};
 use cedr_expr::{Side, Tests};
+use filed_rows::ByTag;
 use std::alloc::Global;
 
 /// Appends what a change does to the rows of its pairs with the rows under a tag. Where memory runs out a part may
@@ -29,7 +30,7 @@ fn repair_under(
     ensures err { OnErr result (take (length out.old.items) out.new.items ≡ out.old.items) }
 {
     match filed.get(&tag) {
-        Some(rows) => rows.repair_pairs(alloc, tests, side, change, out),
+        Some(rows) => repair_pairs(alloc, tests, side, change, rows, out),
         None => Ok(()),
     }
 }
@@ -49,7 +50,7 @@ fn repair_all(
     ensures ordered { OnOk result (IsOrdered nat_cmp filed.now) }
 {
     for (_, rows) in filed {
-        rows.repair_pairs(alloc, tests, side, change, out)?;
+        repair_pairs(alloc, tests, side, change, rows, out)?;
     }
     Ok(())
 }

@@ -18,6 +18,9 @@ use Rattle.op_row.specs.Rows.{selected, projected}
 use Rattle.op_row.specs.Unions.{union_of}
 use Rattle.op_row.specs.UnionLaws.{same_united, nothing_united}
 use Rattle.op_join.specs.Joins.{join_of, joined_rows}
+use Rattle.op_except.specs.Parts.{except_of, all_excepted}
+use Rattle.op_except.specs.ExceptLaws.{same_result, same_bound}
+use Rattle.op_except.specs.OpenLaws.{open_mark, open_rises as parts_rise}
 use Rattle.op_life.specs.Lifetimes.{with_life, windowed, shifted, shifted_mark, hopped, hopped_mark, started, ended}
 use Rattle.op_life.specs.LifetimeLaws.{multiple_least, shifted_rises, shifted_is_time, hopped_rises, hopped_is_time}
 use Rattle.op_group.specs.Groups.{Grouping, grouping_by, group_of, grouped}
@@ -29,6 +32,8 @@ use Rattle.pat_seq.specs.SequenceLaws.{no_sequence}
 use Rattle.cedr_table.proofs.ChoiceLemmas.{same_chosen, nothing_chosen}
 use Rattle.pat_unless.specs.Blocking.{unless_of}
 use Rattle.pat_unless.specs.BlockingLaws.{same_unblocked}
+use Rattle.pat_atleast.specs.AtLeasts.{at_least_of}
+use Rattle.pat_atleast.specs.AtLeastLaws.{same_at_least, no_at_least}
 use Rattle.cedr_table.specs.Agreements.{KeepsAgreement}
 use Rattle.op_row.proofs.AgreeLemmas.{select_keeps, project_keeps, union_keeps}
 use Rattle.op_row.proofs.RowsMade.{select_rows, project_rows, union_rows}
@@ -40,6 +45,10 @@ use Rattle.pat_seq.proofs.AgreeLemmas.{sequence_keeps}
 use Rattle.pat_seq.proofs.RowsMade.{sequence_rows}
 use Rattle.pat_unless.proofs.AgreeLemmas.{unless_keeps}
 use Rattle.pat_unless.proofs.RowsMade.{unless_rows}
+use Rattle.pat_atleast.proofs.AgreeLemmas.{at_least_keeps}
+use Rattle.pat_atleast.proofs.RowsMade.{at_least_rows}
+use Rattle.op_except.proofs.AgreeLemmas.{except_keeps}
+use Rattle.op_except.proofs.RowsMade.{except_rows}
 use Rattle.op_group.proofs.AgreeLemmas.{group_keeps}
 use Rattle.op_group.proofs.RowsMade.{group_rows}
 use Rattle.op_node.specs.Outputs.{handed_on}
@@ -128,6 +137,34 @@ unless_meaning scope hold tests = record {
   echo = λ e. cc;
 }
 
+at_least_meaning : (n number scope : ℕ) (tests : List Test) → 2 ≤ n → MeaningLaws (at_least_of n number scope tests) n
+at_least_meaning n number scope tests many = record {
+  agrees = at_least_keeps n number scope tests;
+  rows = at_least_rows number scope tests;
+  ports = (refl, omega arith);
+  same_result = λ tables others k. same_at_least number scope tests tables others k;
+  same_bound = λ tables others marks k. refl;
+  bound_is_time = λ tables marks table mark k. least_is_time marks;
+  bound_rises = λ tables marks later k. least_rises marks later k;
+  nothing = no_at_least number scope tests n;
+  first_bound = least_zeros n (omega arith);
+  echo = λ e. cc;
+}
+
+except_meaning : (tests : List Test) → MeaningLaws (except_of tests) 2
+except_meaning tests = record {
+  agrees = except_keeps tests;
+  rows = except_rows tests;
+  ports = (refl, omega arith);
+  same_result = same_result tests;
+  same_bound = same_bound tests;
+  bound_is_time = λ tables marks table mark k. omega (arith, open_mark (least_of marks) (all_excepted tests tables), least_is_time marks);
+  bound_rises = λ tables marks later k. parts_rise (least_of marks) (least_of later) (all_excepted tests tables) (least_rises marks later k);
+  nothing = record { each = λ r. refl };
+  first_bound = refl;
+  echo = λ e. cc;
+}
+
 group_meaning : (g : Grouping) → MeaningLaws (group_of g) 1
 group_meaning g = record {
   agrees = group_keeps g;
@@ -177,9 +214,11 @@ ready_meaning (kind.Hop every width) ports ready =
     (row_wise_meaning (with_life (hopped every width)) (hopped_mark every) (hop_keeps every width ready.1.least) (life_rows (hopped every width) (λ begin end is_time. omega arith)) (let h = multiple_least every 0 in omega arith) (λ mark higher rise. hopped_rises every mark higher ready.1.least rise) (λ mark h. hopped_is_time every mark))
 ready_meaning kind.Starts ports ready = at_count kind.Starts 1 ports ready (plain_meaning (with_life started) starts_keep (life_rows started (λ begin end is_time. omega arith)))
 ready_meaning kind.Ends ports ready = at_count kind.Ends 1 ports ready (plain_meaning (with_life ended) ends_keep (life_rows ended (λ begin end is_time. omega arith)))
-ready_meaning (kind.Group keys count sums) ports ready = at_count (kind.Group keys count sums) 1 ports ready (group_meaning (grouping_by keys count sums))
+ready_meaning (kind.Group keys count sums least greatest) ports ready = at_count (kind.Group keys count sums least greatest) 1 ports ready (group_meaning (grouping_by keys count sums least greatest))
 ready_meaning (kind.Sequence scope tests) ports ready = sequence_meaning ports scope tests ready.0
 ready_meaning (kind.Unless scope hold tests) ports ready = at_count (kind.Unless scope hold tests) 2 ports ready.0 (unless_meaning scope hold tests)
+ready_meaning (kind.AtLeast number scope tests) ports ready = at_least_meaning ports number scope tests ready.0
+ready_meaning (kind.Except tests) ports ready = at_count (kind.Except tests) 2 ports ready (except_meaning tests)
 ready_meaning kind.Output ports ready = at_count kind.Output 1 ports ready output_meaning
 
 -- nodes that are the same as parts of a plan mean the same

@@ -9,10 +9,12 @@ use Rattle.cedr_table.specs.RowWise.{row_wise}
 use Rattle.op_row.specs.Rows.{selected, projected}
 use Rattle.op_row.specs.Unions.{union_of}
 use Rattle.op_join.specs.Joins.{join_of}
+use Rattle.op_except.specs.Parts.{except_of}
 use Rattle.op_life.specs.Lifetimes.{with_life, windowed, shifted, shifted_mark, hopped, hopped_mark, started, ended}
 use Rattle.op_group.specs.Groups.{grouping_by, group_of}
 use Rattle.pat_seq.specs.Sequences.{sequence_of}
 use Rattle.pat_unless.specs.Blocking.{unless_of}
+use Rattle.pat_atleast.specs.AtLeasts.{at_least_of}
 use Rattle.op_node.specs.Outputs.{handed_on}
 
 -- what a kind of node means that has so many ports; a source has none, and is never asked
@@ -27,9 +29,11 @@ node_meaning (kind.Shift by) ports = row_wise (with_life (shifted by)) (shifted_
 node_meaning (kind.Hop every width) ports = row_wise (with_life (hopped every width)) (hopped_mark every)
 node_meaning kind.Starts ports = row_wise (with_life started) (λ mark. mark)
 node_meaning kind.Ends ports = row_wise (with_life ended) (λ mark. mark)
-node_meaning (kind.Group keys count sums) ports = group_of (grouping_by keys count sums)
+node_meaning (kind.Group keys count sums least greatest) ports = group_of (grouping_by keys count sums least greatest)
 node_meaning (kind.Sequence scope tests) ports = sequence_of ports scope tests
 node_meaning (kind.Unless scope hold tests) ports = unless_of scope hold tests
+node_meaning (kind.AtLeast number scope tests) ports = at_least_of ports number scope tests
+node_meaning (kind.Except tests) ports = except_of tests
 node_meaning kind.Output ports = handed_on
 
 -- what a plan's node means, which has a port for each of its inputs

@@ -7,10 +7,12 @@ use cedr_base::OutOfMemory;
 use cedr_plan::NodeKind;
 use cedr_table::Either::{First, Second};
 use cedr_table::{Boxed, Either, Operator};
+use op_except::Except;
 use op_group::Group;
 use op_join::Join;
 use op_life::{Ends, Hop, Shift, Starts, Window};
 use op_row::{Project, Select, Union};
+use pat_atleast::AtLeast;
 use pat_seq::Sequence;
 use pat_unless::Unless;
 use std::alloc::Global;
@@ -24,7 +26,10 @@ type KindOperator = Either<
         Either<Select, Project>,
         Either<Either<Window, Shift>, Either<Hop, Either<Starts, Ends>>>,
     >,
-    Either<Either<Either<Union, Join>, Either<Sequence, Unless>>, Either<Group, Output>>,
+    Either<
+        Either<Either<Union, Join>, Either<Sequence, Unless>>,
+        Either<Either<AtLeast, Except>, Either<Group, Output>>,
+    >,
 >;
 
 /// The operator of a node of a kind, with so many ports. The node is no source, and is as an accepted plan has it.
@@ -73,10 +78,31 @@ fn kind_operator(alloc: Global, kind: &NodeKind, ports: usize) -> Result<KindOpe
             let unless = Unless::new(alloc, *scope, *hold, tests.copy(alloc)?);
             Ok(Second(First(Second(Second(unless)))))
         }
-        NodeKind::Group { keys, count, sums } => {
-            let group = Group::new(alloc, keys.copy(alloc)?, *count, sums.copy(alloc)?);
-            Ok(Second(Second(First(group))))
+        NodeKind::AtLeast {
+            number,
+            scope,
+            tests,
+        } => {
+            let at_least = AtLeast::new(alloc, ports, *number, *scope, tests.copy(alloc)?)?;
+            Ok(Second(Second(First(First(at_least)))))
         }
-        NodeKind::Output => Ok(Second(Second(Second(Output::new())))),
+        NodeKind::Except(tests) => Ok(Second(Second(First(Second(Except::new(
+            alloc,
+            tests.copy(alloc)?,
+        )))))),
+        NodeKind::Group {
+            keys,
+            count,
+            sums,
+            least,
+            greatest,
+        } => {
+            let keys = keys.copy(alloc)?;
+            let sums = sums.copy(alloc)?;
+            let least = least.copy(alloc)?;
+            let group = Group::new(alloc, keys, *count, sums, least, greatest.copy(alloc)?);
+            Ok(Second(Second(Second(First(group)))))
+        }
+        NodeKind::Output => Ok(Second(Second(Second(Second(Output::new()))))),
     }
 }

@@ -1,9 +1,4 @@
-pub mod MatchLemmas
-pub mod PassingLemmas
-pub mod FindLemmas
 pub mod RepairLemmas
-pub mod ReachLemmas
-pub mod PairLemmas
 pub mod KeptLemmas
 pub mod AgreeLemmas
 pub mod RowsMade

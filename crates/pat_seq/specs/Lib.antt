@@ -1,5 +1,4 @@
 pub mod Sequences
 pub mod SequenceLaws
-pub mod Steps
 pub mod Keeping
 pub mod Readings

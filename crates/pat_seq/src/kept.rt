@@ -1,21 +1,27 @@
-ghost use Rattle.std.specs.Prelude.{◌≡◌, ◌<◌, [], List, length, replicate, OnOk, IfOk};
+ghost use Rattle.std.specs.Prelude.{◌≡◌, ◌≤◌, ◌<◌, ◌^◌, [], List, length, replicate, OnOk, IfOk};
 ghost use Rattle.cedr_expr.specs.declared.test.Test.{Test};
 ghost use Rattle.cedr_table.specs.Operators.{table_at};
-ghost use Rattle.pat_state.specs.Answers.{AreForgotten};
 ghost use Rattle.pat_state.specs.Starts.{HasRow};
-ghost use Rattle.pat_seq.specs.Keeping.{rows_in, AreKept, IsKeptStep};
+ghost use Rattle.pat_state.specs.Steps.{matches};
+ghost use Rattle.cedr_base.specs.declared.time.TheConstants.{FOREVER};
+ghost use Rattle.cedr_base.specs.Rows.{SameRows};
+ghost use Rattle.pat_state.specs.Answers.{AreForgotten, IsKeptStep};
+ghost use Rattle.pat_seq.specs.Keeping.{rows_in, AreKept};
 
-use cedr_base::{Change, OutOfMemory, Time};
+use cedr_base::{Change, OutOfMemory, Row, Time};
 use cedr_expr::Tests;
-use pat_state::{ByBegin, Tied};
+use pat_state::{Grouped, Tied, find_pairs};
 use std::alloc::Global;
 
-/// The rows of the ports of a sequence, without their ends. Of two ports they have tags, by which those that may pass the
-/// tests together are found.
+/// The ports that a sequence may have, in their order.
+const PORTS: [usize; 4] = [0, 1, 2, 3];
+
+/// The rows of the ports of a sequence, without their ends. They have tags, by which those that may pass the tests together
+/// are found.
 #[derive(Drop)]
 pub(crate) enum Kept {
     Two(Tied),
-    More(Vec<ByBegin>),
+    More(Grouped),
 }
 
 impl Kept {
@@ -27,8 +33,8 @@ impl Kept {
         if ports == 2 {
             return Ok(Kept::Two(Tied::new(alloc)));
         }
-        let bags = empty_bags(alloc, ports)?;
-        Ok(Kept::More(bags))
+        let grouped = Grouped::new(alloc, ports, ports)?;
+        Ok(Kept::More(grouped))
     }
 
     /// How many ports there are.
@@ -37,7 +43,7 @@ impl Kept {
     {
         match self {
             Kept::Two(_) => 2,
-            Kept::More(bags) => bags.len(),
+            Kept::More(grouped) => grouped.len(),
         }
     }
 
@@ -65,7 +71,32 @@ impl Kept {
                     tied.apply_right(alloc, tests, change)
                 }
             }
-            Kept::More(bags) => bags[port].apply(alloc, change),
+            Kept::More(grouped) => grouped.apply(alloc, tests, port, change),
+        }
+    }
+
+    /// The rows of the result of the choices with a changed row on its port, in some order.
+    pub(crate) fn find(
+        &self,
+        alloc: Global,
+        scope: u64,
+        tests: &Tests,
+        changed: usize,
+        row: &Row,
+    ) -> Result<Vec<Row>, OutOfMemory>
+        requires begin { row.now.begin < FOREVER }
+        requires scope { scope ≤ 2 ^ 40 }
+        requires changed { changed < length (rows_in self.now) }
+        requires ports { (2 ≤ length (rows_in self.now)) × (length (rows_in self.now) ≤ 4) }
+        requires tags { AreKept tests.now self.now }
+        ensures { IfOk result (λ rows. SameRows rows.items (matches scope tests.now row.now changed (rows_in self.now))) }
+    {
+        match self {
+            Kept::Two(tied) => find_pairs(alloc, scope, tests, tied, changed, row),
+            Kept::More(grouped) => {
+                let order = &PORTS[..grouped.len()];
+                grouped.find(alloc, scope, tests, order, changed, row)
+            }
         }
     }
 
@@ -77,27 +108,7 @@ impl Kept {
     {
         match self {
             Kept::Two(tied) => tied.forget(tests, scope, time),
-            Kept::More(bags) => forget_all(bags, scope, time),
+            Kept::More(grouped) => grouped.forget(tests, scope, time),
         }
-    }
-}
-
-/// As many bags with no row.
-fn empty_bags(alloc: Global, count: usize) -> Result<Vec<ByBegin>, OutOfMemory>
-    ensures { IfOk result (λ bags. bags.items ≡ replicate count []) }
-{
-    let mut bags = Vec::new(alloc);
-    for _ in 0..count {
-        bags.push(ByBegin::new(alloc))?;
-    }
-    Ok(bags)
-}
-
-/// Forgets the rows of each port whose scope, which begins with them, ends by a time.
-fn forget_all(kept: &mut Vec<ByBegin>, scope: u64, time: Time)
-    ensures { AreForgotten scope time kept.old.items kept.new.items }
-{
-    for port in 0..kept.len() {
-        kept[port].forget(scope, time);
     }
 }

@@ -2,8 +2,6 @@
 #![tactic(auto)]
 
 mod kept;
-mod matches;
-mod pairs;
 mod sequence;
 
 pub use sequence::Sequence;

@@ -7,10 +7,10 @@ ghost use Rattle.pat_state.specs.Starts.{all_endless, HasRow};
 ghost use Rattle.change_laws.specs.Times.{IsWhile};
 ghost use Rattle.pat_seq.specs.Keeping.{rows_in, AreKept};
 ghost use Rattle.pat_seq.specs.Sequences.{sequence_of};
-ghost use Rattle.pat_seq.specs.Steps.{IsAnswered};
+ghost use Rattle.pat_state.specs.Answers.{IsAnswered};
+ghost use Rattle.pat_state.specs.Steps.{matches};
 
 use crate::kept::Kept;
-use crate::matches::find_matches;
 use cedr_base::{Change, OutOfMemory, Row, Time};
 use cedr_expr::Tests;
 use cedr_table::{Operator, least_mark};
@@ -26,8 +26,9 @@ use std::alloc::Global;
 /// looks only at those that have the fields that equality tests between the two compare: O(log n), and a step and the
 /// tests for each of them. Of more ports it takes O(log n) and the rows that may be the next one for each ascending choice
 /// of the ports but the last in which it may stand, and each row more of such a choice costs a new payload. On the last
-/// port the tests come first, once for all copies of a row, and a payload is joined only for what passes them. A
-/// retraction that leaves something of its row takes O(1).
+/// port the tests come first, once for all copies of a row, and a payload is joined only for what passes them. Where the
+/// payloads of all ports have one width, and equality tests want one of their columns to be the same in all of them, only
+/// rows with the changed row's field in it are looked at. A retraction that leaves something of its row takes O(1).
 pub struct Sequence {
     scope: u64,
     tests: Tests,
@@ -75,16 +76,16 @@ impl Sequence {
         requires begin { row.now.begin < FOREVER }
         requires scope { self.old.scope ≤ 2 ^ 40 }
         requires port { port < length (rows_in self.old.kept) }
-        requires ports { 2 ≤ length (rows_in self.old.kept) }
+        requires ports { (2 ≤ length (rows_in self.old.kept)) × (length (rows_in self.old.kept) ≤ 4) }
         requires there { HasRow (table_at (rows_in self.old.kept) port) change.now }
         requires tags { AreKept self.old.tests self.old.kept }
         ensures scope { self.new.scope ≡ self.old.scope }
         ensures tests { self.new.tests ≡ self.old.tests }
         ensures ports { length (rows_in self.new.kept) ≡ length (rows_in self.old.kept) }
-        ensures ok { OnOk result (IsAnswered self.old.scope self.old.tests (rows_in self.old.kept) (rows_in self.new.kept) port change.now way row.now out.old.items out.new.items × AreKept self.old.tests self.new.kept) }
+        ensures ok { OnOk result (IsAnswered (rows_in self.old.kept) (rows_in self.new.kept) port change.now way (matches self.old.scope self.old.tests row.now port (rows_in self.old.kept)) out.old.items out.new.items × AreKept self.old.tests self.new.kept) }
         ensures err { OnErr result (out.new.items ≡ out.old.items) }
     {
-        let rows = find_matches(alloc, self.scope, &self.tests, &self.kept, port, row)?;
+        let rows = self.kept.find(alloc, self.scope, &self.tests, port, row)?;
         self.kept.apply(alloc, &self.tests, port, change)?;
         push_answers(way, rows, out)
     }

@@ -1,14 +1,15 @@
 -- Changes by which whole rows join or leave a result.
-use Rattle.std.proofs.Common.{◌≡◌, ℕ, ◌<◌, ◌≤◌, inl, inr, List, [], ◌∷◌, ◌++◌, Bool, true, false, cond, refl, ap, sym, subst, arith}
+use Rattle.std.proofs.Common.{◌≡◌, ℕ, ◌+◌, ◌<◌, ◌≤◌, inl, inr, List, [], ◌∷◌, ◌++◌, Bool, true, false, cond, refl, ap, sym, subst, arith}
 use Rattle.std.specs.Prelude.{map}
 use Rattle.std.specs.List.{flat_map}
 use Rattle.cedr_base.specs.declared.row.Row.{Row}
 use Rattle.cedr_base.specs.Rows.{IsRow, count_of, same_row, SameRows}
 use Rattle.cedr_base.proofs.Bags.{count_of-cons, one_of_itself, same_row_exact}
 use Rattle.cedr_base.specs.Changes.{all_puts, all_takes}
-use Rattle.change_laws.specs.Repairs.{AllFrom}
+use Rattle.change_laws.specs.Repairs.{AllFrom, Repair}
 use Rattle.change_laws.proofs.Moves.{remnant_none}
-use Rattle.change_laws.proofs.RepairLemmas.{AllChanges, Turns, takes_adds, puts_adds}
+use Rattle.change_laws.proofs.RepairLemmas.{AllChanges, Turns, takes_adds, puts_adds, repair_by_turns}
+use Rattle.change_laws.proofs.BagSums.{same_itself}
 use Rattle.pat_state.specs.declared.answer.Way.{Way}
 use Rattle.pat_state.specs.declared.answer.Way.TheVariants.{Comes, Goes}
 use Rattle.pat_state.specs.Answers.{answered}
@@ -99,3 +100,15 @@ same_turns t olds news same = record {
   there = λ r. omega arith;
   apart = λ r. inl refl;
 }
+
+-- additions of what a result gained repair it
+pub comes_repairs : (t : ℕ) (old new found : List Row) → AllLate t found → ((r : Row) → count_of r new ≡ count_of r old + count_of r found) → Repair old new t (map (answered Comes) found)
+comes_repairs t old new found late sums = repair_by_turns old new [] found t (map (answered Comes) found) (come_turns t found found late (same_itself found)) (λ r. omega (arith, sums r)) (λ r. omega arith)
+
+-- cuts to the begin of what it lost do, too
+pub goes_repairs : (t : ℕ) (old new found : List Row) → AllLate t found → ((r : Row) → count_of r new + count_of r found ≡ count_of r old) → Repair old new t (map (answered Goes) found)
+goes_repairs t old new found late sums = repair_by_turns old new found [] t (map (answered Goes) found) (go_turns t found found late (same_itself found)) (λ r. omega (arith, sums r)) (λ r. omega (arith, sums r))
+
+-- a result that stays needs no change
+pub stays_repaired : (t : ℕ) (old new : List Row) → ((r : Row) → count_of r new ≡ count_of r old) → Repair old new t []
+stays_repaired t old new sums = repair_by_turns old new [] [] t [] (same_turns t [] [] (same_itself [])) (λ r. omega (arith, sums r)) (λ r. omega arith)

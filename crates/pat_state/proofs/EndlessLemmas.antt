@@ -20,7 +20,7 @@ use Rattle.cedr_table.specs.Operators.{Tables, table_at, with_table, least_of, A
 use Rattle.cedr_table.specs.PortLaws.{same_at, same_length, rise_length, least_below, least_rises}
 use Rattle.cedr_table.proofs.FilterLemmas.{among_itself, among_along, among_same, among_fewer, among_moved, filtered_same}
 use Rattle.pat_state.specs.Starts.{endless, all_endless, endless_tables, scope_reaches, HasRow}
-use Rattle.pat_state.specs.Answers.{AllAmong, StandsByBegin}
+use Rattle.pat_state.specs.Answers.{AllAmong, StandsByBegin, IsKeptStep}
 use Rattle.pat_state.proofs.StepLemmas.{kept_rows}
 
 -- a count of rows without their ends is a sum over the rows
@@ -116,7 +116,8 @@ among_later p q [] (u ∷ us) stricter are = absurd are
 among_later p q (t ∷ ts) [] stricter are = absurd are
 among_later p q (t ∷ ts) (u ∷ us) stricter are = (among_fewer p q t u stricter are.0, among_later p q ts us stricter are.1)
 
-among_at : (p : Row → Bool) (ts us : Tables) (port : ℕ) → AllAmong p ts us → SameAmong p (table_at ts port) (table_at us port)
+-- so are those of one port
+pub among_at : (p : Row → Bool) (ts us : Tables) (port : ℕ) → AllAmong p ts us → SameAmong p (table_at ts port) (table_at us port)
 among_at p [] [] port are = among_itself p []
 among_at p [] (u ∷ us) port are = absurd are
 among_at p (t ∷ ts) [] port are = absurd are
@@ -292,3 +293,24 @@ tables_ends tables port c x end after is lives moved =
     subst (SameTables (endless_tables tables)) (sym (endless_with tables port after))
     (subst (λ (us : Tables). SameTables us (with_table (endless_tables tables) port (all_endless after))) (with_itself (endless_tables tables) port)
     (same_with (endless_tables tables) (endless_tables tables) port (table_at (endless_tables tables) port) (all_endless after) (tables_itself (endless_tables tables)) (subst (λ rows. SameRows rows (all_endless after)) (sym (endless_at tables port)) now)))
+
+-- the kept rows stand for the tables after a change that may follow in what is left
+pub stands_step : (in_range : ℕ → Type 0) (scope : ℕ) (kept kept' tables : Tables) (marks : List ℕ) (port : ℕ) (c : Change) (after : List Row) → (stands : StandsByBegin (in_range (length kept)) scope kept tables marks) → MayFollow (table_at stands.left port) [] c → IsMoved c (table_at tables port) after → IsKeptStep kept kept' port c
+    → StandsByBegin (in_range (length kept')) scope kept' (with_table tables port after) marks
+stands_step in_range scope kept kept' tables marks port c after stands may moved step =
+    let next = stands_after scope kept tables marks port stands c step.rows after may step.step moved in
+    subst (λ (us : Tables). StandsByBegin (in_range (length us)) scope us (with_table tables port after) marks) (sym step.kept_is)
+    (record {
+      range = subst in_range (sym (length-with kept port step.rows)) stands.range;
+      table = next.table;
+      mark = next.mark;
+      left = next.left;
+      same = next.same;
+      rows = next.rows;
+    })
+
+-- bags with no row stand for empty tables
+pub stands_empty : (in_range : ℕ → Type 0) (scope ports : ℕ) (kept : Tables) → in_range ports → kept ≡ replicate ports [] → StandsByBegin (in_range (length kept)) scope kept (replicate ports []) (replicate ports 0)
+stands_empty in_range scope ports kept range is =
+    subst (λ (us : Tables). StandsByBegin (in_range (length us)) scope us (replicate ports []) (replicate ports 0)) (sym is)
+    (stands_new scope ports (subst in_range (sym (length-replicate {A = List Row} ports [])) range))

@@ -5,3 +5,13 @@ pub mod EndlessLemmas
 pub mod ForgetLemmas
 pub mod AnswerLemmas
 pub mod TagLemmas
+pub mod MatchLemmas
+pub mod PassingLemmas
+pub mod FindLemmas
+pub mod ReachLemmas
+pub mod PairLemmas
+pub mod ChosenLemmas
+pub mod SeenLemmas
+pub mod KeyLemmas
+pub mod GroupLemmas
+pub mod PortLemmas

@@ -22,7 +22,7 @@ use Rattle.pat_state.specs.Starts.{endless, all_endless, begins_within, HasRow}
 use Rattle.pat_state.specs.Tags.{marked, has_tag_within, HasMarked, IsRetagged, IsTagged, IsSought}
 
 -- a sum over chosen rows
-sum_by-filter : (w : Row → ℕ) (p : Row → Bool) (xs : List Row) → sum_by w (filter p xs) ≡ sum_by (λ x. cond (p x) (w x) 0) xs
+pub sum_by-filter : (w : Row → ℕ) (p : Row → Bool) (xs : List Row) → sum_by w (filter p xs) ≡ sum_by (λ x. cond (p x) (w x) 0) xs
 sum_by-filter w p [] = refl
 sum_by-filter w p (x ∷ xs) = omega (arith, chosen (p x), sum_by-cons (λ (y : Row). cond (p y) (w y) 0) x xs, sum_by-filter w p xs) where
   chosen : (b : Bool) → sum_by w (cond b (x ∷ filter p xs) (filter p xs)) ≡ cond b (w x) 0 + sum_by w (filter p xs)
@@ -30,7 +30,7 @@ sum_by-filter w p (x ∷ xs) = omega (arith, chosen (p x), sum_by-cons (λ (y : 
   chosen false = omega arith
 
 -- a sum over changed rows
-sum_by-changed : (v w : Row → ℕ) (f : Row → Row) (xs : List Row) → ((x : Row) → v (f x) ≡ w x) → sum_by v (map f xs) ≡ sum_by w xs
+pub sum_by-changed : (v w : Row → ℕ) (f : Row → Row) (xs : List Row) → ((x : Row) → v (f x) ≡ w x) → sum_by v (map f xs) ≡ sum_by w xs
 sum_by-changed v w f [] each = refl
 sum_by-changed v w f (x ∷ xs) each = omega (arith, sum_by-cons v (f x) (map f xs), sum_by-cons w x xs, each x, sum_by-changed v w f xs each)
 

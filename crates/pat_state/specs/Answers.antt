@@ -1,15 +1,16 @@
 -- Whole rows that join or leave a result.
-use Rattle.std.specs.Prelude.{ℕ, ◌≡◌, List, [], ◌∷◌, Bool, length}
+use Rattle.std.specs.Prelude.{ℕ, ◌≡◌, ◌++◌, List, [], ◌∷◌, Bool, length, map}
 use Rattle.std.specs.List.{filter}
 use Rattle.cedr_base.specs.declared.row.Row.{Row}
 use Rattle.cedr_base.specs.declared.change.Change.{Change}
 use Rattle.cedr_base.specs.declared.change.Change.TheVariants.{Add, Cut}
 use Rattle.cedr_base.specs.Rows.{SameRows}
+use Rattle.cedr_base.specs.Changes.{puts, takes}
 use Rattle.cedr_table.specs.Counted.{SameAmong}
-use Rattle.cedr_table.specs.Operators.{Tables, SameTables, least_of}
+use Rattle.cedr_table.specs.Operators.{Tables, SameTables, table_at, with_table, least_of}
 use Rattle.pat_state.specs.declared.answer.Way.{Way}
 use Rattle.pat_state.specs.declared.answer.Way.TheVariants.{Comes, Goes}
-use Rattle.pat_state.specs.Starts.{endless_tables, scope_reaches}
+use Rattle.pat_state.specs.Starts.{all_endless, endless_tables, scope_reaches}
 
 -- a row that comes is added, and one that goes is cut to its begin
 abbrev pub answered : Way → Row → Change
@@ -39,3 +40,16 @@ AreForgotten scope time [] [] = Unit {0}
 AreForgotten scope time [] (u ∷ us) = ⊥
 AreForgotten scope time (t ∷ ts) [] = ⊥
 AreForgotten scope time (t ∷ ts) (u ∷ us) = SameRows u (filter (scope_reaches scope time) t) × AreForgotten scope time ts us
+
+-- the rows of one port went through a change, of which the begins and the payloads count
+pub record IsKeptStep (old new : Tables) (port : ℕ) (change : Change) : Type 0 where
+  pub rows : List Row
+  pub kept_is : new ≡ with_table old port rows
+  pub step : SameRows (rows ++ all_endless (takes change)) (table_at old port ++ all_endless (puts change))
+
+-- besides, some rows were answered, in some order
+pub record IsAnswered (kept kept_after : Tables) (port : ℕ) (change : Change) (way : Way) (all : List Row) (before after : List Change) : Type 0 where
+  pub kept_step : IsKeptStep kept kept_after port change
+  pub found : List Row
+  pub same : SameRows found all
+  pub answers : after ≡ before ++ map (answered way) found

@@ -1,13 +1,10 @@
 -- Rows of two ports, of which those that may pass tests together are found by a tag.
-use Rattle.std.specs.Prelude.{ℕ, ◌≡◌, ◌<◌, ◌≤◌, List, [], ◌∷◌, Bool, false, ◌&&◌, nat_eq, length, map, if◌then◌else◌}
+use Rattle.std.specs.Prelude.{ℕ, ◌≡◌, ◌<◌, ◌≤◌, List, ◌∷◌, Bool, false, ◌&&◌, nat_eq, map}
 use Rattle.cedr_base.specs.declared.field.Field.{Field}
 use Rattle.cedr_base.specs.declared.row.Row.{Row}
 use Rattle.cedr_base.specs.declared.change.Change.{Change}
 use Rattle.cedr_base.specs.declared.change.Change.TheVariants.{Add, Cut}
 use Rattle.cedr_base.specs.Rows.{count_of, SameRows}
-use Rattle.cedr_expr.specs.declared.side.Side.{Side}
-use Rattle.cedr_expr.specs.declared.side.Side.TheVariants.{Left, Right}
-use Rattle.cedr_expr.specs.declared.test.Test.{Test}
 use Rattle.pat_state.specs.Starts.{begins_within}
 
 -- a row with a tag in place of its end

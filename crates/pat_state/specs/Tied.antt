@@ -1,7 +1,8 @@
 -- Rows of two ports with their tags.
-use Rattle.std.specs.Prelude.{List}
+use Rattle.std.specs.Prelude.{ℕ, List}
 use Rattle.cedr_expr.specs.declared.test.Test.{Test}
 use Rattle.pat_state.specs.declared.tied.Tied.{Tied}
+use Rattle.pat_state.specs.declared.crossing.Crossing.{Crossing}
 use Rattle.cedr_expr.specs.Tags.{left_tag, right_tag}
 use Rattle.pat_state.specs.Tags.{IsTagged}
 
@@ -9,3 +10,8 @@ use Rattle.pat_state.specs.Tags.{IsTagged}
 pub record AreTied (tests : List Test) (tied : Tied) : Type 0 where
   pub left_are : IsTagged (left_tag tied.width tests) tied.left tied.left_tags
   pub right_are : IsTagged (right_tag tied.width tests) tied.right tied.right_tags
+
+-- each row of a port has its tags as the first and as the second of two rows, where payloads have the width
+pub record AreCrossed (width : ℕ) (tests : List Test) (crossing : Crossing) : Type 0 where
+  pub first_are : IsTagged (left_tag width tests) crossing.rows crossing.first_tags
+  pub second_are : IsTagged (right_tag width tests) crossing.rows crossing.second_tags

@@ -1,9 +1,10 @@
-ghost use Rattle.std.specs.Prelude.{◌≡◌, ◌<◌, ◌∷◌, ◌++◌, [], List, replicate, OnOk, IfOk};
+ghost use Rattle.std.specs.Prelude.{◌≡◌, ◌<◌, ◌∷◌, ◌++◌, [], List, true, replicate, OnOk, IfOk};
 ghost use Rattle.std.specs.List.{filter};
 ghost use Rattle.cedr_base.specs.declared.row.Row.{Row as RowValue};
 ghost use Rattle.cedr_base.specs.Rows.{count_of, SameRows};
 ghost use Rattle.cedr_table.specs.Counted.{spread};
 ghost use Rattle.pat_state.specs.Starts.{AreInScope};
+ghost use Rattle.pat_state.specs.Keys.{LackTag};
 ghost use Rattle.pat_state.specs.Tags.{marked, has_tag_within};
 
 use cedr_base::{OutOfMemory, Payload, Row, Time};
@@ -82,15 +83,27 @@ impl ByTag {
         Ok(())
     }
 
-    /// Takes so many copies of a row with a tag away. It takes no memory. O(log n) comparisons in the different rows for
-    /// each.
-    pub(crate) fn take_copies(&mut self, tag: u64, row: Row, count: usize)
-        ensures { (rest : List RowValue) → SameRows self.old (replicate count (marked tag row) ++ rest) → SameRows self.new rest }
+    /// Takes so many copies of a row with a tag away, and gives the row with the tag back. It takes no memory. O(log n)
+    /// comparisons in the different rows for each.
+    pub(crate) fn take_copies(&mut self, tag: u64, row: Row, count: usize) -> Row
+        ensures row { result ≡ marked tag row }
+        ensures left { (rest : List RowValue) → SameRows self.old (replicate count (marked tag row) ++ rest) → SameRows self.new rest }
     {
         let mut marked = row;
         marked.end = tag;
         for _ in 0..count {
             self.rows.take(&marked);
+        }
+        marked
+    }
+
+    /// Whether no row has the tag 0. It takes no memory. O(log n).
+    pub(crate) fn lacks_zero(&self) -> bool
+        ensures { result ≡ true → LackTag 0 self.now }
+    {
+        match self.rows.first() {
+            Some(row) => row.end > 0,
+            None => true,
         }
     }
 

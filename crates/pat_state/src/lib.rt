@@ -1,4 +1,5 @@
-//! What patterns share: the rows of a port in order of begin, and whole rows that join or leave a result.
+//! What patterns share: the rows of a port in order of begin, the choices of rows that begin one after the other within a
+//! scope, and whole rows that join or leave a result.
 //!
 //! A pattern reads a row's begin and its payload alone. So `ByBegin` keeps each row as if it never ended, and a
 //! retraction that leaves something of its row changes nothing here.
@@ -7,8 +8,17 @@
 mod answer;
 mod by_begin;
 mod by_tag;
+mod crossing;
+mod grouped;
+mod key;
+mod keyed;
+mod matches;
+mod pairs;
 mod tied;
 
 pub use answer::{Way, push_answers};
 pub use by_begin::ByBegin;
+pub use crossing::Crossing;
+pub use grouped::Grouped;
+pub use pairs::find_pairs;
 pub use tied::Tied;

@@ -8,7 +8,7 @@ ghost use Rattle.cedr_expr.specs.declared.test.Test.{Test};
 ghost use Rattle.cedr_expr.specs.Tests.{passes};
 ghost use Rattle.cedr_table.specs.Counted.{spread};
 ghost use Rattle.pat_state.specs.Starts.{all_endless, begins_within, scope_reaches, AreInScope, HasRow};
-ghost use Rattle.cedr_expr.specs.Tags.{right_tag, side_tag};
+ghost use Rattle.cedr_expr.specs.Tags.{left_tag, right_tag, side_tag};
 ghost use Rattle.pat_state.specs.Tags.{HasMarked, IsRetagged, IsTagged, IsSought};
 ghost use Rattle.pat_state.specs.Tied.{AreTied};
 
@@ -46,7 +46,7 @@ impl Drop for Tied {
 }
 
 /// Applies a change to the rows with tags, of which the row's begin and its payload count.
-fn apply_tagged(
+pub(crate) fn apply_tagged(
     alloc: Global,
     tags: &mut ByTag,
     tag: u64,
@@ -233,12 +233,8 @@ impl Tied {
         ensures within { AreInScope from before result }
         ensures rows { (weight : RowValue → ℕ) → IsSought (λ (fields : List Field). passes tests.now payload.now fields) weight → sum_by weight (spread result) ≡ sum_by weight (filter (begins_within from before) self.now.right) }
     {
-        if payload.fields().len() == self.width {
-            let tag = tests.tag(Side::Left, self.width, payload);
-            self.right_tags.within(alloc, tag, from, before)
-        } else {
-            self.right.within(alloc, from, before)
-        }
+        let (width, rows, tags) = (self.width, &self.right, &self.right_tags);
+        beside_left(alloc, tests, width, rows, tags, payload, from, before)
     }
 
     /// The same of left rows and a right payload: those of its tag, and those of another width than the left payloads.
@@ -254,9 +250,51 @@ impl Tied {
         ensures within { AreInScope from before result.0 × AreInScope from before result.1 }
         ensures rows { (weight : RowValue → ℕ) → IsSought (λ (fields : List Field). passes tests.now fields payload.now) weight → sum_by weight (spread result.0) + sum_by weight (spread result.1) ≡ sum_by weight (filter (begins_within from before) self.now.left) }
     {
-        let tag = tests.tag(Side::Right, self.width, payload);
-        let tagged = self.left_tags.within(alloc, tag, from, before);
-        let others = self.left_tags.within(alloc, 0, from, before);
-        (tagged, others)
+        let (width, tags) = (self.width, &self.left_tags);
+        beside_right(alloc, tests, width, tags, payload, from, before)
     }
+}
+
+/// Rows with the tags that they have on the right, beside left payloads of this width: those that begin at a time or later and
+/// before another one, and of these all that may pass tests with a left payload.
+pub(crate) fn beside_left<'a>(
+    alloc: Global,
+    tests: &Tests,
+    width: usize,
+    rows: &'a ByBegin,
+    tags: &'a ByTag,
+    payload: &Payload,
+    from: Time,
+    before: Time,
+) -> Range<'a, Row, usize>
+    requires { IsTagged (right_tag width tests.now) rows.now tags.now }
+    ensures within { AreInScope from before result }
+    ensures rows { (weight : RowValue → ℕ) → IsSought (λ (fields : List Field). passes tests.now payload.now fields) weight → sum_by weight (spread result) ≡ sum_by weight (filter (begins_within from before) rows.now) }
+{
+    if payload.fields().len() == width {
+        let tag = tests.tag(Side::Left, width, payload);
+        tags.within(alloc, tag, from, before)
+    } else {
+        rows.within(alloc, from, before)
+    }
+}
+
+/// The same of rows with the tags that they have on the left, and a right payload: those of its tag, and those of another width
+/// than the left payloads. The tags are enough.
+pub(crate) fn beside_right<'a>(
+    alloc: Global,
+    tests: &Tests,
+    width: usize,
+    tags: &'a ByTag,
+    payload: &Payload,
+    from: Time,
+    before: Time,
+) -> (Range<'a, Row, usize>, Range<'a, Row, usize>)
+    ensures within { AreInScope from before result.0 × AreInScope from before result.1 }
+    ensures rows { (rows : List RowValue) (weight : RowValue → ℕ) → IsTagged (left_tag width tests.now) rows tags.now → IsSought (λ (fields : List Field). passes tests.now fields payload.now) weight → sum_by weight (spread result.0) + sum_by weight (spread result.1) ≡ sum_by weight (filter (begins_within from before) rows) }
+{
+    let tag = tests.tag(Side::Right, width, payload);
+    let tagged = tags.within(alloc, tag, from, before);
+    let others = tags.within(alloc, 0, from, before);
+    (tagged, others)
 }

@@ -61,11 +61,19 @@ fn tell_kind(rt: &impl Print, kind: &NodeKind) -> Result<()> {
     match kind {
         NodeKind::Source { file } => println!(rt; "    source {}", file.bytes().escape_ascii())?,
         NodeKind::Join(tests) => tell_tests(rt, tests.as_slice())?,
-        NodeKind::Group { keys, count, sums } => {
+        NodeKind::Group {
+            keys,
+            count,
+            sums,
+            least,
+            greatest,
+        } => {
             println!(rt;
-                "    group by {:?}, count {count}, sums {:?}",
+                "    group by {:?}, count {count}, sums {:?}, least {:?}, greatest {:?}",
                 keys.columns(),
-                sums.columns()
+                sums.columns(),
+                least.columns(),
+                greatest.columns()
             )?;
         }
         NodeKind::Output => println!(rt; "    output")?,

@@ -13,7 +13,7 @@ returns-in-Some-early_fault-clause-fault c =
     let earlier = map node_of c.args.earlier.now in
     let d = view c.args.node.now in
     let row = operator_row c.in-Some.operator in
-    fault_known earlier d c.in-Some.operator c.in-Some.ensures
+    fault_known c.args.version earlier d c.in-Some.operator c.in-Some.ensures
     ∙ first_in_front (untyped_faults row earlier d) (typed_faults row earlier d) c.in-Some-early_fault.kind (sym c.in-Some-early_fault.ensures)
 
 pub returns-clause-fault : goal.returns-clause-fault
@@ -21,5 +21,5 @@ returns-clause-fault c =
     let earlier = map node_of c.args.earlier.now in
     let d = view c.args.node.now in
     let row = operator_row c.in-Some.operator in
-    let known = fault_known earlier d c.in-Some.operator c.in-Some.ensures ∙ first_behind (untyped_faults row earlier d) (typed_faults row earlier d) (sym c.in_default-early_fault.ensures) in
+    let known = fault_known c.args.version earlier d c.in-Some.operator c.in-Some.ensures ∙ first_behind (untyped_faults row earlier d) (typed_faults row earlier d) (sym c.in_default-early_fault.ensures) in
     subst (λ (found : Option PlanKind). IfErr c.build_node.result (IsNodeFault found)) (sym known) c.build_node.ensures.fault

@@ -13,7 +13,7 @@ use Rattle.op_group.proofs.group.answer_in.Goals as goal
 
 pub returns-clause-answers : goal.returns-clause-answers
 returns-clause-answers c = on_ok_weaker c.push_differences.result
-    (λ e old new mark from shows may moved late old_rows new_rows.
+    (λ e old new mark from shows kept told may moved late old_rows new_rows.
     let change = c.args.change.now in
     let cuts = c.args.cuts.now.entries in
     let cuts' = c.change_cuts.new.cuts.entries in
@@ -28,7 +28,7 @@ returns-clause-answers c = on_ok_weaker c.push_differences.result
       olds = rows_of_cuts c.args.count c.args.key.now (entries_between nat_cmp (Included c.cut_before-from.result) (Included c.cut_from-to.result) c.args.cuts.now.entries);
       news = rows_of_cuts c.args.count c.args.key.now (entries_between nat_cmp (Included c.cut_before-from.result) (Included c.cut_from-to.result) c.change_cuts.new.cuts.entries);
       appended = e ∙ (ap (λ rows. c.args.out.now.items ++ differences rows c.as_slice-2.result.now) olds_are ∙ ap (λ rows. c.args.out.now.items ++ differences (rows_of_cuts c.args.count c.args.key.now (entries_between nat_cmp (Included c.cut_before-from.result) (Included c.cut_from-to.result) c.args.cuts.now.entries)) rows) news_are);
-      turned = turned_between c.args.count c.args.sums.now c.args.key.now c.args.change.now old new c.args.cuts.now.entries c.change_cuts.new.cuts.entries c.cut_before-from.result c.cut_from-to.result
-          (may_is old Rattle.std.proofs.Common.[] c.args.change.now may) moved old_rows new_rows (times_ascend c.args.cuts.now.entries c.rows_between.ensures.ordered) (times_ascend c.change_cuts.new.cuts.entries c.rows_between-2.ensures.ordered) mark from shows (c.in_ok-change_cuts.ensures old new mark from shows may moved late) first last late;
+      turned = turned_between c.args.count c.args.asked.now c.args.key.now c.args.change.now old new c.args.cuts.now.entries c.change_cuts.new.cuts.entries c.cut_before-from.result c.cut_from-to.result
+          (may_is old Rattle.std.proofs.Common.[] c.args.change.now may) moved old_rows new_rows (times_ascend c.args.cuts.now.entries c.rows_between.ensures.ordered) (times_ascend c.change_cuts.new.cuts.entries c.rows_between-2.ensures.ordered) mark from shows (c.in_ok-change_cuts.ensures old new mark from shows kept told may moved late) first last late;
     })
     c.push_differences.ensures.ok

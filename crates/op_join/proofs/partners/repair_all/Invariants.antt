@@ -1,6 +1,6 @@
 use Rattle.std.proofs.Common.{◌≡◌, ◌++◌, take, length}
 use Rattle.cedr_expr.specs.Tests.{passes}
-use Rattle.op_join.specs.Filed.{all_under}
+use Rattle.filed_rows.specs.Filed.{all_under}
 use Rattle.op_join.specs.Pairs.{all_changes}
 use Rattle.op_join.proofs.partners.repair_all.Given as goal
 

@@ -20,7 +20,7 @@ loop-row-preserved c =
     record {
       same = one_goes (scope_reaches c.args.scope c.args.time) c.args.rows.now c.loop-row.rows c.pop_passed.new.self (c.in-Some.row, c.in-Some.count) out was.same;
       tagged = record {
-        same = c.take_copies.ensures (map (with_tag tag) c.pop_passed.new.self)
+        same = c.take_copies.ensures.left (map (with_tag tag) c.pop_passed.new.self)
             (tagged_copies tag c.side_tag-tag.result c.in-Some.count c.in-Some.row c.loop-row.rows c.pop_passed.new.self c.loop-row.tags (sym c.side_tag-tag.ensures) was.tagged out.3);
       };
     }

@@ -5,7 +5,8 @@ use Rattle.cedr_expr.specs.declared.test.Test.{Test}
 use Rattle.cedr_table.specs.Operators.{CanTake, table_at, least_of}
 use Rattle.cedr_expr.specs.Tags.{left_tag, right_tag}
 use Rattle.op_join.specs.Joins.{join_of, StandsAfter, StandsOnTwo, RepairsAfter}
-use Rattle.op_join.proofs.KeepLemmas.{row_there, may_follow_kept}
+use Rattle.filed_rows.proofs.NoteLemmas.{row_there}
+use Rattle.op_join.proofs.KeepLemmas.{may_follow_kept}
 use Rattle.op_join.proofs.PortLemmas.{from_least, left_stands, left_gains, right_stands, right_gains, second_port}
 use Rattle.op_join.proofs.join.Join.answer.Goals as goal
 

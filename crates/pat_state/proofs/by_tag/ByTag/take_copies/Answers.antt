@@ -1,6 +1,4 @@
-use Rattle.std.proofs.Common.{◌≡◌, ◌<◌, ◌++◌, ◌-◌, ◌+◌, ◌∙◌, refl, subst, sym, List, replicate, ap, suc, arith}
-use Rattle.cedr_base.specs.declared.row.Row.{Row}
-use Rattle.cedr_base.specs.Rows.{count_of, SameRows}
+use Rattle.std.proofs.Common.{refl}
 use Rattle.pat_state.specs.Tags.{marked}
 use Rattle.pat_state.proofs.TagLemmas.{copy_taken}
 use Rattle.pat_state.proofs.by_tag.ByTag.take_copies.Goals as goal

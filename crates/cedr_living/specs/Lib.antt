@@ -1,0 +1,15 @@
+pub mod Fields
+pub mod Lives
+pub mod LawWords
+pub mod FieldLaws
+pub mod Counts
+pub mod CountLaws
+pub mod CompareLaws
+pub mod Pieces
+pub mod Ends
+pub mod EndLaws
+pub mod Indexes
+pub mod IndexLaws
+pub mod Bags
+pub mod BagLaws
+pub mod Outer

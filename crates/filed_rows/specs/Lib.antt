@@ -1,0 +1,3 @@
+pub mod Filed
+pub mod Ends
+pub mod Spans

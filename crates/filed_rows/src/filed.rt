@@ -1,0 +1,202 @@
+ghost use Rattle.std.specs.Prelude.{ℕ, ◌≡◌, ◌≢◌, ◌<◌, ◌++◌, ◌∷◌, [], true, IfOk, OnOk};
+ghost use Rattle.std.specs.List.{filter};
+ghost use Rattle.std.specs.BTreeMap.{IsOrdered};
+ghost use Rattle.std.specs.Ordering.{nat_cmp};
+ghost use Rattle.cedr_base.specs.declared.row.Row.{Row as RowValue};
+ghost use Rattle.cedr_base.specs.Rows.{count_of, SameRows};
+ghost use Rattle.cedr_base.specs.Changes.{puts, takes, remnant};
+ghost use Rattle.cedr_table.specs.Counted.{LacksRow, ends_after};
+ghost use Rattle.filed_rows.specs.Filed.{under, all_under};
+ghost use Rattle.filed_rows.specs.Ends.{end_row, end_rows, AreEnds};
+
+use crate::spans::Spans;
+use cedr_base::{Change, OutOfMemory, Payload, Row, Time};
+use cedr_table::Table;
+use std::alloc::Global;
+use std::collections::BTreeMap;
+use std::collections::btree_map::Entry;
+
+/// Rows by their tags. No tag stands there without a row.
+pub type ByTag = BTreeMap<u64, Spans>;
+
+/// Rows by their tags, and the ends of all of them in order of time, each with its row's tag: by these the rows that
+/// ended are found without a look at the others.
+pub struct Filed {
+    pub by_tag: ByTag,
+    pub ends: Table,
+}
+
+impl Drop for Filed {
+    fn drop(self) {
+        let Filed { by_tag: _, ends: _ } = self;
+    }
+}
+
+/// Cuts a row that is there. Where memory runs out it may be lost.
+fn cut_row(rows: &mut Spans, mut row: Row, end: Time) -> Result<(), OutOfMemory>
+    requires { 0 < count_of row rows.old }
+    ensures { OnOk result (SameRows (rows.new ++ row ∷ []) (rows.old ++ remnant row end)) }
+{
+    rows.take(&row);
+    if row.begin < end {
+        row.end = end;
+        rows.insert(row)?;
+    }
+    Ok(())
+}
+
+/// Adds a row under its tag. Where memory runs out the rows there may be lost. One search for the tag.
+fn add_under(alloc: Global, by_tag: &mut ByTag, tag: u64, row: Row) -> Result<(), OutOfMemory>
+    ensures here { OnOk result (SameRows (under by_tag.new.entries tag) (row ∷ under by_tag.old.entries tag)) }
+    ensures others { OnOk result ((q : ℕ) → q ≢ tag → under by_tag.new.entries q ≡ under by_tag.old.entries q) }
+    ensures ordered { OnOk result (IsOrdered nat_cmp by_tag.new) }
+{
+    let rows = by_tag.entry(tag)?.or_insert(Spans::new(alloc));
+    rows.insert(row)?;
+    Ok(())
+}
+
+/// Cuts a row under its tag. Where memory runs out the rows there may be lost. One search for the tag.
+fn cut_under(by_tag: &mut ByTag, tag: u64, row: Row, end: Time) -> Result<(), OutOfMemory>
+    requires { 0 < count_of row (under by_tag.old.entries tag) }
+    ensures here { OnOk result (SameRows (under by_tag.new.entries tag ++ row ∷ []) (under by_tag.old.entries tag ++ remnant row end)) }
+    ensures others { OnOk result ((q : ℕ) → q ≢ tag → under by_tag.new.entries q ≡ under by_tag.old.entries q) }
+    ensures ordered { OnOk result (IsOrdered nat_cmp by_tag.new) }
+{
+    match by_tag.entry(tag)? {
+        Entry::Occupied(mut found) => {
+            let rows = found.get_mut();
+            cut_row(rows, row, end)?;
+            if rows.is_empty() {
+                found.remove();
+            }
+            Ok(())
+        }
+        Entry::Vacant(_) => Ok(()),
+    }
+}
+
+/// Applies a change to the rows under its row's tag. Where memory runs out rows there may be lost.
+/// O(log n) comparisons.
+fn note_row(alloc: Global, by_tag: &mut ByTag, tag: u64, change: Change) -> Result<(), OutOfMemory>
+    requires { LacksRow (under by_tag.old.entries tag) change → ⊥ }
+    ensures here { OnOk result (SameRows (under by_tag.new.entries tag ++ takes change) (under by_tag.old.entries tag ++ puts change)) }
+    ensures others { OnOk result ((q : ℕ) → q ≢ tag → under by_tag.new.entries q ≡ under by_tag.old.entries q) }
+    ensures ordered { OnOk result (IsOrdered nat_cmp by_tag.new) }
+{
+    match change {
+        Change::Add(row) => add_under(alloc, by_tag, tag, row),
+        Change::Cut(row, end) => cut_under(by_tag, tag, row, end),
+    }
+}
+
+/// The end of a row, with its tag.
+fn end_row(alloc: Global, tag: u64, time: Time) -> Row
+    ensures { result ≡ end_row tag time }
+{
+    Row {
+        end: time,
+        begin: tag,
+        payload: Payload::new(alloc),
+    }
+}
+
+/// Applies a change to the ends of the rows under its row's tag. Where memory runs out an end may be lost.
+/// O(log n) comparisons.
+fn note_end(alloc: Global, ends: &mut Table, tag: u64, change: &Change) -> Result<(), OutOfMemory>
+    requires { (r : RowValue) → 0 < count_of r (takes change.now) → 0 < count_of (end_row tag r.end) ends.old }
+    ensures { OnOk result (SameRows (ends.new ++ end_rows tag (takes change.now)) (ends.old ++ end_rows tag (puts change.now))) }
+{
+    match change {
+        Change::Add(row) => ends.insert(end_row(alloc, tag, row.end)),
+        Change::Cut(row, end) => {
+            ends.take(&end_row(alloc, tag, row.end));
+            if row.begin < *end {
+                ends.insert(end_row(alloc, tag, *end))?;
+            }
+            Ok(())
+        }
+    }
+}
+
+impl Filed {
+    /// No row. It takes no memory.
+    pub fn new(alloc: Global) -> Filed
+        ensures ends { AreEnds result.by_tag.entries result.ends }
+        ensures none { (q : ℕ) → under result.by_tag.entries q ≡ [] }
+        ensures ordered { IsOrdered nat_cmp result.by_tag }
+    {
+        Filed {
+            by_tag: BTreeMap::new(alloc),
+            ends: Table::new(alloc),
+        }
+    }
+
+    /// Applies a change to the rows under its row's tag. Where memory runs out rows may be lost.
+    /// O(log n) comparisons.
+    pub fn note(&mut self, alloc: Global, tag: u64, change: Change) -> Result<(), OutOfMemory>
+        requires there { LacksRow (under self.old.by_tag.entries tag) change → ⊥ }
+        requires ends { AreEnds self.old.by_tag.entries self.old.ends }
+        ensures here { OnOk result (SameRows (under self.new.by_tag.entries tag ++ takes change) (under self.old.by_tag.entries tag ++ puts change)) }
+        ensures others { OnOk result ((q : ℕ) → q ≢ tag → under self.new.by_tag.entries q ≡ under self.old.by_tag.entries q) }
+        ensures ends { OnOk result (AreEnds self.new.by_tag.entries self.new.ends) }
+        ensures ordered { OnOk result (IsOrdered nat_cmp self.new.by_tag) }
+    {
+        note_end(alloc, &mut self.ends, tag, &change)?;
+        note_row(alloc, &mut self.by_tag, tag, change)?;
+        Ok(())
+    }
+
+    /// Forgets the rows that end at a time or before. It takes no memory. O(log n) comparisons for each of them, and a
+    /// look at the first end where there is none.
+    pub fn forget_ended(&mut self, time: Time)
+        requires ends { AreEnds self.old.by_tag.entries self.old.ends }
+        requires ordered { IsOrdered nat_cmp self.old.by_tag }
+        ensures kept { (q : ℕ) → SameRows (under self.new.by_tag.entries q) (filter (ends_after time) (under self.old.by_tag.entries q)) }
+        ensures ends { AreEnds self.new.by_tag.entries self.new.ends }
+        ensures ordered { IsOrdered nat_cmp self.new.by_tag }
+    {
+        while let Some((due, _)) = self.ends.pop_ended(time) {
+            forget_under(&mut self.by_tag, due.begin, due.end);
+        }
+    }
+}
+
+/// Forgets the rows under a tag that end at a time or before.
+fn forget_under(by_tag: &mut ByTag, tag: u64, time: Time)
+    ensures here { SameRows (under by_tag.new.entries tag) (filter (ends_after time) (under by_tag.old.entries tag)) }
+    ensures others { (q : ℕ) → q ≢ tag → under by_tag.new.entries q ≡ under by_tag.old.entries q }
+    ensures ordered { IsOrdered nat_cmp by_tag.new }
+{
+    if shorten_under(by_tag, tag, time) {
+        by_tag.remove(&tag);
+    }
+}
+
+/// The same, and says whether no row is left under the tag.
+fn shorten_under(by_tag: &mut ByTag, tag: u64, time: Time) -> bool
+    ensures here { SameRows (under by_tag.new.entries tag) (filter (ends_after time) (under by_tag.old.entries tag)) }
+    ensures others { (q : ℕ) → q ≢ tag → under by_tag.new.entries q ≡ under by_tag.old.entries q }
+    ensures emptied { result ≡ true → under by_tag.new.entries tag ≡ [] }
+    ensures ordered { IsOrdered nat_cmp by_tag.new }
+{
+    match by_tag.get_mut(&tag) {
+        Some(rows) => {
+            rows.forget_ended(time);
+            rows.is_empty()
+        }
+        None => false,
+    }
+}
+
+/// Copies of the rows under all tags.
+pub fn all_rows(alloc: Global, by_tag: &ByTag) -> Result<Vec<Row>, OutOfMemory>
+    ensures rows { IfOk result (λ rows. SameRows rows.items (all_under by_tag.now.entries)) }
+    ensures ordered { OnOk result (IsOrdered nat_cmp by_tag.now) }
+{
+    let mut rows = Vec::with_capacity(alloc, by_tag.len())?;
+    for (_, filed) in by_tag {
+        filed.push_to(&mut rows)?;
+    }
+    Ok(rows)
+}

@@ -1,0 +1,15 @@
+pub mod PartLemmas
+pub mod TurnLemmas
+pub mod StepLemmas
+pub mod RepairLemmas
+pub mod AgreeLemmas
+pub mod LongestLemmas
+pub mod AroundLemmas
+pub mod TurnedLemmas
+pub mod LifeLemmas
+pub mod RangeLemmas
+pub mod AnswerLemmas
+pub mod SideLemmas
+pub mod PortAnswers
+pub mod TrimLemmas
+pub mod RowsMade

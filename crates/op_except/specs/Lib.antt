@@ -1,0 +1,12 @@
+pub mod Parts
+pub mod SumLaws
+pub mod PartLaws
+pub mod OpenLaws
+pub mod Lives
+pub mod Around
+pub mod Steps
+pub mod Turns
+pub mod Standing
+pub mod Readings
+pub mod ExceptLaws
+pub mod Answered

@@ -1,0 +1,6 @@
+use Rattle.std.proofs.Common.{take}
+use Rattle.op_group.specs.Bags.{GoesFrom, field_lives, columns_but}
+use Rattle.op_group.proofs.bags.take_fields.Given as goal
+
+abbrev pub invariant-loop-column : goal.invariant-loop-column
+invariant-loop-column l = GoesFrom l.initial.living l.living (field_lives (columns_but l.but (take l.column-index l.columns)) l.row)

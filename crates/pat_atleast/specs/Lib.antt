@@ -1,0 +1,9 @@
+pub mod Arrangements
+pub mod AtLeasts
+pub mod Sums
+pub mod SomeLaws
+pub mod AtLeastLaws
+pub mod Crossings
+pub mod Keeping
+pub mod Finding
+pub mod Readings
