@@ -20,8 +20,8 @@ use Rattle.cedr_plan.proofs.PlaceLemmas.{sources_behind}
 use Rattle.cedr_base.specs.Messages.{changes_of}
 use Rattle.plan_answer.specs.Sources.{AreTold, file_of, source_files}
 use Rattle.cedr_text.specs.declared.event_line.Shape.{Shape}
-use Rattle.plan_threads.specs.SoFar.{IsSoFar, SourceBegan, unbroken}
-use Rattle.plan_threads.proofs.CutLemmas.{unbroken_behind}
+use Rattle.plan_report.specs.SoFar.{IsSoFar, SourceBegan, unbroken}
+use Rattle.plan_report.proofs.CutLemmas.{unbroken_behind}
 use Rattle.cedr_base.specs.declared.change.Change.{Change}
 use Rattle.cedr_worker.specs.declared.source.SourceEnd.{SourceEnd}
 use Rattle.cedr_worker.specs.declared.stop.SourceStop.{SourceStop}

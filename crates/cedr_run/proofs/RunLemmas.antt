@@ -36,10 +36,10 @@ use Rattle.plan_answer.specs.declared.faulty.FaultySource.{FaultySource}
 use Rattle.plan_answer.specs.Sources.{AreRead, AreTold, faulty_from, source_files}
 use Rattle.node_laws.proofs.Order.{one_canonical}
 use Rattle.cedr_table.specs.Operators.{Tables}
-use Rattle.plan_threads.specs.declared.report.Outcome.{Outcome as Came}
-use Rattle.plan_threads.specs.declared.report.Outcome.TheVariants as came
-use Rattle.plan_threads.specs.declared.report.Report.{Report}
-use Rattle.plan_threads.specs.Reports.{HasOutcome, IsDone}
+use Rattle.plan_report.specs.declared.report.Outcome.{Outcome as Came}
+use Rattle.plan_report.specs.declared.report.Outcome.TheVariants as came
+use Rattle.plan_report.specs.declared.report.Report.{Report}
+use Rattle.plan_report.specs.Reports.{HasOutcome, IsDone}
 use Rattle.plan_edges.specs.Wires.{carried, ports_of}
 use Rattle.cedr_worker.specs.declared.ran.Ran.{Ran}
 use Rattle.cedr_worker.specs.declared.source.SourceEnd.{SourceEnd}

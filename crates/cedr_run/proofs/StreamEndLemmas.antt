@@ -19,11 +19,11 @@ use Rattle.plan_answer.specs.Queries.{changes_text, given_text, IsStrong}
 use Rattle.cedr_plan.specs.Places.{source_count}
 use Rattle.plan_answer.specs.Answers.{tail_text}
 use Rattle.plan_answer.specs.Sources.{AreTold, source_files}
-use Rattle.plan_threads.specs.declared.report.Outcome.{Outcome as Came}
-use Rattle.plan_threads.specs.declared.report.Outcome.TheVariants as came
-use Rattle.plan_threads.specs.declared.report.Report.{Report}
-use Rattle.plan_threads.specs.Reports.{HasOutcome, IsReport}
-use Rattle.plan_threads.specs.SoFar.{IsSoFar}
+use Rattle.plan_report.specs.declared.report.Outcome.{Outcome as Came}
+use Rattle.plan_report.specs.declared.report.Outcome.TheVariants as came
+use Rattle.plan_report.specs.declared.report.Report.{Report}
+use Rattle.plan_report.specs.Reports.{HasOutcome, IsReport}
+use Rattle.plan_report.specs.SoFar.{IsSoFar}
 use Rattle.plan_edges.specs.Wires.{carried, ports_of}
 use Rattle.cedr_run.specs.declared.outcome.Outcome.{Outcome}
 use Rattle.cedr_run.specs.declared.outcome.Outcome.TheVariants as outcome

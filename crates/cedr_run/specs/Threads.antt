@@ -19,11 +19,11 @@ use Rattle.cedr_plan.specs.Places.{source_count}
 use Rattle.plan_answer.specs.Answers.{answer_text, has_memory, tail_text}
 use Rattle.plan_answer.specs.Queries.{changes_text}
 use Rattle.plan_answer.specs.Sources.{AreTold, source_files}
-use Rattle.plan_threads.specs.declared.report.Outcome.{Outcome as Came}
-use Rattle.plan_threads.specs.declared.report.Outcome.TheVariants as came
-use Rattle.plan_threads.specs.declared.report.Report.{Report}
-use Rattle.plan_threads.specs.Reports.{IsReport}
-use Rattle.plan_threads.specs.SoFar.{IsSoFar}
+use Rattle.plan_report.specs.declared.report.Outcome.{Outcome as Came}
+use Rattle.plan_report.specs.declared.report.Outcome.TheVariants as came
+use Rattle.plan_report.specs.declared.report.Report.{Report}
+use Rattle.plan_report.specs.Reports.{IsReport}
+use Rattle.plan_report.specs.SoFar.{IsSoFar}
 use Rattle.cedr_worker.specs.declared.ran.Ran.{Ran}
 use Rattle.cedr_run.specs.declared.command.Job.{Job}
 use Rattle.cedr_run.specs.declared.command.Job.TheVariants.{Run, Stream}

@@ -18,7 +18,6 @@ mod make;
 mod outcome;
 mod plan;
 mod progress;
-mod quiet;
 mod refusal;
 mod saying;
 mod script;

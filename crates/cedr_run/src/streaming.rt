@@ -14,7 +14,7 @@ use cedr_base::{Change, OutOfMemory};
 use cedr_history::Reader;
 use cedr_io::{OutsideFault, Sink, write_all};
 use plan_answer::write_changes;
-use plan_threads::Watcher;
+use plan_report::Watcher;
 use std::alloc::Global;
 use std::marker::PhantomData;
 

@@ -3,7 +3,7 @@ ghost use Rattle.std.specs.Prelude.{◌≡◌, ◌<◌, List};
 ghost use Rattle.cedr_base.specs.declared.change.Message.{Message};
 ghost use Rattle.cedr_io.specs.Counts.{last_count};
 ghost use Rattle.node_laws.specs.declared.forgotten.Forgotten.{Forgotten};
-ghost use Rattle.plan_threads.specs.declared.report.Outcome.TheVariants.{Done as CameDone};
+ghost use Rattle.plan_report.specs.declared.report.Outcome.TheVariants.{Done as CameDone};
 ghost use Rattle.cedr_run.specs.Seen.{seen_sink};
 ghost use Rattle.cedr_run.specs.Threads.{CanTell, CanTellTail, EndsRun, EndsStream, WritesRun, WritesTail, broken_off};
 ghost use Rattle.cedr_run.specs.declared.progress.Progress.TheVariants.{Whole};
@@ -15,7 +15,7 @@ use cedr_base::{Change, OutOfMemory};
 use cedr_io::Sink;
 use cedr_plan::PlanNode;
 use plan_answer::{PortForgotten, has_memory, write_report, write_tail};
-use plan_threads::Outcome as Came;
+use plan_report::Outcome as Came;
 use std::alloc::Global;
 
 /// Writes the text of a run that is done.

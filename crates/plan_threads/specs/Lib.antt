@@ -1,5 +1,2 @@
 pub mod Seats
-pub mod Watching
-pub mod Reports
-pub mod SoFar
 pub mod Rooms

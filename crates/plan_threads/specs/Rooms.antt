@@ -1,7 +1,7 @@
 -- Room for what the workers of a plan become.
 use Rattle.std.specs.Prelude.{ℕ, ◌≡◌, ◌≤◌, [], length}
 use Rattle.std.specs.Vec.{vec_capacity}
-use Rattle.plan_workers.specs.Closings.{IsDesk}
+use Rattle.plan_report.specs.Rooms.{IsReportRoom}
 use Rattle.plan_threads.specs.declared.room.Room.{Room}
 
 -- a post for each of so many workers, and lists with room for them, which are empty
@@ -9,6 +9,4 @@ pub record IsRoom {S G R : Type 0} (count : ℕ) (room : Room S G R) : Type 0 wh
   pub posts : length room.posts.items ≡ count
   pub seats : (room.seats.items ≡ []) × (count ≤ vec_capacity room.seats)
   pub joined : (room.joined.items ≡ []) × (count ≤ vec_capacity room.joined)
-  pub desk : IsDesk count room.desk
-  pub sources : (room.sources.items ≡ []) × (count ≤ vec_capacity room.sources)
-  pub faults : (room.faults.items ≡ []) × (count ≤ vec_capacity room.faults)
+  pub report : IsReportRoom count room.report

@@ -6,22 +6,13 @@
 //! from what was left of the workers and of the edges.
 #![tactic(auto)]
 
-mod concluding;
-mod outcome;
 mod playing;
 mod post;
-mod report;
-mod reporting;
 mod room;
 mod rounds;
 mod run;
 mod seat;
-mod watcher;
-mod watching;
 
-pub use plan_answer::PortForgotten;
-pub use plan_workers::NoMemory;
-pub use report::{Outcome, Report};
+pub use plan_report::{NoMemory, Outcome, PortForgotten, Report, Watcher};
 pub use run::run_threads;
 pub use seat::Started;
-pub use watcher::Watcher;

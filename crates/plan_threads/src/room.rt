@@ -6,9 +6,8 @@ use crate::post::Post;
 use crate::seat::Seat;
 use cedr_base::OutOfMemory;
 use cedr_io::{Gate, Source};
-use cedr_worker::SourceEnd;
-use plan_answer::FaultySource;
-use plan_workers::{Desk, Worker};
+use plan_report::ReportRoom;
+use plan_workers::Worker;
 use std::alloc::Global;
 use std::collections::VecDeque;
 use std::sync::atomic::AtomicU64;
@@ -20,9 +19,7 @@ pub(crate) struct Room<S: Source + Drop, G: Gate + Drop, R: Wait + Drop> {
     pub(crate) posts: VecDeque<Post<G>>,
     pub(crate) seats: Vec<Seat<S, R>>,
     pub(crate) joined: Vec<Worker<S, R>>,
-    pub(crate) desk: Desk<S, R>,
-    pub(crate) sources: Vec<SourceEnd<S>>,
-    pub(crate) faults: Vec<FaultySource>,
+    pub(crate) report: ReportRoom<S, R>,
     /// How many threads have ended.
     pub(crate) ended: Arc<AtomicU64, Global>,
 }
@@ -58,9 +55,7 @@ impl<S: Source + Drop, G: Gate + Drop, R: Wait + Drop> Room<S, G, R> {
             posts: VecDeque::from_vec(posts),
             seats: Vec::with_capacity(alloc, count)?,
             joined: Vec::with_capacity(alloc, count)?,
-            desk: Desk::new(alloc, count)?,
-            sources: Vec::with_capacity(alloc, count)?,
-            faults: Vec::with_capacity(alloc, count)?,
+            report: ReportRoom::new(alloc, count)?,
             ended,
         })
     }

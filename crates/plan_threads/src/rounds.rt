@@ -1,16 +1,14 @@
 //! Rounds over the workers that have no thread of their own.
-ghost use Rattle.std.specs.Prelude.{◌≡◌, ◌≤◌, ◌+◌, ◌++◌, ◌∷◌, [], List, true, length, IfSome, IfNone};
-ghost use Rattle.std.specs.List.{All};
+ghost use Rattle.std.specs.Prelude.{◌≡◌, ◌≤◌, ◌+◌, ◌++◌, ◌∷◌, [], List, length, IfSome, IfNone};
 ghost use Rattle.std.specs.Vec.{vec_capacity};
-ghost use Rattle.cedr_worker.specs.declared.turn.Turn.TheVariants.{Ended};
-ghost use Rattle.plan_workers.specs.Roles.{Role, AllWorkAs, HasEnded};
+ghost use Rattle.plan_workers.specs.Roles.{Role, AllWorkAs};
 ghost use Rattle.plan_threads.specs.Seats.{AllSeatAs};
 
 use crate::post::Post;
 use crate::seat::{Seat, start};
 use cedr_io::{Gate, Source};
-use cedr_worker::{Turn, rest};
-use crossbeam_utils::Backoff;
+use cedr_worker::Turn;
+use plan_report::has_ended;
 use plan_workers::Worker;
 use std::collections::VecDeque;
 use std::sync::Wait;
@@ -24,16 +22,6 @@ pub(crate) struct Round {
     pub(crate) moved: bool,
     /// Each worker that was turned has ended.
     pub(crate) ended: bool,
-}
-
-/// Whether a turn came to the end of its worker.
-fn has_ended(turn: Turn) -> bool
-    ensures { result ≡ true → turn ≡ Ended }
-{
-    match turn {
-        Turn::Ended => true,
-        Turn::Moved | Turn::Idle => false,
-    }
 }
 
 /// A turn of each worker that has no thread.
@@ -56,45 +44,6 @@ pub(crate) fn turn_here<S: Source + Drop, G: Gate, R: Wait + Drop, Q: Wait>(
         round.ended = round.ended & has_ended(turn);
     }
     round
-}
-
-/// A turn of each worker. Whether each has ended.
-fn turn_each<S: Source + Drop, G: Gate, R: Wait + Drop, Q: Wait>(
-    rt: &Q,
-    gate: &G,
-    workers: &mut Vec<Worker<S, R>>,
-) -> bool
-    requires { (roles : List Role) × AllWorkAs S.rest S.faults roles workers.old.items }
-    ensures works { (roles : List Role) → AllWorkAs S.rest S.faults roles workers.old.items → AllWorkAs S.rest S.faults roles workers.new.items }
-    ensures ended { result ≡ true → All HasEnded workers.new.items }
-{
-    let mut ended = true;
-    for i in 0..workers.len() {
-        let worker = &mut workers[i];
-        let turn = worker.turn(rt, gate);
-        ended = ended & has_ended(turn);
-    }
-    ended
-}
-
-/// Rounds of turns of all workers, until each has ended. Where each thread ran its worker to its end, one round shows it.
-pub(crate) fn turn_on<S: Source + Drop, G: Gate, R: Wait + Drop, Q: Wait + Clock>(
-    rt: &Q,
-    gate: &G,
-    workers: &mut Vec<Worker<S, R>>,
-)
-    requires { (roles : List Role) × AllWorkAs S.rest S.faults roles workers.old.items }
-    ensures works { (roles : List Role) → AllWorkAs S.rest S.faults roles workers.old.items → AllWorkAs S.rest S.faults roles workers.new.items }
-    ensures ended { All HasEnded workers.new.items }
-{
-    let backoff = Backoff::new();
-    for _ in rt.forever() {
-        if turn_each(rt, gate, workers) {
-            return;
-        }
-        rest(rt, &backoff);
-    }
-    unreachable!()
 }
 
 /// Takes the first element out, where there is one.

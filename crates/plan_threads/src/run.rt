@@ -2,18 +2,16 @@ ghost use Rattle.std.specs.Prelude.{◌≡◌, [], List, true, false, IfErr, IfO
 ghost use Rattle.cedr_base.specs.declared.change.Change.{Change};
 ghost use Rattle.cedr_plan.specs.Rules.{IsPlan};
 ghost use Rattle.cedr_plan.specs.Places.{source_count};
-ghost use Rattle.plan_threads.specs.declared.report.Outcome.TheVariants.{Done, Memory};
-ghost use Rattle.plan_threads.specs.Reports.{IsReport};
-ghost use Rattle.plan_threads.specs.SoFar.{IsSoFar};
+ghost use Rattle.plan_report.specs.declared.report.Outcome.TheVariants.{Done, Memory};
+ghost use Rattle.plan_report.specs.Reports.{IsReport};
+ghost use Rattle.plan_report.specs.SoFar.{IsSoFar};
 
 use crate::playing::play;
-use crate::report::Report;
-use crate::reporting::report_on;
 use crate::room::Room;
-use crate::watcher::Watcher;
 use cedr_io::{Gate, Source};
 use cedr_plan::Plan;
-use plan_workers::{Crew, NoMemory, close_all, new_crew};
+use plan_report::{Report, Watcher, report_run};
+use plan_workers::{Crew, NoMemory, new_crew};
 use std::alloc::Global;
 use std::snapshot::Snapshot;
 use std::sync::{Arc, Wait};
@@ -22,8 +20,8 @@ use std::time::Clock;
 
 /// Runs a plan over sources, one for each of its source nodes in order, with a thread for each worker. The watcher
 /// looks at the result while it grows, and reports it to `out`. It stands for the whole of it at
-/// [`crate::Outcome::Done`], and at any outcome for first changes of what the output gives in a partial run over what
-/// was read of the sources. Where a look lacked memory the outcome is [`crate::Outcome::Memory`].
+/// [`plan_report::Outcome::Done`], and at any outcome for first changes of what the output gives in a partial run over what
+/// was read of the sources. Where a look lacked memory the outcome is [`plan_report::Outcome::Memory`].
 ///
 /// All edges, the ends of the result and the lists for the threads are made before anything is read; where memory is lacking
 /// for them the sources are handed back. A worker whose thread is refused is turned by the caller, beside the looks of the
@@ -76,14 +74,13 @@ pub fn run_threads<
         out,
         &start,
     );
-    let closed = close_all(alloc, plan, played.workers, room.desk, records);
-    Ok(report_on(
+    Ok(report_run(
         &rt,
         alloc,
         plan,
-        closed,
-        room.sources,
-        room.faults,
+        played.workers,
+        records,
+        room.report,
         played.looks,
         reader,
         watcher,

@@ -1,2 +1,3 @@
 pub mod PlanNodes
 pub mod TwoMarks
+pub mod TwoPasses

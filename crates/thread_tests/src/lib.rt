@@ -1,4 +1,4 @@
-//! Tests of what needs threads, a clock, or a gate that holds turns: edges and the result's history, over real threads and
+//! Tests of what needs threads, a clock, or a gate that holds turns: edges, the queue of a pool's tasks and the result's history, over real threads and
 //! where what a call answers depends on what the other end did before; workers, turn by turn and beside each other; and
 //! plans whose workers run on threads of their own. There is nothing here but tests.
 #![tactic(auto)]
@@ -27,6 +27,8 @@ mod runs;
 mod sources;
 #[cfg(test)]
 mod stream;
+#[cfg(test)]
+mod tasks;
 #[cfg(test)]
 mod wires;
 #[cfg(test)]

@@ -1,4 +1,4 @@
-use Rattle.plan_threads.proofs.WatchLemmas.{reads_along}
+use Rattle.plan_report.proofs.WatchLemmas.{reads_along}
 use Rattle.plan_threads.proofs.playing.wait_for_each.Goals as goal
 
 pub returns-then-round-clause-reads : goal.returns-then-round-clause-reads

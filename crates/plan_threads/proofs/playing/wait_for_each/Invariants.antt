@@ -1,7 +1,7 @@
 use Rattle.std.proofs.Common.{◌≡◌, false, List}
 use Rattle.plan_workers.specs.Roles.{Role}
 use Rattle.plan_threads.specs.Seats.{AllSeatAs}
-use Rattle.plan_threads.specs.Watching.{IsAskedNoMore, ReadsOn, Watches}
+use Rattle.plan_report.specs.Watching.{IsAskedNoMore, ReadsOn, Watches}
 use Rattle.plan_threads.proofs.playing.wait_for_each.Given as goal
 
 abbrev pub invariant-loop : goal.invariant-loop

@@ -1,0 +1,9 @@
+pub mod RoundLemmas
+pub mod OutcomeLemmas
+pub mod WatchLemmas
+pub mod ReportLemmas
+pub mod CrewLemmas
+pub mod CutLemmas
+pub mod EchoLemmas
+pub mod CutRunLemmas
+pub mod SoFarLemmas

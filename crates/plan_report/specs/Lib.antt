@@ -1,0 +1,4 @@
+pub mod Watching
+pub mod Reports
+pub mod SoFar
+pub mod Rooms

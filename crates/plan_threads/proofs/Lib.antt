@@ -1,9 +1,0 @@
-pub mod RoundLemmas
-pub mod OutcomeLemmas
-pub mod WatchLemmas
-pub mod ReportLemmas
-pub mod RunLemmas
-pub mod CutLemmas
-pub mod EchoLemmas
-pub mod CutRunLemmas
-pub mod SoFarLemmas

@@ -1,5 +1,0 @@
-use Rattle.plan_threads.specs.Watching.{ReadsOn}
-use Rattle.plan_threads.proofs.watching.read_all.Given as goal
-
-abbrev pub invariant-loop : goal.invariant-loop
-invariant-loop g l = ReadsOn l.initial.reader l.reader

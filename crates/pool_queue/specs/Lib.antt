@@ -1,0 +1,3 @@
+pub mod Entries
+pub mod Once
+pub mod Passes
