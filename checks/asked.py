@@ -1,4 +1,5 @@
 """What a command line and its files ask for, or with which status and text they are refused."""
+import re
 from typing import NamedTuple
 
 import made
@@ -11,6 +12,8 @@ READ_FAULT = b"read fault\n"
 EMPTY = object()
 ON_SOURCES = ("serial", "run", "audit", "stream")
 ON_THREADS = ("run", "stream")
+THREADS = re.compile("[0-9]{1,2}")
+MOST_THREADS = 16
 
 
 class Asked(NamedTuple):
@@ -27,9 +30,16 @@ class Asked(NamedTuple):
     fed: list = []
 
 
+def is_pool(word: str) -> bool:
+    return THREADS.fullmatch(word) is not None and 1 <= int(word) <= MOST_THREADS
+
+
 def read(words: list, find) -> Asked:
-    """What these words ask for. `find` answers the bytes of a file, or none where it can't be read."""
+    """What these words ask for. `find` answers the bytes of a file, or none where it can't be read. A pool is asked what `run`
+    is."""
     command, *operands = words or [""]
+    if command == "pool" and len(operands) == 2 and is_pool(operands[0]):
+        return read(["run", operands[1]], find)
     if command == "make" and len(operands) == 1 and made.is_size(operands[0]):
         return Asked(command, 0, b"", made.plan(), [made.lines(int(operands[0]), source) for source in (0, 1)])
     if len(operands) != {"live": 2, **dict.fromkeys(ON_SOURCES, 1)}.get(command):

@@ -279,20 +279,33 @@ SHOWN_BEFORE = [
 
 SIZES = [("1", "rows 1 length 4"), ("2", "rows 1 length 4"), ("000001", "rows 1 length 4")]
 NO_SIZES = ["0", "000000", "0000001", "100001", "-1", "+1", "1.0", "1 ", "", "x", "0x1"]
+POOLS = ["1", "3", "16", "03"]
+NO_POOLS = ["0", "00", "17", "99", "003", "016", "-1", "+3", "3.0", "3 ", "", "x", "0x1"]
 SCRIPT_WORDS = ["live", "plan.json", "x.txt"]
 NO_COMMAND = [["run"], ["serial"], ["audit"], ["stream"], ["live"], ["make"], ["live", "plan.json"],
               ["run", "plan.json", "x"], [*SCRIPT_WORDS, "x"], ["make", "1", "1"], ["Run", "plan.json"],
               ["runs", "plan.json"], ["stream", "plan.json", ""], ["--run", "plan.json"],
-              *(["make", word] for word in NO_SIZES)]
+              *(["make", word] for word in NO_SIZES), ["pool"], ["pool", "3"], ["pool", "plan.json"],
+              ["pool", "plan.json", "3"], ["pool", "3", "plan.json", "x"], ["Pool", "3", "plan.json"],
+              ["run", "3", "plan.json"], *(["pool", word, "plan.json"] for word in NO_POOLS)]
+
+
+def asking(name: str, command: str):
+    """The words that ask a case, each with its name: those of its command, and where that is `run` those of pools."""
+    yield name, [command, "plan.json"]
+    for threads in POOLS if command == "run" else []:
+        yield f"{name}, by pool {threads}", ["pool", threads, "plan.json"]
 
 
 def all_cases():
     for name, command, data, sources, out in ANSWERED:
-        yield NetworkCase(name, files_of(data, sources), [command, "plan.json"], 0, lines(out), b"")
+        for asked_as, words in asking(name, command):
+            yield NetworkCase(asked_as, files_of(data, sources), words, 0, lines(out), b"")
     for name, data, script, out in SHOWN:
         yield NetworkCase(name, {"plan.json": data, "x.txt": lines(script)}, SCRIPT_WORDS, 0, lines(out), b"")
     for name, command, data, sources, err in REFUSED:
-        yield NetworkCase(name, files_of(data, sources), [command, "plan.json"], 3, b"", lines(err))
+        for asked_as, words in asking(name, command):
+            yield NetworkCase(asked_as, files_of(data, sources), words, 3, b"", lines(err))
     for name, script, out, told in SHOWN_BEFORE:
         yield NetworkCase(name, {"plan.json": passing(MIDDLE), "x.txt": lines(script)}, SCRIPT_WORDS, 3,
                           lines(out), lines(f"events x.txt line {told}"))
@@ -306,15 +319,16 @@ def all_cases():
 def unread():
     good, bad = passing(MIDDLE), passing('{"block":9,"memory":5}')
     fault, told = b"read fault\n", b"plan fault 7 node 2\n"
-    for command in ("serial", "run", "audit", "stream"):
-        yield NetworkCase(f"{command} without a plan", {}, [command, "none.json"], 4, b"", fault)
+    for command in ("serial", "run", "audit", "stream", "pool 3"):
+        words = command.split()
+        yield NetworkCase(f"{command} without a plan", {}, [*words, "none.json"], 4, b"", fault)
         yield NetworkCase(f"{command} without a source", {"plan.json": good.replace(b"s.csv", b"none.csv")},
-                          [command, "plan.json"], 4, b"", fault)
+                          [*words, "plan.json"], 4, b"", fault)
         yield NetworkCase(f"{command} with a faulty plan and without its source",
-                          {"plan.json": bad.replace(b"s.csv", b"none.csv")}, [command, "plan.json"], 2, b"", told)
+                          {"plan.json": bad.replace(b"s.csv", b"none.csv")}, [*words, "plan.json"], 2, b"", told)
         yield NetworkCase(f"{command} with a faulty source and without the other",
                           {"plan.json": UNION.replace(b"v.csv", b"none.csv"), "u.csv": b"+,1,5,4,a\n"},
-                          [command, "plan.json"], 4, b"", fault)
+                          [*words, "plan.json"], 4, b"", fault)
     yield NetworkCase("live without a script", {"plan.json": good}, ["live", "plan.json", "none.txt"], 4, b"", fault)
     yield NetworkCase("live without a plan", {"x.txt": b"?\n"}, ["live", "none.json", "x.txt"], 4, b"", fault)
     yield NetworkCase("live with a faulty plan", {"plan.json": bad}, ["live", "plan.json", "none.txt"], 2, b"", told)

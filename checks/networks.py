@@ -30,6 +30,7 @@ from program import ROOT, Check, built_program
 
 PLANS, SCRIPTS, FAULTY_PLANS, FAULTY_SCRIPTS, HISTORIES, ORDERS = 2_000, 500, 150, 50, 15, 20
 ODD = 0.1
+POOLS = ("1", "2", "4")
 SIZES = [3, 16, 40]
 
 
@@ -82,13 +83,13 @@ def seed_name(seed: int, odd: float) -> str:
 
 
 def check_plans(check: NetworkCheck, seeds: range, odd: float) -> Counter:
-    """Compares the four commands on random plans, and answers how many had which answer of `serial`."""
+    """Compares the four commands and pools on random plans, and answers how many had which answer of `serial`."""
     kinds = Counter()
     for seed in seeds:
         files = random_networks.random_network(random.Random(seed), odd)
         read = asked.read(["serial", "plan.json"], files.get)
-        for command in asked.ON_SOURCES:
-            words = [command, "plan.json"]
+        pools = [("run", ["pool", threads, "plan.json"]) for threads in POOLS]
+        for command, words in [*((command, [command, "plan.json"]) for command in asked.ON_SOURCES), *pools]:
             out = check_asked(check, seed_name(seed, odd), files, words, read._replace(command=command))
             kinds["late"] += command == "serial" and b",late," in out
             kinds["orphans"] += command == "serial" and b",orphan," in out
@@ -134,9 +135,10 @@ def check_full_device(check: NetworkCheck) -> int:
     faulty = network_cases.files_of(network_cases.passing('"strong"'), {"s": "x"})
     script = {**rows, "x.txt": b"?\n"}
     refused, done, told = (5, b"", b"write fault\n"), (0, b"", b""), (3, b"", b"events s line 1 fault 2\n")
-    table = [(rows, [command, "plan.json"], refused) for command in asked.ON_SOURCES]
-    table += [(none, [command, "plan.json"], done) for command in ("serial", "run", "stream")]
-    table += [(faulty, [command, "plan.json"], told) for command in asked.ON_SOURCES]
+    commands = [*([command] for command in asked.ON_SOURCES), ["pool", "3"]]
+    table = [(rows, [*words, "plan.json"], refused) for words in commands]
+    table += [(none, [*words, "plan.json"], done) for words in commands if words != ["audit"]]
+    table += [(faulty, [*words, "plan.json"], told) for words in commands]
     table += [(none, ["audit", "plan.json"], refused), (script, SCRIPT_WORDS, refused), ({}, ["make", "1"], refused)]
     with open("/dev/full", "wb") as full:
         for files, words, expected in table:
@@ -150,15 +152,16 @@ def check_refused_reads(check: NetworkCheck) -> int:
     files = {"plan.json": data, "u.csv": b"+,1,1,3,b\n=,50\n"}
     write_files(check.folder, files)
     try:
-        for command in asked.ON_SOURCES:
-            status, out, err = terminal.refused_read(check.program, check.folder, [command, "plan.json"])
+        for command in (*asked.ON_SOURCES, "pool 3"):
+            words = [*command.split(), "plan.json"]
+            status, out, err = terminal.refused_read(check.program, check.folder, words)
             front = out if command == "stream" and b"+,1,2,a\n+,1,3,b\n".startswith(out) else b""
             expected = 4, front, b"read fault\n"
             check.compare(f"{command}, a read that fails in the middle", files, expected, (status, out, err))
     except terminal.NoTerminal as reason:
         print(f"networks: reads that fail in the middle are skipped: there is no terminal ({reason})")
         return 0
-    return len(asked.ON_SOURCES)
+    return len(asked.ON_SOURCES) + 1
 
 
 def check_pipes(check: NetworkCheck) -> int:
@@ -197,7 +200,7 @@ def check_seeds(check: NetworkCheck, plans: range, scripts: range, odd_plans: ra
     kinds, _ = check_plans(check, plans, 0), check_scripts(check, scripts, 0)
     odd_kinds, refused = check_plans(check, odd_plans, ODD), check_scripts(check, odd_scripts, ODD)
     check_orders(check, histories)
-    return (f"{len(plans)} random plans by four commands ({kinds['late']} with late changes, {kinds['orphans']} with "
+    return (f"{len(plans)} random plans by four commands and {len(POOLS)} pools ({kinds['late']} with late changes, {kinds['orphans']} with "
             f"orphans), {len(scripts)} scripts, {len(odd_plans)} plans with odd lines ({odd_kinds['refused']} refused, "
             f"{odd_kinds['several']} of them for several sources), {len(odd_scripts)} scripts with odd lines "
             f"({refused} refused), {len(histories)} histories in {ORDERS} orders")

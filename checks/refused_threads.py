@@ -1,10 +1,10 @@
 #!/usr/bin/env python3
-"""`cedr run` gives the same bytes where all of its threads are refused, where some are, and where none is, and the changes of
-`cedr stream` lead to them.
+"""`cedr run` and `cedr pool` give the same bytes where all of their threads are refused, where some are, and where none is, and
+the changes of `cedr stream` lead to them.
 
-Each thread asks for 8 MiB of addresses, and a plan's run for one thread a node. The limit on addresses that the program is run
-under leaves room for none, for some, or for all of the seven threads of `examples/failed_restarts.json`, whose rows are those
-that README.md shows.
+Each thread asks for 8 MiB of addresses, and a plan's run for one thread a node, or a pool for as many as it has. The limit on
+addresses that the program is run under leaves room for none, for some, or for all of the seven threads of
+`examples/failed_restarts.json`, whose rows are those that README.md shows.
 """
 import os
 import resource
@@ -26,14 +26,14 @@ LIMITS = [8_000, 12_000, 20_000, 30_000, 40_000, 50_000, 60_000, 70_000, None]
 TIMES = 20
 
 
-def run(command, limit):
+def run(limit, *words):
     """The status and what the program wrote under this limit."""
 
     def under():
         if limit is not None:
             resource.setrlimit(resource.RLIMIT_AS, (limit * 1024, limit * 1024))
 
-    words = [PROGRAM, command, "failed_restarts.json"]
+    words = [PROGRAM, *words, "failed_restarts.json"]
     ran = subprocess.run(words, cwd=os.path.join(TOP, "examples"), capture_output=True, timeout=60, preexec_fn=under)
     return ran.returncode, ran.stdout, ran.stderr
 
@@ -50,14 +50,16 @@ def main():
     wrong = 0
     for limit in LIMITS:
         for _ in range(TIMES):
-            told, streamed = run("run", limit), run("stream", limit)
-            if told != (0, ROWS, b""):
-                wrong += 1
-                print(f"refused_threads: run under {limit} kilobytes of addresses: {told}")
+            for words in ("run",), ("pool", "4"):
+                told = run(limit, *words)
+                if told != (0, ROWS, b""):
+                    wrong += 1
+                    print(f"refused_threads: {words[0]} under {limit} kilobytes of addresses: {told}")
+            streamed = run(limit, "stream")
             if streamed[0] or streamed[2] or not leads_to_rows(streamed[1]):
                 wrong += 1
                 print(f"refused_threads: stream under {limit} kilobytes of addresses: {streamed}")
-    print(f"refused_threads: {len(LIMITS)} limits, each {TIMES} times by run and stream: {wrong} wrong")
+    print(f"refused_threads: {len(LIMITS)} limits, each {TIMES} times by run, pool and stream: {wrong} wrong")
     return 1 if wrong else 0
 
 

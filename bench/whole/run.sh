@@ -1,8 +1,8 @@
 #!/usr/bin/env bash
 # Times the built program on made files, beside plain programs that do the same, and prints one table: wall time and
 # processor time in seconds, the peak of memory in MB, and the wall time in those of the program baseline.rs, which is
-# written by hand and proves nothing. What is compared writes the same bytes, or this ends with status 1. Each figure is
-# of the quickest of RUNS runs.
+# written by hand and proves nothing. A plan is answered by `serial`, `run` and `pool 4`. What is compared writes the same
+# bytes, or this ends with status 1. Each figure is of the quickest of RUNS runs.
 #
 #   history         an event file of 2^26 bytes; beside `sort`, by keys and of whole lines, and `wc -l`
 #   revised         an event file of 2^26 bytes of which every fourth line is a revision; beside the file without these
@@ -12,6 +12,8 @@
 #   unless          an event of the one, where within 100 no event of the other of the same machine begins
 #   keyed           the join with ten events a machine in each source
 #   chain           one source of SIZE events through 40 selects
+#   wide            a plan of 64 nodes: eight sources of SIZE events each, joined two and two by machine, each join through
+#                   selects to counts and sums, and a union of the four
 #   peaks           one source of twice SIZE events: counts, sums, and least and greatest values by machine; beside the
 #                   same with counts and sums alone (sums)
 #   atleast         events of two of three sources of SIZE events each, of the same machine, within 10 of each other in any
@@ -26,10 +28,11 @@
 set -eu
 here=$(cd "$(dirname "$0")" && pwd)
 program=$here/../../crates/cedr/out/cedr
+threads=4
 size=${1:-100000}
 runs=${2:-3}
 if [ $# -gt 2 ]; then shift 2; workloads=("$@"); else
-  workloads=(history revised join join_group sequence unless keyed chain peaks atleast except make)
+  workloads=(history revised join join_group sequence unless keyed chain wide peaks atleast except make)
 fi
 if ! [ -x "$program" ]; then echo "build the program first: $program isn't there"; exit 2; fi
 folder=$(mktemp -d)
@@ -85,6 +88,13 @@ two_sources() {
   python3 "$here/events.py" "$size" 2 "$1" > b.csv
 }
 
+# by_cedr PLAN: times the commands that answer a plan
+by_cedr() {
+  timed serial "$program" serial "$1.json"
+  timed run "$program" run "$1.json"
+  timed pool "$program" pool "$threads" "$1.json"
+}
+
 python3 "$here/plans.py" .
 printf "%-11s %-10s %8s %9s %8s %7s\n" workload program wall processor MB "x hand"
 for workload in "${workloads[@]}"; do
@@ -118,14 +128,23 @@ for workload in "${workloads[@]}"; do
         beside make make baseline_ran
       fi
       ;;
+    wide)
+      rm -f baseline_ran*
+      seed=1
+      for source in a b c d e f g h; do
+        python3 "$here/events.py" "$size" $seed > "$source.csv"
+        seed=$((seed + 1))
+      done
+      by_cedr wide
+      beside wide serial run pool
+      ;;
     peaks)
       python3 "$here/events.py" $((2 * size)) 1 > a.csv
       for plan in sums peaks; do
         by_hand "$plan" a.csv
-        timed serial "$program" serial "$plan.json"
-        timed run "$program" run "$plan.json"
+        by_cedr "$plan"
         if [ -n "$sqlite" ]; then timed SQLite python3 "$here/on_sqlite.py" "$plan"; fi
-        beside "$plan" serial run baseline_ran SQLite
+        beside "$plan" serial run pool baseline_ran SQLite
       done
       ;;
     atleast|except)
@@ -137,10 +156,9 @@ for workload in "${workloads[@]}"; do
         files=(a.csv b.csv)
         if [ "$plan" = atleast ]; then files+=(c.csv); fi
         by_hand "$plan" "${files[@]}"
-        timed serial "$program" serial "$plan.json"
-        timed run "$program" run "$plan.json"
+        by_cedr "$plan"
         if [ -n "$sqlite" ]; then timed SQLite python3 "$here/on_sqlite.py" "$plan"; fi
-        beside "$plan" serial run baseline_ran SQLite
+        beside "$plan" serial run pool baseline_ran SQLite
       done
       ;;
     *)
@@ -151,10 +169,9 @@ for workload in "${workloads[@]}"; do
       files=(a.csv b.csv)
       if [ "$workload" = chain ]; then files=(a.csv); fi
       by_hand "$plan" "${files[@]}"
-      timed serial "$program" serial "$plan.json"
-      timed run "$program" run "$plan.json"
+      by_cedr "$plan"
       if [ -n "$sqlite" ] && [[ $workload = join* ]]; then timed SQLite python3 "$here/on_sqlite.py" "$plan"; fi
-      beside "$workload" serial run baseline_ran SQLite
+      beside "$workload" serial run pool baseline_ran SQLite
       ;;
   esac
 done

@@ -19,6 +19,9 @@ cedr run PLAN             cedr run plan.json
 cedr stream PLAN          cedr stream plan.json
     writes the changes of the answer as they come: an added row after +, and after - a
     row that ends earlier, with its new end in front.
+cedr pool N PLAN          cedr pool 4 plan.json
+    writes what run writes, with N threads for all nodes, N from 1 to 16, where run has one
+    for each node: for a plan of more nodes than the machine has processors.
 cedr live PLAN SCRIPT     cedr live plan.json script.txt
     reads no event file. Each line of the script is an event line after the name of its
     source and a comma, or ? alone, at which the rows so far are written, and then up to
@@ -98,7 +101,7 @@ fn words(rt: &HostRuntime) -> io::Result<Vec<String>> {
 
 /// Carries out the command that the words name. `threads` is the runtime again: only `main` can hand it on as what may wait
 /// and start threads.
-fn answer<R: Threads + Wait + Clock + Copy + Drop + Send + 'static>(
+fn answer<R: Threads + Wait + Clock + Copy + Drop + Send + Sync + 'static>(
     rt: &HostRuntime,
     threads: R,
     words: &[String],

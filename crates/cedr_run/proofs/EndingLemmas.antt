@@ -16,7 +16,7 @@ use Rattle.plan_serial.specs.Rounds.{ByLine, all_messages}
 use Rattle.plan_serial.specs.Feeding.{AnswersInRounds}
 use Rattle.plan_serial.specs.Sources.{AreReadByLine}
 use Rattle.cedr_run.specs.declared.command.Job.{Job}
-use Rattle.cedr_run.specs.declared.command.Job.TheVariants.{History, Check, Serial, Run, Stream, Audit, Live, Make}
+use Rattle.cedr_run.specs.declared.command.Job.TheVariants.{History, Check, Serial, Run, Pool, Stream, Audit, Live, Make}
 use Rattle.cedr_run.specs.declared.outcome.Outcome.{Outcome}
 use Rattle.cedr_run.specs.declared.outcome.Outcome.TheVariants as outcome
 use Rattle.cedr_run.specs.declared.status.Status.{Status}
@@ -130,40 +130,41 @@ told_same before after told [] same h = tt
 told_same before after told (name ∷ names) same h = (same name ∙ h.0, told_same before after told names same h.1)
 
 -- what holds of each command that reads sources
-by_job : (P : Job → Type 0) (job : Job) → ReadsSources job → P Serial → P Run → P Audit → P Stream → P job
-by_job P Serial reads serial run audit stream = serial
-by_job P Run reads serial run audit stream = run
-by_job P Audit reads serial run audit stream = audit
-by_job P Stream reads serial run audit stream = stream
-by_job P History reads serial run audit stream = absurd reads
-by_job P Check reads serial run audit stream = absurd reads
-by_job P Live reads serial run audit stream = absurd reads
-by_job P (Make n) reads serial run audit stream = absurd reads
+by_job : (P : Job → Type 0) (job : Job) → ReadsSources job → P Serial → P Run → ((n : ℕ) → P (Pool n)) → P Audit → P Stream → P job
+by_job P Serial reads serial run pool audit stream = serial
+by_job P Run reads serial run pool audit stream = run
+by_job P (Pool n) reads serial run pool audit stream = pool n
+by_job P Audit reads serial run pool audit stream = audit
+by_job P Stream reads serial run pool audit stream = stream
+by_job P History reads serial run pool audit stream = absurd reads
+by_job P Check reads serial run pool audit stream = absurd reads
+by_job P Live reads serial run pool audit stream = absurd reads
+by_job P (Make n) reads serial run pool audit stream = absurd reads
 
 pub named_one : (job : Job) (content : List ℕ → Option (List ℕ)) (told : List ℕ → List ℕ) (file script : List ℕ) → ReadsSources job → AreTold content told (named_files (record { job = job; file = file; script = script })) → AreTold content told (file ∷ [])
 named_one job content told file script reads =
-    by_job (λ (job : Job). AreTold content told (named_files (record { job = job; file = file; script = script })) → AreTold content told (file ∷ [])) job reads (λ h. h) (λ h. h) (λ h. h) (λ h. h)
+    by_job (λ (job : Job). AreTold content told (named_files (record { job = job; file = file; script = script })) → AreTold content told (file ∷ [])) job reads (λ h. h) (λ h. h) (λ n h. h) (λ h. h) (λ h. h)
 
 no_plan_of : (job : Job) (told : List ℕ → List ℕ) (file script : List ℕ) (kind : PlanKind) (node : ℕ) → ReadsSources job → IsNoPlan (told file) kind node → RefusesPlan told (record { job = job; file = file; script = script }) kind node
-no_plan_of job told file script kind node reads h = by_job (λ (job : Job). RefusesPlan told (record { job = job; file = file; script = script }) kind node) job reads h h h h
+no_plan_of job told file script kind node reads h = by_job (λ (job : Job). RefusesPlan told (record { job = job; file = file; script = script }) kind node) job reads h h (λ n. h) h h
 
 pub refuses_of : (job : Job) (content : List ℕ → Option (List ℕ)) (told : List ℕ → List ℕ) (file script said : List ℕ) → ReadsSources job → OfPlan content told file (λ nodes. RefusesSources told nodes said) → Refuses content told (record { job = job; file = file; script = script }) [] said
-refuses_of job content told file script said reads h = by_job (λ (job : Job). Refuses content told (record { job = job; file = file; script = script }) [] said) job reads (refl, h) (refl, h) (refl, h) (record { nodes = h.nodes; plan = h.plan; holding = λ known. (h.holding known, inl refl) })
+refuses_of job content told file script said reads h = by_job (λ (job : Job). Refuses content told (record { job = job; file = file; script = script }) [] said) job reads (refl, h) (refl, h) (λ n. (refl, h)) (refl, h) (record { nodes = h.nodes; plan = h.plan; holding = λ known. (h.holding known, inl refl) })
 
 pub gives_of : (job : Job) (content : List ℕ → Option (List ℕ)) (told : List ℕ → List ℕ) (file script text : List ℕ) → ReadsSources job → OfPlan content told file (λ nodes. GivesPlan job told nodes text) → Gives content told (record { job = job; file = file; script = script }) text
 gives_of job content told file script text reads =
-    by_job (λ (job : Job). OfPlan content told file (λ nodes. GivesPlan job told nodes text) → Gives content told (record { job = job; file = file; script = script }) text) job reads (λ h. h) (λ h. h) (λ h. h) (λ h. h)
+    by_job (λ (job : Job). OfPlan content told file (λ nodes. GivesPlan job told nodes text) → Gives content told (record { job = job; file = file; script = script }) text) job reads (λ h. h) (λ h. h) (λ n h. h) (λ h. h) (λ h. h)
 
 pub begins_of : (job : Job) (content : List ℕ → Option (List ℕ)) (told : List ℕ → List ℕ) (file script text : List ℕ) → ReadsSources job → OfPlan content told file (λ nodes. BeginsPlan job told nodes text) → Begins content told (record { job = job; file = file; script = script }) text
 begins_of job content told file script text reads =
-    by_job (λ (job : Job). OfPlan content told file (λ nodes. BeginsPlan job told nodes text) → Begins content told (record { job = job; file = file; script = script }) text) job reads (λ h. h) (λ h. h) (λ h. h) (λ h. h)
+    by_job (λ (job : Job). OfPlan content told file (λ nodes. BeginsPlan job told nodes text) → Begins content told (record { job = job; file = file; script = script }) text) job reads (λ h. h) (λ h. h) (λ n h. h) (λ h. h) (λ h. h)
 
 -- a command that reads sources may have asked for its plan alone, or for nothing
 pub plan_asked : (job : Job) (files files' : FilesSeen) (file script : List ℕ) → ReadsSources job → AsksFirst files.asked files'.asked (file ∷ []) → AsksOnly (record { job = job; file = file; script = script }) files files'
-plan_asked job files files' file script reads h = by_job (λ (job : Job). AsksOnly (record { job = job; file = file; script = script }) files files') job reads (inl h) (inl h) (inl h) (inl h)
+plan_asked job files files' file script reads h = by_job (λ (job : Job). AsksOnly (record { job = job; file = file; script = script }) files files') job reads (inl h) (inl h) (λ n. inl h) (inl h) (inl h)
 
 asks_plan : (job : Job) (files files' : FilesSeen) (file script : List ℕ) → ReadsSources job → AsksPlan files files' file → AsksOnly (record { job = job; file = file; script = script }) files files'
-asks_plan job files files' file script reads h = by_job (λ (job : Job). AsksOnly (record { job = job; file = file; script = script }) files files') job reads (inr h) (inr h) (inr h) (inr h)
+asks_plan job files files' file script reads h = by_job (λ (job : Job). AsksOnly (record { job = job; file = file; script = script }) files files') job reads (inr h) (inr h) (λ n. inr h) (inr h) (inr h)
 
 -- what accepted sources have
 abbrev pub AcceptedLeft : (List ℕ → List ℕ) → List PlanNode → Lists → Type 0
@@ -248,10 +249,11 @@ ends_weaker texts others less nodes left out out' (outcome.Events said) h = absu
 ends_weaker texts others less nodes left out out' (outcome.BadPlan kind node) h = absurd h
 ends_weaker texts others less nodes left out out' outcome.Read h = absurd h
 
--- what came in rounds is what `serial` gives, and so what `run` may give
+-- what came in rounds is what `serial` gives, and so what `run` and `pool` may give
 pub ends_in_turns : (job : Job) → ReadsSources job → job ≢ Stream → job ≢ Audit → (nodes : List PlanNode) (left : ByLine) (out out' : SinkSeen) (o : Outcome) → EndsWith (AnswersInTurns false) (AnswersInTurns false) nodes left out out' o → EndsSources job nodes left out out' o
 ends_in_turns Serial reads other unasked nodes left out out' o h = h
 ends_in_turns Run reads other unasked nodes left out out' o h = ends_weaker (AnswersInTurns false) (AnswersQuery false) (λ told nodes text answers. answers.query) nodes left out out' o h
+ends_in_turns (Pool n) reads other unasked nodes left out out' o h = ends_weaker (AnswersInTurns false) (AnswersQuery false) (λ told nodes text answers. answers.query) nodes left out out' o h
 ends_in_turns Audit reads other unasked nodes left out out' o h = absurd (unasked refl)
 ends_in_turns Stream reads other unasked nodes left out out' o h = absurd (other refl)
 ends_in_turns History reads other unasked nodes left out out' o h = absurd reads

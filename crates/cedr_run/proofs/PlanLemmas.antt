@@ -1,4 +1,4 @@
--- How `run` and `stream` end, by how the run of their plan ends.
+-- How `run`, `stream` and `pool` end, by how the run of their plan ends.
 use Rattle.std.proofs.Common.{◌≡◌, ◌≢◌, ℕ, ◌⊎◌, inl, inr, List, [], ◌++◌, false, length, take, Option, None, Some, Err, refl, ap, sym, ◌∙◌, subst, arith}
 use Rattle.std.specs.Io.KnownBytes.{Appends, Keeps}
 use Rattle.std.proofs.lemmas.List.{append-nil, take_all}
@@ -8,7 +8,7 @@ use Rattle.plan_answer.specs.Sources.{AreTold, AsksFirst, source_files}
 use Rattle.plan_edges.specs.Wires.{carried, ports_of}
 use Rattle.cedr_worker.specs.declared.ran.Ran.{Ran}
 use Rattle.cedr_run.specs.declared.command.Job.{Job}
-use Rattle.cedr_run.specs.declared.command.Job.TheVariants.{History, Check, Serial, Run, Stream, Audit, Live, Make}
+use Rattle.cedr_run.specs.declared.command.Job.TheVariants.{History, Check, Serial, Run, Pool, Stream, Audit, Live, Make}
 use Rattle.cedr_run.specs.declared.outcome.Outcome.{Outcome}
 use Rattle.cedr_run.specs.declared.outcome.Outcome.TheVariants as outcome
 use Rattle.cedr_run.specs.declared.status.Status.{Status}
@@ -52,32 +52,34 @@ stream_changes told nodes edges ran text answers = record {
 
 -- ---- either way
 
--- what `run` and `stream` have, each of the two commands has
-by_threaded : (P : Job → Type 0) (job : Job) → IsThreaded job → P Run → P Stream → P job
-by_threaded P Run is run stream = run
-by_threaded P Stream is run stream = stream
-by_threaded P History is run stream = absurd is
-by_threaded P Check is run stream = absurd is
-by_threaded P Serial is run stream = absurd is
-by_threaded P Audit is run stream = absurd is
-by_threaded P Live is run stream = absurd is
-by_threaded P (Make n) is run stream = absurd is
+-- what `run`, `pool` and `stream` have, each of the three commands has
+pub by_threaded : (P : Job → Type 0) (job : Job) → IsThreaded job → P Run → ((n : ℕ) → P (Pool n)) → P Stream → P job
+by_threaded P Run is run pool stream = run
+by_threaded P (Pool n) is run pool stream = pool n
+by_threaded P Stream is run pool stream = stream
+by_threaded P History is run pool stream = absurd is
+by_threaded P Check is run pool stream = absurd is
+by_threaded P Serial is run pool stream = absurd is
+by_threaded P Audit is run pool stream = absurd is
+by_threaded P Live is run pool stream = absurd is
+by_threaded P (Make n) is run pool stream = absurd is
 
--- the one that isn't `stream` is `run`
-pub by_run : (P : Job → Type 0) (job : Job) → IsThreaded job → job ≢ Stream → P Run → P job
-by_run P job is other run = by_threaded (λ (job : Job). job ≢ Stream → P job) job is (λ _. run) (λ no. absurd (no refl)) other
+-- what is written at the end of a run is what a command answers that isn't `stream`
+pub answers_at_end : (job : Job) → IsThreaded job → job ≢ Stream → (told : List ℕ → List ℕ) (nodes : List PlanNode) (edges : List Carried) (ran : List Ran) (text : List ℕ) → AnswersRun told nodes edges ran text → AnswersBy job told nodes edges ran text × BeginsBy job told nodes edges ran text
+answers_at_end job is other told nodes edges ran text answers =
+    by_threaded (λ (job : Job). job ≢ Stream → AnswersBy job told nodes edges ran text × BeginsBy job told nodes edges ran text) job is (λ _. (answers, answers)) (λ n _. (answers, answers)) (λ no. absurd (no refl)) other
 
 -- what the command gives
 answers_as : (job : Job) → IsThreaded job → (told : List ℕ → List ℕ) (nodes : List PlanNode) (edges : List Carried) (ran : List Ran) (text : List ℕ) → AnswersBy job told nodes edges ran text → GivesPlan job told nodes text
-answers_as job is told nodes edges ran text = by_threaded (λ (job : Job). AnswersBy job told nodes edges ran text → GivesPlan job told nodes text) job is (run_query told nodes edges ran text) (stream_changes told nodes edges ran text)
+answers_as job is told nodes edges ran text = by_threaded (λ (job : Job). AnswersBy job told nodes edges ran text → GivesPlan job told nodes text) job is (run_query told nodes edges ran text) (λ n. run_query told nodes edges ran text) (stream_changes told nodes edges ran text)
 
 -- and of which a front may be written
 begins_as : (job : Job) → IsThreaded job → (told : List ℕ → List ℕ) (nodes : List PlanNode) (edges : List Carried) (ran : List Ran) (text : List ℕ) → BeginsBy job told nodes edges ran text → BeginsPlan job told nodes text
-begins_as job is told nodes edges ran text = by_threaded (λ (job : Job). BeginsBy job told nodes edges ran text → BeginsPlan job told nodes text) job is (run_query told nodes edges ran text) (λ h. h)
+begins_as job is told nodes edges ran text = by_threaded (λ (job : Job). BeginsBy job told nodes edges ran text → BeginsPlan job told nodes text) job is (run_query told nodes edges ran text) (λ n. run_query told nodes edges ran text) (λ h. h)
 
 -- the command reads the sources of its plan
 pub reads_by : (job : Job) → IsThreaded job → ReadsSources job
-reads_by job is = by_threaded ReadsSources job is tt tt
+reads_by job is = by_threaded ReadsSources job is tt (λ n. tt) tt
 
 -- nothing was written, where the rows are written at the end
 silent_as : (job : Job) (content : Contents) (nodes : List PlanNode) (out out' : SinkSeen) → IsSilentBy job content nodes out out' → job ≢ Live → job ≢ Stream → Keeps out.written out'.written
@@ -160,7 +162,7 @@ module _ (job : Job) (is : IsThreaded job) (files now files' : FilesSeen) (file 
 pub has_run_by : (job : Job) → IsThreaded job → (files : FilesSeen) (file script : List ℕ) (out out' : SinkSeen) (s : Status) (edges : List Carried) (ran : List Ran) → (s ≡ status.Done → WroteRun files (record { job = job; file = file; script = script }) out out' edges ran)
     → HasRun (Some (record { job = job; file = file; script = script })) files out out' s edges ran
 has_run_by job is files file script out out' s edges ran =
-    by_threaded (λ (job : Job). (s ≡ status.Done → WroteRun files (record { job = job; file = file; script = script }) out out' edges ran) → HasRun (Some (record { job = job; file = file; script = script })) files out out' s edges ran) job is (λ wrote. wrote) (λ wrote. wrote)
+    by_threaded (λ (job : Job). (s ≡ status.Done → WroteRun files (record { job = job; file = file; script = script }) out out' edges ran) → HasRun (Some (record { job = job; file = file; script = script })) files out out' s edges ran) job is (λ wrote. wrote) (λ n wrote. wrote) (λ wrote. wrote)
 
 -- ---- the files as they were before
 

@@ -1,5 +1,5 @@
 -- How a run on threads ends, by what is reported of it.
-use Rattle.std.proofs.Common.{◌≡◌, ℕ, zero, suc, ◌+◌, ◌<◌, ◌≤◌, inl, inr, List, [], ◌∷◌, ◌++◌, Bool, true, false, length, map, get_or, refl, ap, sym, ◌∙◌, subst, arith}
+use Rattle.std.proofs.Common.{◌≡◌, ◌≢◌, ℕ, zero, suc, ◌+◌, ◌<◌, ◌≤◌, inl, inr, List, [], ◌∷◌, ◌++◌, Bool, true, false, length, map, get_or, refl, ap, sym, ◌∙◌, subst, arith}
 use Rattle.std.specs.Prelude.{Option, None, Some, ◌||◌, cond, if◌then◌else◌}
 use Rattle.std.specs.Io.KnownBytes.{Keeps}
 use Rattle.std.specs.List.{list_any}
@@ -47,15 +47,16 @@ use Rattle.cedr_worker.specs.declared.stop.SourceStop.{SourceStop}
 use Rattle.cedr_worker.specs.declared.stop.SourceStop.TheVariants as stop
 use Rattle.cedr_worker.specs.Stops.{StoppedAs, meant}
 use Rattle.cedr_run.specs.declared.command.Job.{Job}
-use Rattle.cedr_run.specs.declared.command.Job.TheVariants.{Run}
+use Rattle.cedr_run.specs.declared.command.Job.TheVariants.{Stream}
 use Rattle.cedr_run.specs.declared.outcome.Outcome.{Outcome}
 use Rattle.cedr_run.specs.declared.outcome.Outcome.TheVariants as outcome
 use Rattle.cedr_run.specs.Answers.{AnswersRun, AnswersStream, Contents, RefusesSources}
 use Rattle.cedr_run.specs.Seen.{FilesSeen, SinkSeen}
 use Rattle.cedr_run.specs.Steps.{Says, WritesText, faulty_text}
-use Rattle.cedr_run.specs.Threads.{CanTell, CanTellTail, IsReported, IsSilentBy, RunEnds, EndsRun, WritesRun, tail_of}
+use Rattle.cedr_run.specs.Threads.{CanTell, CanTellTail, IsReported, IsSilentBy, IsThreaded, RunEnds, EndsRun, WritesRun, tail_of}
 use Rattle.cedr_run.proofs.EndingLemmas.{AcceptedLeft, kept_itself}
 use Rattle.cedr_run.proofs.FaultLemmas.{any_stop}
+use Rattle.cedr_run.proofs.PlanLemmas.{answers_at_end}
 use Rattle.cedr_run.proofs.SayingLemmas.{named_faults}
 use Rattle.plan_answer.proofs.FindLemmas.{count_more}
 use Rattle.node_laws.proofs.Passes.{one_table}
@@ -143,14 +144,14 @@ tells_as how nodes seen_nodes changes seen_changes forgotten seen out out' o nod
 -- ---- how a run ends
 
 -- a text was written, or a front of it
-pub wrote_ends : (nodes : List PlanNode) (files files' : FilesSeen) (out out' : SinkSeen) (edges : List Carried) (ran : List Ran) (text : List ℕ) (o : Outcome) → files'.faults ≡ files.faults → ((told : List ℕ → List ℕ) → AreTold files.content told (source_files nodes) → AnswersRun told nodes edges ran text) → WritesText o out out' text → RunEnds Run nodes files files' out out' edges ran o
-wrote_ends nodes files files' out out' edges ran text outcome.Done same answers h = (record { files_count = same; out_count = h.0 }, record { text = text; answers = answers; wrote = h.1 })
-wrote_ends nodes files files' out out' edges ran text outcome.Write same answers h = (h.0, record { text = text; begins = answers; wrote = h.1 })
-wrote_ends nodes files files' out out' edges ran text outcome.OutOfMemory same answers h = inr (record { text = text; begins = answers; wrote = h })
-wrote_ends nodes files files' out out' edges ran text outcome.Usage same answers h = absurd h
-wrote_ends nodes files files' out out' edges ran text (outcome.Events said) same answers h = absurd h
-wrote_ends nodes files files' out out' edges ran text (outcome.BadPlan kind node) same answers h = absurd h
-wrote_ends nodes files files' out out' edges ran text outcome.Read same answers h = absurd h
+pub wrote_ends : (job : Job) → IsThreaded job → job ≢ Stream → (nodes : List PlanNode) (files files' : FilesSeen) (out out' : SinkSeen) (edges : List Carried) (ran : List Ran) (text : List ℕ) (o : Outcome) → files'.faults ≡ files.faults → ((told : List ℕ → List ℕ) → AreTold files.content told (source_files nodes) → AnswersRun told nodes edges ran text) → WritesText o out out' text → RunEnds job nodes files files' out out' edges ran o
+wrote_ends job threaded at_end nodes files files' out out' edges ran text outcome.Done same answers h = (record { files_count = same; out_count = h.0 }, record { text = text; answers = λ told known. (answers_at_end job threaded at_end told nodes edges ran text (answers told known)).0; wrote = h.1 })
+wrote_ends job threaded at_end nodes files files' out out' edges ran text outcome.Write same answers h = (h.0, record { text = text; begins = λ told known. (answers_at_end job threaded at_end told nodes edges ran text (answers told known)).1; wrote = h.1 })
+wrote_ends job threaded at_end nodes files files' out out' edges ran text outcome.OutOfMemory same answers h = inr (record { text = text; begins = λ told known. (answers_at_end job threaded at_end told nodes edges ran text (answers told known)).1; wrote = h })
+wrote_ends job threaded at_end nodes files files' out out' edges ran text outcome.Usage same answers h = absurd h
+wrote_ends job threaded at_end nodes files files' out out' edges ran text (outcome.Events said) same answers h = absurd h
+wrote_ends job threaded at_end nodes files files' out out' edges ran text (outcome.BadPlan kind node) same answers h = absurd h
+wrote_ends job threaded at_end nodes files files' out out' edges ran text outcome.Read same answers h = absurd h
 
 -- a sink that is the same gained nothing
 pub kept_same : (out out' : SinkSeen) → out' ≡ out → Keeps out.written out'.written
@@ -287,25 +288,25 @@ module _ {S : Type 0} (rest : S → Option (List ℕ)) (faults : S → ℕ) (acc
           said_is = said_is ∙ (ap (faulty_text nodes) listed_are ∙ named_faults told nodes (source_lists nodes given) (node_faults nodes (map refusal_in ends)) gave);
         }
 
-module _ {S : Type 0} (rest : S → Option (List ℕ)) (faults : S → ℕ) (accepts : Accepts) (plan : Plan) (is : IsPlan plan) (files files' : FilesSeen) (out out' : SinkSeen) (report : Report S) (reported : IsReported rest faults files.content plan.nodes.items report)
+module _ {S : Type 0} (rest : S → Option (List ℕ)) (faults : S → ℕ) (job : Job) (threaded : IsThreaded job) (at_end : job ≢ Stream) (accepts : Accepts) (plan : Plan) (is : IsPlan plan) (files files' : FilesSeen) (out out' : SinkSeen) (report : Report S) (reported : IsReported rest faults files.content plan.nodes.items report)
     (few : files.faults < last_count) (counted : files'.faults ≡ count_with faults files.faults (map source_left_in report.sources.items)) (o : Outcome) where
   abbrev Ends : Outcome → Type 0
-  Ends o = RunEnds Run plan.nodes.items files files' out out' report.edges.items report.ran.items o
+  Ends o = RunEnds job plan.nodes.items files files' out out' report.edges.items report.ran.items o
 
   -- a run that is done ends with its text
   done_ends : report.outcome ≡ came.Done → WritesRun plan.nodes.items (list_at reported.reported.given (output_place plan.nodes.items)) (forgot_in plan.nodes.items (ports_of plan.nodes.items (carried report.edges.items))) out out' o → Ends o
-  done_ends done (inl lacks) = lacking_ends Run plan.nodes.items files files' out out' report.edges.items report.ran.items o lacks.0 (inl (kept_same out out' lacks.1))
+  done_ends done (inl lacks) = lacking_ends job plan.nodes.items files files' out out' report.edges.items report.ran.items o lacks.0 (inl (kept_same out out' lacks.1))
   done_ends done (inr wrote) =
-      wrote_ends plan.nodes.items files files' out out' report.edges.items report.ran.items _ o (counted ∙ none_rose rest faults accepts plan is files.content report reported done files.faults (omega (arith, few)))
+      wrote_ends job threaded at_end plan.nodes.items files files' out out' report.edges.items report.ran.items _ o (counted ∙ none_rose rest faults accepts plan is files.content report reported done files.faults (omega (arith, few)))
       (answers_so rest faults accepts plan is files.content report reported done wrote.0 wrote.1.0) wrote.1.1
 
   ends_as : (how : Came) → report.outcome ≡ how → (short : Bool) → HasOutcome plan.nodes.items report.sources.items short how → EndsRun how plan.nodes.items report.changes.items report.forgotten.items out out' o → Ends o
   ends_as came.Done is_how short so tells = done_ends is_how (tells (list_at reported.reported.given (output_place plan.nodes.items)) (forgot_in plan.nodes.items (ports_of plan.nodes.items (carried report.edges.items))) (can_tell rest faults accepts plan is files.content report reported is_how))
-  ends_as came.Memory is_how short so tells = lacking_ends Run plan.nodes.items files files' out out' report.edges.items report.ran.items o tells.0 (inl (kept_same out out' tells.1))
+  ends_as came.Memory is_how short so tells = lacking_ends job plan.nodes.items files files' out out' report.edges.items report.ran.items o tells.0 (inl (kept_same out out' tells.1))
   ends_as came.Read is_how short so tells =
-      read_ends Run plan.nodes.items files files' out out' report.edges.items report.ran.items o tells.0 (subst (λ (n : ℕ). files.faults < n) (sym counted) (some_rose rest faults accepts plan is files.content report reported so.2 files.faults few)) (ap (λ (o : SinkSeen). o.faults) tells.1) (inl (kept_same out out' tells.1))
+      read_ends job plan.nodes.items files files' out out' report.edges.items report.ran.items o tells.0 (subst (λ (n : ℕ). files.faults < n) (sym counted) (some_rose rest faults accepts plan is files.content report reported so.2 files.faults few)) (ap (λ (o : SinkSeen). o.faults) tells.1) (inl (kept_same out out' tells.1))
   ends_as (came.Events listed) is_how short so tells =
-      said_ends Run plan.nodes.items files files' out out' report.edges.items report.ran.items (faulty_text plan.nodes.items listed.items) o (counted ∙ faulty_kept rest faults accepts plan is files.content report reported so.2 files.faults (omega (arith, few)))
+      said_ends job plan.nodes.items files files' out out' report.edges.items report.ran.items (faulty_text plan.nodes.items listed.items) o (counted ∙ faulty_kept rest faults accepts plan is files.content report reported so.2 files.faults (omega (arith, few)))
       (ap (λ (o : SinkSeen). o.faults) tells.1) (inl (kept_same out out' tells.1)) (inl (kept_same out out' tells.1)) (refuses_so rest faults accepts plan is files.content report reported so.2 so.1 listed.items so.3 so.4) tells.0
 
   -- a run ends by what is written or said of it

@@ -43,9 +43,11 @@ use Rattle.node_laws.specs.Approaching.{AddsFirst}
 use Rattle.plan_runs.specs.Partials.{AllBeginTables, BeginsTable}
 use Rattle.node_laws.proofs.Additions.{only_adds}
 use Rattle.plan_runs.proofs.PartialOutput.{output_adds, output_ascends}
+use Rattle.cedr_run.specs.declared.command.Job.{Job}
+use Rattle.cedr_run.specs.declared.command.Job.TheVariants.{History, Check, Serial, Run, Pool, Stream, Audit, Live, Make}
 use Rattle.cedr_run.specs.Answers.{AddsInOrder, AllHaveBegun, HasBegun, StreamsSoFar}
 use Rattle.cedr_run.specs.Seen.{FilesSeen, SinkSeen}
-use Rattle.cedr_run.specs.Strong.{AddsGood, AllHaveGood, StreamsPlan, WroteGood, WroteStrong}
+use Rattle.cedr_run.specs.Strong.{AddsGood, AllHaveGood, StreamsPlan, StreamsStrong, WroteGood, WroteStrong}
 use Rattle.cedr_run.proofs.BegunLemmas.{AllOrdered}
 use Rattle.cedr_run.proofs.EndingLemmas.{IsOpened, nothing_is_front, opened_told, told_same}
 use Rattle.cedr_run.proofs.StreamLemmas.{front_longer}
@@ -244,3 +246,15 @@ streams_plan files files' file nodes out out' opened same wrote = inr (λ told k
   plan = opened_told files file nodes opened told known;
   holding = λ sources strong remembers. wrote strong remembers told (told_same files.content files'.content told (source_files nodes) same sources);
 })
+
+-- what is so of a stream is so of each command
+pub streams_strong_by : (job : Job) (files : FilesSeen) (file script : List ℕ) (out out' : SinkSeen) → (job ≡ Stream → StreamsPlan files file out out') → StreamsStrong (Some (record { job = job; file = file; script = script })) files out out'
+streams_strong_by Stream files file script out out' streams = streams refl
+streams_strong_by History files file script out out' streams = tt
+streams_strong_by Check files file script out out' streams = tt
+streams_strong_by Serial files file script out out' streams = tt
+streams_strong_by Run files file script out out' streams = tt
+streams_strong_by (Pool n) files file script out out' streams = tt
+streams_strong_by Audit files file script out out' streams = tt
+streams_strong_by Live files file script out out' streams = tt
+streams_strong_by (Make n) files file script out out' streams = tt

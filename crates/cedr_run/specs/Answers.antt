@@ -39,7 +39,7 @@ use Rattle.plan_answer.specs.Sources.{source_files, AreTold, AllHaveGiven, fault
 use Rattle.cedr_text.specs.Shapes.{ShapeHasTypes}
 use Rattle.cedr_table.specs.Operators.{Tables}
 use Rattle.cedr_run.specs.declared.command.Job.{Job}
-use Rattle.cedr_run.specs.declared.command.Job.TheVariants.{History, Check, Serial, Run, Stream, Audit, Live, Make}
+use Rattle.cedr_run.specs.declared.command.Job.TheVariants.{History, Check, Serial, Run, Pool, Stream, Audit, Live, Make}
 use Rattle.cedr_run.specs.Commands.{Command}
 use Rattle.cedr_run.specs.Refusals.{refusal_text}
 
@@ -244,6 +244,7 @@ Gives content told command text = gives command.job where
   gives Check = GivesNodes (told command.file) text
   gives Serial = OfPlan content told command.file (λ nodes. GivesPlan Serial told nodes text)
   gives Run = OfPlan content told command.file (λ nodes. GivesPlan Run told nodes text)
+  gives (Pool n) = OfPlan content told command.file (λ nodes. GivesPlan (Pool n) told nodes text)
   gives Audit = OfPlan content told command.file (λ nodes. GivesPlan Audit told nodes text)
   gives Stream = OfPlan content told command.file (λ nodes. GivesPlan Stream told nodes text)
   gives Live = OfPlanAlone (told command.file) (λ nodes. IsPlayed nodes (told command.script) text None)
@@ -257,6 +258,7 @@ Refuses content told command text said = refuses command.job where
   refuses Check = ⊥
   refuses Serial = (text ≡ []) × OfPlan content told command.file (λ nodes. RefusesSources told nodes said)
   refuses Run = (text ≡ []) × OfPlan content told command.file (λ nodes. RefusesSources told nodes said)
+  refuses (Pool n) = (text ≡ []) × OfPlan content told command.file (λ nodes. RefusesSources told nodes said)
   refuses Audit = (text ≡ []) × OfPlan content told command.file (λ nodes. RefusesSources told nodes said)
   refuses Stream = OfPlan content told command.file (λ nodes. RefusesSources told nodes said × ((text ≡ []) ⊎ StreamsFront told nodes text))
   refuses Live = OfPlanAlone (told command.file) (λ nodes. RefusesScript command.script (told command.script) nodes text said)

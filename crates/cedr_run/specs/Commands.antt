@@ -1,9 +1,9 @@
 -- The commands that words name, and the files that each names.
-use Rattle.std.specs.Prelude.{ℕ, ◌≢◌, ◌<◌, ◌≤◌, List, [], ◌∷◌, length, codes, nat_lt, if◌then◌else◌, Option, None, Some}
+use Rattle.std.specs.Prelude.{ℕ, ◌≡◌, ◌≢◌, ◌<◌, ◌≤◌, List, [], ◌∷◌, length, codes, nat_lt, if◌then◌else◌, Option, None, Some}
 use Rattle.std.specs.Str.{bytes_eq}
 use Rattle.cedr_text.specs.Numbers.{whole_number}
 use Rattle.cedr_run.specs.declared.command.Job.{Job}
-use Rattle.cedr_run.specs.declared.command.Job.TheVariants.{History, Check, Serial, Run, Stream, Audit, Live, Make}
+use Rattle.cedr_run.specs.declared.command.Job.TheVariants.{History, Check, Serial, Run, Pool, Stream, Audit, Live, Make}
 
 -- what to do, with which file, and with which script
 pub record Command : Type 0 where
@@ -32,29 +32,47 @@ abbrev pub if_positive : Option ℕ → Option ℕ
 if_positive None = None
 if_positive (Some n) = if nat_lt 0 n then Some n else None
 
+-- a number from 1 to this last one, of at most so many digits
+abbrev pub number_up_to : ℕ → ℕ → List ℕ → Option ℕ
+number_up_to digits last word = if nat_lt digits (length word) then None else if_positive (whole_number last word)
+
 -- a number of events from 1 to 100,000, of one to six digits
 abbrev pub events_of : List ℕ → Option ℕ
-events_of word = if nat_lt 6 (length word) then None else if_positive (whole_number 100000 word)
+events_of word = number_up_to 6 100000 word
+
+-- a number of threads from 1 to 16, of one or two digits
+abbrev pub threads_of : List ℕ → Option ℕ
+threads_of word = number_up_to 2 16 word
 
 -- the command `make` with so many events a source
 abbrev pub with_events : Option ℕ → Option Command
 with_events None = None
 with_events (Some n) = Some (record { job = Make n; file = []; script = [] })
 
--- `history FILE`, `check PLAN`, `serial PLAN`, `run PLAN`, `stream PLAN`, `audit PLAN`, `live PLAN SCRIPT`, `make N`
+-- the command `pool` with so many threads for the nodes of a plan
+abbrev pub with_threads : Option ℕ → List ℕ → Option Command
+with_threads None plan = None
+with_threads (Some n) plan = Some (record { job = Pool n; file = plan; script = [] })
+
+-- `history FILE`, `check PLAN`, `serial PLAN`, `run PLAN`, `stream PLAN`, `audit PLAN`, `live PLAN SCRIPT`, `make N`, `pool N PLAN`
 abbrev pub command_of : List (List ℕ) → Option Command
 command_of (word ∷ file ∷ []) = if bytes_eq word (codes "make") then with_events (events_of file) else with_file (job_of word) file
-command_of (word ∷ plan ∷ script ∷ []) = if bytes_eq word (codes "live") then Some (record { job = Live; file = plan; script = script }) else None
+command_of (word ∷ first ∷ second ∷ []) =
+    if bytes_eq word (codes "live") then Some (record { job = Live; file = first; script = second })
+    else if bytes_eq word (codes "pool") then with_threads (threads_of first) second
+    else None
 command_of words = None
 
--- a workload has from 1 to 100,000 events a source
-abbrev pub IsMakeable : Job → Type 0
-IsMakeable (Make n) = (0 < n) × (n ≤ 100000)
-IsMakeable job = Unit {0}
+-- the number of a job is in its range: a workload has from 1 to 100,000 events a source, and a pool from 1 to 16 threads
+abbrev pub IsNumbered : Job → Type 0
+IsNumbered (Make n) = (0 < n) × (n ≤ 100000)
+IsNumbered (Pool n) = (0 < n) × (n ≤ 16)
+IsNumbered job = Unit {0}
 
--- the words match neither `run PLAN` nor `stream PLAN`
+-- the words match none of `run PLAN`, `stream PLAN` and `pool N PLAN`
 abbrev pub IsAlone : List (List ℕ) → Type 0
 IsAlone (command ∷ plan ∷ []) = (command ≢ codes "run") × (command ≢ codes "stream")
+IsAlone (command ∷ count ∷ plan ∷ []) = command ≡ codes "pool" → threads_of count ≡ None
 IsAlone words = Unit {0}
 
 -- the files that a command names

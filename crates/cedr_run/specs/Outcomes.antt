@@ -6,7 +6,7 @@ use Rattle.cedr_plan.specs.declared.plan.PlanNode.{PlanNode}
 use Rattle.plan_answer.specs.Sources.{AsksFirst, AreTold, source_files}
 use Rattle.cedr_text.specs.Texts.{line_feed}
 use Rattle.cedr_run.specs.declared.command.Job.{Job}
-use Rattle.cedr_run.specs.declared.command.Job.TheVariants.{Serial, Run, Stream, Audit, Live}
+use Rattle.cedr_run.specs.declared.command.Job.TheVariants.{Serial, Run, Pool, Stream, Audit, Live}
 use Rattle.cedr_run.specs.declared.outcome.Outcome.{Outcome}
 use Rattle.cedr_run.specs.declared.outcome.Outcome.TheVariants as outcome
 use Rattle.cedr_run.specs.declared.status.Status.{Status}
@@ -20,7 +20,7 @@ use Rattle.cedr_run.specs.Seen.{FilesSeen, SinkSeen, NoneRose, BreaksOff}
 
 -- the text where the words match no command
 abbrev pub usage_text : List ℕ
-usage_text = codes "usage: cedr history FILE | check PLAN | serial PLAN | run PLAN | stream PLAN | audit PLAN | live PLAN SCRIPT | make N" ++ line_feed ∷ []
+usage_text = codes "usage: cedr history FILE | check PLAN | serial PLAN | run PLAN | stream PLAN | audit PLAN | live PLAN SCRIPT | make N | pool N PLAN" ++ line_feed ∷ []
 
 -- the text where a file wasn't found, or a read was refused
 abbrev pub read_text : List ℕ
@@ -107,6 +107,7 @@ AsksOnly command files files' = asks command.job where
   asks : Job → Type 0
   asks Serial = AsksFirst files.asked files'.asked (named_files command) ⊎ AsksPlan files files' command.file
   asks Run = AsksFirst files.asked files'.asked (named_files command) ⊎ AsksPlan files files' command.file
+  asks (Pool n) = AsksFirst files.asked files'.asked (named_files command) ⊎ AsksPlan files files' command.file
   asks Audit = AsksFirst files.asked files'.asked (named_files command) ⊎ AsksPlan files files' command.file
   asks Stream = AsksFirst files.asked files'.asked (named_files command) ⊎ AsksPlan files files' command.file
   asks job = AsksFirst files.asked files'.asked (named_files command)

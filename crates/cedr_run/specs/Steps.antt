@@ -15,7 +15,7 @@ use Rattle.plan_serial.specs.Rounds.{ByLine}
 use Rattle.plan_serial.specs.Sources.{AreReadByLine}
 use Rattle.plan_answer.specs.declared.faulty.FaultySource.{FaultySource}
 use Rattle.cedr_run.specs.declared.command.Job.{Job}
-use Rattle.cedr_run.specs.declared.command.Job.TheVariants.{Serial, Run, Stream, Audit}
+use Rattle.cedr_run.specs.declared.command.Job.TheVariants.{Serial, Run, Pool, Stream, Audit}
 use Rattle.cedr_run.specs.declared.outcome.Outcome.{Outcome}
 use Rattle.cedr_run.specs.declared.outcome.Outcome.TheVariants as outcome
 use Rattle.cedr_run.specs.Answers.{IsPlanOf, IsNoPlan, RefusesSources, GivesPlan, BeginsPlan}
@@ -101,6 +101,7 @@ OpensSources (Err other) told nodes = Unit {0}
 abbrev pub ReadsSources : Job → Type 0
 ReadsSources Serial = Unit {0}
 ReadsSources Run = Unit {0}
+ReadsSources (Pool n) = Unit {0}
 ReadsSources Audit = Unit {0}
 ReadsSources Stream = Unit {0}
 ReadsSources job = ⊥

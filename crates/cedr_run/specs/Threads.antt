@@ -1,5 +1,5 @@
 -- How a run on threads ends, and what is reported of it.
-use Rattle.std.specs.Prelude.{ℕ, ◌≡◌, ◌<◌, ◌⊎◌, List, [], ◌∷◌, ◌++◌, length, map, if◌then◌else◌, Option, None, Some}
+use Rattle.std.specs.Prelude.{ℕ, ◌≡◌, ◌<◌, ◌⊎◌, List, [], length, map, if◌then◌else◌, Option, None, Some}
 use Rattle.std.specs.Io.KnownBytes.{Appends, Keeps}
 use Rattle.std.specs.List.{All}
 use Rattle.plan_answer.specs.Finds.{AreFound}
@@ -26,7 +26,7 @@ use Rattle.plan_report.specs.Reports.{IsReport}
 use Rattle.plan_report.specs.SoFar.{IsSoFar}
 use Rattle.cedr_worker.specs.declared.ran.Ran.{Ran}
 use Rattle.cedr_run.specs.declared.command.Job.{Job}
-use Rattle.cedr_run.specs.declared.command.Job.TheVariants.{Run, Stream}
+use Rattle.cedr_run.specs.declared.command.Job.TheVariants.{Run, Pool, Stream}
 use Rattle.cedr_run.specs.declared.outcome.Outcome.{Outcome}
 use Rattle.cedr_run.specs.declared.outcome.Outcome.TheVariants as outcome
 use Rattle.cedr_run.specs.declared.progress.Progress.{Progress}
@@ -34,7 +34,7 @@ use Rattle.cedr_run.specs.declared.progress.Progress.TheVariants as progress
 use Rattle.cedr_run.specs.declared.status.Status.{Status}
 use Rattle.cedr_run.specs.declared.status.Status.TheVariants as status
 use Rattle.cedr_run.specs.Answers.{AnswersRun, AnswersStream, BeginsPlan, Contents, OfPlan, RefusesSources, StreamsSoFar}
-use Rattle.cedr_run.specs.Commands.{Command}
+use Rattle.cedr_run.specs.Commands.{Command, IsNumbered}
 use Rattle.cedr_run.specs.Outcomes.{Wrote}
 use Rattle.cedr_run.specs.Seen.{FilesSeen, SinkSeen, NoneRose}
 use Rattle.cedr_run.specs.Steps.{Says, WritesText, faulty_text}
@@ -158,11 +158,12 @@ RunEnds job nodes files files' out out' edges ran outcome.OutOfMemory = Keeps ou
 RunEnds job nodes files files' out out' edges ran outcome.Usage = ⊥
 RunEnds job nodes files files' out out' edges ran (outcome.BadPlan kind node) = ⊥
 
--- ---- what `run` and `stream` answer besides
+-- ---- what `run`, `stream` and `pool` answer besides
 
 -- the commands that turn the workers of their plan on threads
 abbrev pub IsThreaded : Job → Type 0
 IsThreaded Run = Unit {0}
+IsThreaded (Pool n) = IsNumbered (Pool n)
 IsThreaded Stream = Unit {0}
 IsThreaded job = ⊥
 
@@ -174,11 +175,12 @@ AreBare edges ran = (edges ≡ []) × (ran ≡ [])
 abbrev pub WroteRun : FilesSeen → Command → SinkSeen → SinkSeen → List Carried → List Ran → Type 0
 WroteRun files command out out' edges ran = Wrote files command out out' (λ told text. OfPlan files.content told command.file (λ nodes. AnswersBy command.job told nodes edges ran text))
 
--- where `run PLAN` or `stream PLAN` is done the edges and the turns are those of its text; all other words have none
+-- where `run PLAN`, `stream PLAN` or `pool N PLAN` is done the edges and the turns are those of its text; all other words have none
 abbrev pub HasRun : Option Command → FilesSeen → SinkSeen → SinkSeen → Status → List Carried → List Ran → Type 0
 HasRun None files out out' s edges ran = AreBare edges ran
 HasRun (Some command) files out out' s edges ran = has_run command.job where
   has_run : Job → Type 0
   has_run Run = s ≡ status.Done → WroteRun files command out out' edges ran
+  has_run (Pool n) = s ≡ status.Done → WroteRun files command out out' edges ran
   has_run Stream = s ≡ status.Done → WroteRun files command out out' edges ran
   has_run job = AreBare edges ran

@@ -1,7 +1,7 @@
 ghost use Rattle.std.specs.Prelude.{◌≡◌, ◌≢◌, ◌<◌, List, ℕ};
 ghost use Rattle.cedr_io.specs.Counts.{last_count};
 ghost use Rattle.cedr_run.specs.declared.command.Job.TheVariants.{Stream};
-ghost use Rattle.cedr_run.specs.Commands.{Command, IsMakeable};
+ghost use Rattle.cedr_run.specs.Commands.{Command, IsNumbered};
 ghost use Rattle.cedr_run.specs.Outcomes.{CommandEnds, AsksOnly};
 ghost use Rattle.cedr_run.specs.Seen.{seen_files, seen_sink};
 
@@ -26,7 +26,7 @@ pub(crate) fn carry_out<F: Files, K: Sink>(
 ) -> Outcome
     requires files_count { F.faults files.old < last_count }
     requires out_counts { K.faults out.old < last_count }
-    requires job { IsMakeable job }
+    requires job { IsNumbered job }
     requires alone { job ≢ Stream }
     ensures ends { CommandEnds (record { job = job; file = file.now; script = script.now })
         (seen_files F.content F.faults F.asked files.old) (seen_files F.content F.faults F.asked files.new)

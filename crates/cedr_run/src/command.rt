@@ -3,7 +3,7 @@ ghost use Rattle.std.specs.Int.{IsInRange};
 ghost use Rattle.std.specs.Option.{SomeIff};
 ghost use Rattle.std.specs.String.{string_bytes};
 ghost use Rattle.cedr_text.specs.Numbers.{whole_number};
-ghost use Rattle.cedr_run.specs.Commands.{Command, job_of, events_of, command_of, IsMakeable};
+ghost use Rattle.cedr_run.specs.Commands.{Command, IsNumbered, command_of, job_of, number_up_to};
 
 /// What a command does.
 #[derive(Clone, Copy, PartialEq, Eq, Debug)]
@@ -16,6 +16,8 @@ pub(crate) enum Job {
     Serial,
     /// Writes the answer of a plan.
     Run,
+    /// The same, with so many threads for all nodes of the plan.
+    Pool(u64),
     /// Writes the changes of a plan's answer as they come.
     Stream,
     /// Writes the answer of a plan and what its ports forgot.
@@ -41,10 +43,10 @@ fn named_job(word: &str) -> Option<Job>
     }
 }
 
-/// The number that digits spell, up to 100,000. Leading zeros are accepted.
-fn number(digits: &[u8]) -> Option<u64>
-    ensures value { result ≡ whole_number 100000 digits.now }
-    ensures most { IfSome result (λ value. value ≤ 100000) }
+/// The number that digits spell, up to this last one. Leading zeros are accepted.
+fn number(last: u64, digits: &[u8]) -> Option<u64>
+    ensures value { result ≡ whole_number last digits.now }
+    ensures most { IfSome result (λ value. value ≤ last) }
 {
     if digits.is_empty() {
         return None;
@@ -56,7 +58,7 @@ fn number(digits: &[u8]) -> Option<u64>
         }
         value = push_digit(value, *digit)?;
     }
-    if value <= 100_000 { Some(value) } else { None }
+    if value <= last { Some(value) } else { None }
 }
 
 /// The number with one more digit, where it fits 64 bits.
@@ -67,36 +69,41 @@ fn push_digit(value: u64, digit: u8) -> Option<u64>
     value.checked_mul(10)?.checked_add(u64::from(digit - b'0'))
 }
 
-/// A number of events from 1 to 100,000, of one to six digits.
-fn events(word: &[u8]) -> Option<u64>
-    ensures value { result ≡ events_of word.now }
-    ensures least { IfSome result (λ events. 0 < events) }
-    ensures most { IfSome result (λ events. events ≤ 100000) }
+/// A number from 1 to this last one, of at most so many digits.
+fn count(digits: usize, last: u64, word: &[u8]) -> Option<u64>
+    ensures value { result ≡ number_up_to digits last word.now }
+    ensures least { IfSome result (λ count. 0 < count) }
+    ensures most { IfSome result (λ count. count ≤ last) }
 {
-    if word.len() > 6 {
+    if word.len() > digits {
         return None;
     }
-    let events = number(word)?;
-    if events > 0 { Some(events) } else { None }
+    let count = number(last, word)?;
+    if count > 0 { Some(count) } else { None }
 }
 
 /// The command that the words name, its file and its script.
 pub(crate) fn command(words: &[String]) -> Option<(Job, &str, &str)>
     ensures named { option_map (λ named. record { job = named.0; file = named.1.now; script = named.2.now }) result ≡ command_of (map string_bytes words.now) }
-    ensures makeable { IfSome result (λ named. IsMakeable named.0) }
+    ensures numbered { IfSome result (λ named. IsNumbered named.0) }
 {
     match words {
-        [word, count] if word.as_str() == "make" => {
-            let events = events(count.as_bytes())?;
+        [word, events] if word.as_str() == "make" => {
+            let events = count(6, 100_000, events.as_bytes())?;
             Some((Job::Make(events), "", ""))
         }
         [word, file] => {
             let job = named_job(word.as_str())?;
             Some((job, file.as_str(), ""))
         }
-        [word, plan, script] if word.as_str() == "live" => {
-            Some((Job::Live, plan.as_str(), script.as_str()))
-        }
+        [word, first, second] => match word.as_str() {
+            "live" => Some((Job::Live, first.as_str(), second.as_str())),
+            "pool" => {
+                let threads = count(2, 16, first.as_bytes())?;
+                Some((Job::Pool(threads), second.as_str(), ""))
+            }
+            _ => None,
+        },
         _ => None,
     }
 }

@@ -6,7 +6,7 @@ use cedr_worker::Ran;
 #[derive(Drop)]
 pub struct Ending {
     pub status: Status,
-    /// The closed edges of `run` and `stream`, one for each port of each node, in that order. Other commands have none.
+    /// The closed edges of `run`, `stream` and `pool`, one for each port of each node, in that order. Other commands have none.
     pub edges: Vec<EdgeRecord>,
     /// How much the turns of each node's worker did, in the order of the plan.
     pub ran: Vec<Ran>,

@@ -1,8 +1,9 @@
 //! The top call: from the words of a command line to what is written and the exit status.
 //!
 //! `run` and `run_alone` end as the record `Ends` in `specs/Ending.antt` says: which status may come when, what the
-//! output and the error stream gained, and which files were asked for. Where `run PLAN` or `stream PLAN` is done, `run`
-//! answers too what went over the edges of the plan, as `AnswersRun` and `AnswersStream` in `specs/Answers.antt` say.
+//! output and the error stream gained, and which files were asked for. Where `run PLAN`, `stream PLAN` or `pool N PLAN` is
+//! done, `run` answers too what went over the edges of the plan, as `AnswersRun` and `AnswersStream` in `specs/Answers.antt`
+//! say.
 //! What `history` writes is the text of the canonical history of the file's lines, as the crate `cedr_guard` defines
 //! it; what `check` writes is a line for each node of the plan that the file's bytes describe, as the crate `cedr_plan`
 //! defines them.

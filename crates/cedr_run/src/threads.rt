@@ -1,12 +1,14 @@
-//! The answer of a plan whose workers run on threads of their own.
-ghost use Rattle.std.specs.Prelude.{◌≡◌, ◌<◌, List, ℕ, length};
+//! The answer of a plan whose workers run on threads.
+ghost use Rattle.std.specs.Prelude.{◌≡◌, ◌≢◌, ◌<◌, IfErr, IfOk, List, ℕ, length};
 ghost use Rattle.std.specs.List.{All};
 ghost use Rattle.plan_answer.specs.Finds.{AreFound};
 ghost use Rattle.cedr_io.specs.Counts.{last_count};
 ghost use Rattle.cedr_plan.specs.Rules.{IsPlan};
 ghost use Rattle.cedr_plan.specs.Places.{source_count};
 ghost use Rattle.plan_answer.specs.Sources.{AsksFirst, source_files};
-ghost use Rattle.cedr_run.specs.declared.command.Job.TheVariants.{Run, Stream};
+ghost use Rattle.plan_report.specs.Reports.{IsReport};
+ghost use Rattle.cedr_run.specs.declared.command.Job.{Job};
+ghost use Rattle.cedr_run.specs.declared.command.Job.TheVariants.{Stream};
 ghost use Rattle.cedr_run.specs.declared.outcome.Outcome.TheVariants as outcome;
 ghost use Rattle.cedr_run.specs.Commands.{Command};
 ghost use Rattle.cedr_run.specs.Outcomes.{CommandEnds, AsksOnly};
@@ -22,11 +24,12 @@ use crate::streaming::Streamer;
 use crate::telling::{end_of, end_of_stream};
 use cedr_edge::EdgeRecord;
 use cedr_guard::message_laws;
-use cedr_io::{Files, Gate, OutsideFault, Sink};
+use cedr_io::{Files, Gate, OutsideFault, Sink, Source};
 use cedr_plan::Plan;
+use cedr_pool::run_pool;
 use cedr_worker::Ran;
 use plan_answer::{accepted_sources, find_sources, give_back_each, streamed_changes};
-use plan_report::{Quiet, Report};
+use plan_report::{NoMemory, Quiet, Report};
 use plan_threads::run_threads;
 use plan_workers::give_back_ends;
 use std::alloc::Global;
@@ -54,7 +57,8 @@ fn without(alloc: Global, outcome: Outcome) -> Threaded
     }
 }
 
-/// Gives the sources of a run back, and writes its text or says why there is none.
+/// Gives the sources of a run back, and writes its text or says why there is none. It is the same for each command that writes
+/// its rows at the end.
 fn tell<F: Files, K: Sink>(
     alloc: Global,
     plan: &Plan,
@@ -68,7 +72,7 @@ where
     requires files_count { F.faults files.old < last_count }
     requires out_counts { K.faults out.old < last_count }
     requires report { IsReported F.Source.rest F.Source.faults (F.content files.old) plan.now.nodes.items report }
-    ensures ends { RunEnds Run plan.now.nodes.items (seen_files F.content F.faults F.asked files.old) (seen_files F.content F.faults F.asked files.new)
+    ensures ends { (job : Job) → IsThreaded job → job ≢ Stream → RunEnds job plan.now.nodes.items (seen_files F.content F.faults F.asked files.old) (seen_files F.content F.faults F.asked files.new)
         (seen_sink K.written K.faults out.old) (seen_sink K.written K.faults out.new) result.edges.items result.ran.items result.outcome }
     ensures asked { F.asked files.new ≡ F.asked files.old }
     ensures contents { (n : List ℕ) → F.content files.new n ≡ F.content files.old n }
@@ -134,15 +138,44 @@ where
     }
 }
 
-/// Runs a plan over sources that were found.
+/// Runs the workers of a plan over sources that were found, each on a thread of its own or, for `pool`, all on so many.
+fn report_of<
+    R: Threads + Wait + Clock + Copy + Drop + Send + Sync + 'static,
+    S: Source + Drop + Send + 'static,
+    G: Gate + Drop + Send + 'static,
+>(
+    rt: R,
+    alloc: Global,
+    job: Job,
+    plan: &Plan,
+    sources: Vec<S>,
+    gate: &Arc<G, Global>,
+) -> Result<Report<S>, NoMemory<S>>
+    requires plan { IsPlan plan.now }
+    requires job { IsThreaded job }
+    requires count { length sources.items ≡ source_count plan.now.nodes.items }
+    ensures report { IfOk result (λ report. IsReport S.rest S.faults plan.now.nodes.items sources.items report) }
+    ensures err { IfErr result (λ e. e.sources.items ≡ sources.items) }
+{
+    match job {
+        Job::Pool(threads) => run_pool(rt, alloc, threads as usize, plan, sources, &**gate),
+        _ => {
+            let mut quiet = Quiet::new(alloc);
+            run_threads(rt, alloc, plan, sources, &mut quiet, &mut (), gate)
+        }
+    }
+}
+
+/// Runs a plan over sources that were found, whose rows are written at the end.
 fn run_sources<
-    R: Threads + Wait + Clock + Copy + Drop + Send + 'static,
+    R: Threads + Wait + Clock + Copy + Drop + Send + Sync + 'static,
     F: Files,
     K: Sink,
     G: Gate + Drop + Send + 'static,
 >(
     rt: R,
     alloc: Global,
+    job: Job,
     plan: &Plan,
     sources: Vec<F::Source>,
     files: &mut F,
@@ -154,16 +187,17 @@ where
     requires plan { IsPlan plan.now }
     requires files_count { F.faults files.old < last_count }
     requires out_counts { K.faults out.old < last_count }
+    requires job { IsThreaded job }
+    requires at_end { job ≢ Stream }
     requires found { AreFound F.Source.rest (F.content files.old) plan.now.nodes.items sources.items }
     requires count { length sources.items ≡ source_count plan.now.nodes.items }
     requires fresh { All (λ s. F.Source.faults s ≡ 0) sources.items }
-    ensures ends { RunEnds Run plan.now.nodes.items (seen_files F.content F.faults F.asked files.old) (seen_files F.content F.faults F.asked files.new)
+    ensures ends { RunEnds job plan.now.nodes.items (seen_files F.content F.faults F.asked files.old) (seen_files F.content F.faults F.asked files.new)
         (seen_sink K.written K.faults out.old) (seen_sink K.written K.faults out.new) result.edges.items result.ran.items result.outcome }
     ensures asked { F.asked files.new ≡ F.asked files.old }
     ensures contents { (n : List ℕ) → F.content files.new n ≡ F.content files.old n }
 {
-    let mut quiet = Quiet::new(alloc);
-    match run_threads(rt, alloc, plan, sources, &mut quiet, &mut (), gate) {
+    match report_of(rt, alloc, job, plan, sources, gate) {
         Ok(report) => tell(alloc, plan, report, files, out),
         Err(lacking) => {
             give_back_each(files, lacking.sources);
@@ -211,10 +245,10 @@ where
     }
 }
 
-/// Finds the sources of a plan, and runs it. `stream` writes the changes of its answer as they come, and `run` the rows at the
-/// end.
+/// Finds the sources of a plan, and runs it. `stream` writes the changes of its answer as they come, and `run` and `pool` the rows
+/// at the end.
 fn run_plan<
-    R: Threads + Wait + Clock + Copy + Drop + Send + 'static,
+    R: Threads + Wait + Clock + Copy + Drop + Send + Sync + 'static,
     F: Files,
     K: Sink,
     G: Gate + Drop + Send + 'static,
@@ -242,17 +276,17 @@ where
     match find_sources(alloc, plan.nodes.as_slice(), files) {
         Ok(sources) => match job {
             Job::Stream => stream_sources(rt, alloc, plan, sources, files, out, gate),
-            _ => run_sources(rt, alloc, plan, sources, files, out, gate),
+            _ => run_sources(rt, alloc, job, plan, sources, files, out, gate),
         },
         Err(OutsideFault::Failed) => without(alloc, Outcome::Read),
         Err(OutsideFault::OutOfMemory) => without(alloc, Outcome::OutOfMemory),
     }
 }
 
-/// Reads a plan, runs its workers on threads of their own, and writes its answer, or for `stream` the changes of that as they
-/// come. It may wait.
+/// Reads a plan, runs its workers on threads, and writes its answer, or for `stream` the changes of that as they come. It may
+/// wait.
 pub(crate) fn on_threads<
-    R: Threads + Wait + Clock + Copy + Drop + Send + 'static,
+    R: Threads + Wait + Clock + Copy + Drop + Send + Sync + 'static,
     F: Files,
     K: Sink,
     G: Gate + Drop + Send + 'static,

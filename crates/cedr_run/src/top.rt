@@ -2,7 +2,7 @@ ghost use Rattle.std.specs.Prelude.{◌≡◌, ◌≢◌, ◌<◌, ℕ, List, If
 ghost use Rattle.std.specs.String.{string_bytes};
 ghost use Rattle.cedr_io.specs.Counts.{last_count};
 ghost use Rattle.cedr_run.specs.declared.command.Job.TheVariants.{Stream};
-ghost use Rattle.cedr_run.specs.Commands.{Command, command_of, IsAlone, IsMakeable};
+ghost use Rattle.cedr_run.specs.Commands.{Command, command_of, IsAlone, IsNumbered};
 ghost use Rattle.cedr_run.specs.Seen.{seen_files, seen_sink};
 ghost use Rattle.cedr_run.specs.Ending.{Ends};
 ghost use Rattle.cedr_run.specs.Strong.{StreamsPlan, StreamsStrong};
@@ -20,10 +20,10 @@ use std::sync::{Arc, Wait};
 use std::thread::Threads;
 use std::time::Clock;
 
-/// Carries out the command that the words name, and answers how it ended. `run` and `stream` may wait, and so need not return.
-/// They turn the workers of their plan on threads of their own, and each of these turns passes the gate.
+/// Carries out the command that the words name, and answers how it ended. `run`, `stream` and `pool` may wait, and so need not
+/// return. They turn the workers of their plan on threads, and each of these turns passes the gate.
 pub fn run<
-    R: Threads + Wait + Clock + Copy + Drop + Send + 'static,
+    R: Threads + Wait + Clock + Copy + Drop + Send + Sync + 'static,
     F: Files,
     K: Sink,
     E: Sink,
@@ -54,20 +54,8 @@ where
         (seen_sink K.written K.faults out.old) (seen_sink K.written K.faults out.new) }
 {
     match command(words) {
-        Some((Job::Run, file, _)) => {
-            call_threads(rt, alloc, Job::Run, file.as_bytes(), files, out, err, gate)
-        }
-        Some((Job::Stream, file, _)) => {
-            call_threads(
-                rt,
-                alloc,
-                Job::Stream,
-                file.as_bytes(),
-                files,
-                out,
-                err,
-                gate,
-            )
+        Some((job @ (Job::Run | Job::Pool(_) | Job::Stream), file, _)) => {
+            call_threads(rt, alloc, job, file.as_bytes(), files, out, err, gate)
         }
         named => bare(alloc, call(alloc, named, files, out, err)),
     }
@@ -85,9 +73,9 @@ fn bare(alloc: Global, status: Status) -> Ending
     }
 }
 
-/// Carries out `run`, or `stream`, and answers how it ended.
+/// Carries out `run`, `stream` or `pool`, and answers how it ended.
 fn call_threads<
-    R: Threads + Wait + Clock + Copy + Drop + Send + 'static,
+    R: Threads + Wait + Clock + Copy + Drop + Send + Sync + 'static,
     F: Files,
     K: Sink,
     E: Sink,
@@ -126,7 +114,7 @@ where
     Ending { status, edges, ran }
 }
 
-/// The same for all words but `run PLAN` and `stream PLAN`: it starts no thread and waits for nobody.
+/// The same for all words but `run PLAN`, `stream PLAN` and `pool N PLAN`: it starts no thread and waits for nobody.
 pub fn run_alone<F: Files, K: Sink, E: Sink>(
     alloc: Global,
     words: &[String],
@@ -155,7 +143,7 @@ fn call<F: Files, K: Sink, E: Sink>(
 ) -> Status
     requires files_count { F.faults files.old < last_count }
     requires out_counts { K.faults out.old < last_count }
-    requires makeable { IfSome named (λ n. IsMakeable n.0) }
+    requires numbered { IfSome named (λ n. IsNumbered n.0) }
     requires alone { IfSome named (λ n. n.0 ≢ Stream) }
     ensures { Ends (option_map (λ n. record { job = n.0; file = n.1.now; script = n.2.now }) named.entry)
         (seen_files F.content F.faults F.asked files.old) (seen_files F.content F.faults F.asked files.new)

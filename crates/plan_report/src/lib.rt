@@ -23,6 +23,6 @@ pub use plan_workers::NoMemory;
 pub use quiet::Quiet;
 pub use report::{Outcome, Report};
 pub use room::ReportRoom;
-pub use rounds::{has_ended, turn_on};
+pub use rounds::turn_on;
 pub use watcher::Watcher;
 pub use watching::look_once;

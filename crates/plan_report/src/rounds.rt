@@ -12,7 +12,7 @@ use std::sync::Wait;
 use std::time::Clock;
 
 /// Whether a turn came to the end of its worker.
-pub fn has_ended(turn: Turn) -> bool
+fn has_ended(turn: Turn) -> bool
     ensures { result ≡ true → turn ≡ Ended }
 {
     match turn {

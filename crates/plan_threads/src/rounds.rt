@@ -8,7 +8,6 @@ use crate::post::Post;
 use crate::seat::{Seat, start};
 use cedr_io::{Gate, Source};
 use cedr_worker::Turn;
-use plan_report::has_ended;
 use plan_workers::Worker;
 use std::collections::VecDeque;
 use std::sync::Wait;
@@ -41,7 +40,7 @@ pub(crate) fn turn_here<S: Source + Drop, G: Gate, R: Wait + Drop, Q: Wait>(
         let seat = &mut seats[i];
         let turn = seat.turn(rt, gate);
         round.moved = round.moved | (turn == Turn::Moved);
-        round.ended = round.ended & has_ended(turn);
+        round.ended = round.ended & (turn == Turn::Ended);
     }
     round
 }

@@ -30,8 +30,8 @@ impl<T: Drop> Drop for NoTasks<T> {
     }
 }
 
-/// A queue with these tasks, in their order, by one pass of it for each worker, from 1 to 16. All memory is taken here:
-/// [`TaskPass::take`], [`TaskPass::put`] and [`crate::close_tasks`] take none.
+/// A queue with these tasks by one pass of it for each worker, from 1 to 16. They are put in their order, of which no clause
+/// speaks. All memory is taken here: [`TaskPass::take`], [`TaskPass::put`] and [`crate::close_tasks`] take none.
 pub fn open_tasks<T: Placed<X> + Send + Drop, X: Drop, R: Wait>(
     rt: &R,
     alloc: Global,

@@ -69,8 +69,9 @@ impl<T: Placed<X> + Drop, X: Drop> TaskPass<T, X> {
         }
     }
 
-    /// Takes the task that was put first of those in the queue. `None` comes only where the queue was empty at a step of
-    /// this call. It takes no memory and holds no lock, and may spin while another pass is between two machine steps.
+    /// Takes a task of those in the queue: the one that was put first, though no clause speaks of the order. `None` comes
+    /// only where the queue was empty at a step of this call. It takes no memory and holds no lock, and may spin while
+    /// another pass is between two machine steps.
     pub fn take<R: Wait>(&mut self, rt: &R) -> Option<Numbered<T>>
         ensures taken { IfSome result (λ n. self.new ≡ record self.old { held = entry_of T.place n ∷ self.old.held }) }
         ensures opened { IfSome result (λ n. Contains self.old.opened (entry_of T.place n)) }

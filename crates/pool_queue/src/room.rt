@@ -124,8 +124,8 @@ fn seat_each<T: Placed<X> + Drop, X: Drop>(
 }
 
 impl<T: Placed<X> + Drop, X: Drop> TaskRoom<T, X> {
-    /// Room for so many tasks and for the passes of so many workers: some 100 bytes and 8 for each task a worker, and the
-    /// tasks' own places in the queue.
+    /// Room for so many tasks and for the passes of so many workers: a place of a task's own size for each task in the queue,
+    /// and one more for each task and worker, for whichever pass will close it.
     pub fn new(alloc: Global, tasks: usize, workers: usize) -> Result<TaskRoom<T, X>, OutOfMemory>
         requires { 0 < tasks }
         ensures { IfOk result (λ r. r ≡ record { tasks = tasks; workers = workers }) }
@@ -142,7 +142,8 @@ impl<T: Placed<X> + Drop, X: Drop> TaskRoom<T, X> {
         })
     }
 
-    /// The queue with these tasks, in their order, by one pass of it for each worker. It takes no memory.
+    /// The queue with these tasks, by one pass of it for each worker. They are put in their order, of which no clause speaks.
+    /// It takes no memory.
     pub fn fill<R: Wait>(self, rt: &R, tasks: Vec<Numbered<T>>) -> Vec<TaskPass<T, X>>
         requires room { length tasks.items ≡ self.tasks }
         requires apart { AreNumberedApart (map (entry_of T.place) tasks.items) }

@@ -62,7 +62,7 @@ fn main(rt: HostRuntime) -> Result<()> {
 }
 
 /// Does what a line says.
-fn step<R: Threads + Wait + Clock + Print + Copy + Drop + Send + 'static>(
+fn step<R: Threads + Wait + Clock + Print + Copy + Drop + Send + Sync + 'static>(
     rt: R,
     alloc: Global,
     case: &mut Case,
@@ -80,7 +80,7 @@ fn step<R: Threads + Wait + Clock + Print + Copy + Drop + Send + 'static>(
 }
 
 /// Carries out a command, and writes what it led to.
-fn carry_out<R: Threads + Wait + Clock + Print + Copy + Drop + Send + 'static>(
+fn carry_out<R: Threads + Wait + Clock + Print + Copy + Drop + Send + Sync + 'static>(
     rt: R,
     alloc: Global,
     case: &mut Case,

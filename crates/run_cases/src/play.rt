@@ -27,7 +27,7 @@ pub(crate) struct Played {
 }
 
 /// Carries out the words by the top call.
-pub(crate) fn play_on_threads<R: Threads + Wait + Clock + Copy + Drop + Send + 'static>(
+pub(crate) fn play_on_threads<R: Threads + Wait + Clock + Copy + Drop + Send + Sync + 'static>(
     rt: R,
     alloc: Global,
     case: &mut Case,
@@ -88,12 +88,13 @@ fn goes_on(words: &[String]) -> bool {
     }
 }
 
-/// Whether the words match neither `run PLAN` nor `stream PLAN`.
+/// Whether the words match none of `run PLAN`, `stream PLAN` and `pool N PLAN`, whatever N is.
 fn is_alone(words: &[String]) -> bool
     ensures { result ≡ true → IsAlone (map string_bytes words.now) }
 {
     match words {
         [command, _] => command.as_str() != "run" && command.as_str() != "stream",
+        [command, _, _] => command.as_str() != "pool",
         _ => true,
     }
 }

@@ -1,4 +1,6 @@
 //! Runs of plans over files in memory.
+ghost use Rattle.std.specs.Prelude.{◌≤◌};
+
 use crate::files::{NO_READ, files_of};
 use crate::gate::Holding;
 use cedr_base::{Change, OutOfMemory};
@@ -6,6 +8,7 @@ use cedr_guard::Refusal;
 use cedr_history::Reader;
 use cedr_io::ListSource;
 use cedr_plan::read_plan;
+use cedr_pool::run_pool;
 use cedr_text::{LineFault, write_change};
 use plan_answer::{FaultySource, find_sources};
 use plan_report::{Outcome, Report, Watcher};
@@ -61,6 +64,36 @@ enum Held {
     UntilSecond,
     /// From the hundredth on, until the watcher has read a change.
     UntilRead,
+}
+
+/// How many threads a pool has.
+#[derive(Clone, Copy)]
+enum Size {
+    One,
+    Two,
+    Four,
+    Sixteen,
+}
+
+impl Size {
+    fn threads(self) -> usize
+        ensures { (1 ≤ result) × (result ≤ 16) }
+    {
+        match self {
+            Size::One => 1,
+            Size::Two => 2,
+            Size::Four => 4,
+            Size::Sixteen => 16,
+        }
+    }
+}
+
+/// How the workers of a plan are turned.
+#[derive(Clone, Copy)]
+enum Way {
+    /// Each on a thread of its own.
+    Threads,
+    Pool(Size),
 }
 
 /// How a run ends.
@@ -241,11 +274,12 @@ fn gate_of(
 }
 
 /// What the run of a plan reports, whose watcher sets this flag.
-fn reported<R: Threads + Wait + Clock + Copy + Drop + Send + 'static>(
+fn reported<R: Threads + Wait + Clock + Copy + Drop + Send + Sync + 'static>(
     rt: R,
     alloc: Global,
     plan: &str,
     case: &Case<'_>,
+    way: Way,
     some: Arc<AtomicU64, Global>,
     gate: &Arc<Holding, Global>,
 ) -> Result<Report<ListSource>, Fail> {
@@ -258,22 +292,27 @@ fn reported<R: Threads + Wait + Clock + Copy + Drop + Send + 'static>(
         some,
         lacked: false,
     };
-    match run_threads(rt, alloc, &plan, sources, &mut watcher, &mut (), gate) {
+    let ran = match way {
+        Way::Threads => run_threads(rt, alloc, &plan, sources, &mut watcher, &mut (), gate),
+        Way::Pool(size) => run_pool(rt, alloc, size.threads(), &plan, sources, &**gate),
+    };
+    match ran {
         Ok(report) => Ok(report),
         Err(_) => Err(Fail::new("there is memory")),
     }
 }
 
 /// Runs a plan by the gate of its case. What is reported, and whether the turns were held as they are to be.
-fn run<R: Threads + Wait + Clock + Copy + Drop + Send + 'static>(
+fn run<R: Threads + Wait + Clock + Copy + Drop + Send + Sync + 'static>(
     rt: R,
     alloc: Global,
     plan: &str,
     case: &Case<'_>,
+    way: Way,
 ) -> Result<(Report<ListSource>, bool), Fail> {
     let some = Arc::new(alloc, AtomicU64::new(0))?;
     let gate = gate_of(alloc, case.held, &some)?;
-    let report = reported(rt, alloc, plan, case, some, &gate)?;
+    let report = reported(rt, alloc, plan, case, way, some, &gate)?;
     let held = gate.held();
     Ok((report, held))
 }
@@ -301,20 +340,25 @@ fn ended_as(alloc: Global, report: &Report<ListSource>, end: End<'_>) -> Result<
 }
 
 /// Whether a run of a plan ends as its case says, and the gate held.
-fn is_so<R: Threads + Wait + Clock + Copy + Drop + Send + 'static>(
+fn is_so<R: Threads + Wait + Clock + Copy + Drop + Send + Sync + 'static>(
     rt: R,
     alloc: Global,
     plan: &str,
     case: &Case<'_>,
+    way: Way,
 ) -> Result<bool, Fail> {
-    let (report, held) = run(rt, alloc, plan, case)?;
+    let (report, held) = run(rt, alloc, plan, case, way)?;
     Ok(ended_as(alloc, &report, case.end)? && held)
 }
 
 #[test]
 fn runs_end_as_their_cases_say(rt: HostRuntime) -> Result<(), Fail> {
     for (plan, case) in &CASES {
-        assert!(rt; is_so(rt, rt.alloc(), plan, case)?, "{}", case.title);
+        assert!(rt;
+            is_so(rt, rt.alloc(), plan, case, Way::Threads)?,
+            "{}",
+            case.title
+        );
     }
     Ok(())
 }
@@ -353,7 +397,49 @@ fn changes_are_read_before_their_source_ended(rt: HostRuntime) -> Result<(), Fai
     let (lines, changes) = insertions(rt.alloc(), 1000)?;
     let files = [named("s.csv", lines.as_str())];
     let case = read_before_the_end(&files, changes.as_str());
-    assert!(rt; is_so(rt, rt.alloc(), MIDDLE, &case)?, "{}", case.title);
+    assert!(rt;
+        is_so(rt, rt.alloc(), MIDDLE, &case, Way::Threads)?,
+        "{}",
+        case.title
+    );
+    Ok(())
+}
+
+#[test]
+fn pools_end_as_the_cases_say(rt: HostRuntime) -> Result<(), Fail> {
+    for size in [Size::Two, Size::Sixteen] {
+        for (plan, case) in &CASES {
+            assert!(rt;
+                is_so(rt, rt.alloc(), plan, case, Way::Pool(size))?,
+                "{}",
+                case.title
+            );
+        }
+    }
+    Ok(())
+}
+
+#[test]
+fn a_diamond_gives_one_answer_however_a_pool_runs(rt: HostRuntime) -> Result<(), Fail> {
+    for turn in 0..100u8 {
+        assert!(rt;
+            is_so(
+                rt,
+                rt.alloc(),
+                DIAMOND,
+                &DIAMOND_CASE,
+                Way::Pool(Size::Four)
+            )?,
+            "turn {turn}"
+        );
+    }
+    for size in [Size::One, Size::Two, Size::Sixteen] {
+        assert!(rt;
+            is_so(rt, rt.alloc(), DIAMOND, &DIAMOND_CASE, Way::Pool(size))?,
+            "{} threads",
+            size.threads()
+        );
+    }
     Ok(())
 }
 
@@ -361,7 +447,7 @@ fn changes_are_read_before_their_source_ended(rt: HostRuntime) -> Result<(), Fai
 fn a_diamond_gives_one_answer_however_its_threads_run(rt: HostRuntime) -> Result<(), Fail> {
     for turn in 0..100u8 {
         assert!(rt;
-            is_so(rt, rt.alloc(), DIAMOND, &DIAMOND_CASE)?,
+            is_so(rt, rt.alloc(), DIAMOND, &DIAMOND_CASE, Way::Threads)?,
             "turn {turn}"
         );
     }
@@ -393,8 +479,18 @@ fn up_to_64_nodes_run_on_as_many_threads(rt: HostRuntime) -> Result<(), Fail> {
     for selects in [1, 40, 62] {
         let plan = chain(rt.alloc(), selects)?;
         assert!(rt;
-            is_so(rt, rt.alloc(), plan.as_str(), &CHAIN_CASE)?,
+            is_so(rt, rt.alloc(), plan.as_str(), &CHAIN_CASE, Way::Threads)?,
             "{selects} selects"
+        );
+        assert!(rt;
+            is_so(
+                rt,
+                rt.alloc(),
+                plan.as_str(),
+                &CHAIN_CASE,
+                Way::Pool(Size::Four)
+            )?,
+            "{selects} selects in a pool"
         );
     }
     Ok(())
@@ -420,9 +516,9 @@ fn has_moved_three(report: &Report<ListSource>) -> bool {
 
 #[test]
 fn what_a_run_did_is_told(rt: HostRuntime) -> Result<(), Fail> {
-    let (report, _) = run(rt, rt.alloc(), WEAK, &WEAK_CASE)?;
+    let (report, _) = run(rt, rt.alloc(), WEAK, &WEAK_CASE, Way::Threads)?;
     assert!(rt; is_forgotten(&report));
-    let (report, _) = run(rt, rt.alloc(), MIDDLE, &MIDDLE_CASE)?;
+    let (report, _) = run(rt, rt.alloc(), MIDDLE, &MIDDLE_CASE, Way::Threads)?;
     assert!(rt; has_moved_three(&report));
     Ok(())
 }

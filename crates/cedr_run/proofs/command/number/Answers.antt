@@ -9,8 +9,9 @@ returns-in_err-value-clause-value c =
     let at = c.loop-digit.digit-index in
     let byte = get_or text at 0 in
     let value = c.loop-digit.value in
-    let over : 100000 < value * 10 + (byte - 48) = omega (arith, c.in_err-value.ensures) in
+    let last = c.args.last in
+    let over : last < value * 10 + (byte - 48) = omega (arith, c.in_err-value.ensures, c.ranges.last.fits) in
     let here = drop_more text at 0 c.loop-digit-test.true in
     let digit = c.is_ascii_digit.ensures.value in
-    let none = number_at_digit 100000 value byte (drop (at + 1) text) (cc (c.if-not-is_ascii_digit.false, digit)) ∙ number_too_large 100000 (value * 10 + (byte - 48)) (drop (at + 1) text) over in
-    c.from_residual.ensures ∙ sym (c.loop-digit.invariant ∙ (ap (number_after 100000 value) here ∙ none))
+    let none = number_at_digit last value byte (drop (at + 1) text) (cc (c.if-not-is_ascii_digit.false, digit)) ∙ number_too_large last (value * 10 + (byte - 48)) (drop (at + 1) text) over in
+    c.from_residual.ensures ∙ sym (c.loop-digit.invariant ∙ (ap (number_after last value) here ∙ none))

@@ -4,4 +4,4 @@ use Rattle.cedr_text.proofs.Numerals.{number_after}
 use Rattle.cedr_run.proofs.command.number.Given as goal
 
 abbrev pub invariant-loop-digit : goal.invariant-loop-digit
-invariant-loop-digit l = whole_number 100000 l.digits ≡ number_after 100000 l.value (drop l.digit-index l.digits)
+invariant-loop-digit l = whole_number l.last l.digits ≡ number_after l.last l.value (drop l.digit-index l.digits)

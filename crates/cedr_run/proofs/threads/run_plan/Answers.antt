@@ -1,7 +1,7 @@
 use Rattle.std.proofs.Common.{refl, subst, sym}
 use Rattle.cedr_run.specs.Seen.{seen_files, seen_sink}
 use Rattle.cedr_run.specs.Threads.{RunEnds}
-use Rattle.cedr_run.proofs.PlanLemmas.{by_run, ends_later}
+use Rattle.cedr_run.proofs.PlanLemmas.{ends_later}
 use Rattle.cedr_run.proofs.StrongLemmas.{strong_later, wrote_nothing_strong}
 use Rattle.cedr_run.proofs.threads.run_plan.Goals as goal
 
@@ -15,7 +15,7 @@ pub returns-in_default-clause-ends : goal.returns-in_default-clause-ends
 returns-in_default-clause-ends g c =
     ends_later c.args.job (seen_files g.F.Files.content g.F.Files.faults g.F.Files.asked c.args.files.now) (seen_files g.F.Files.content g.F.Files.faults g.F.Files.asked c.find_sources.new.files) (seen_files g.F.Files.content g.F.Files.faults g.F.Files.asked c.run_sources.new.files) c.args.plan.now.nodes.items
     c.in-Ok.ensures.counted c.in-Ok.ensures.contents (seen_sink g.K.Sink.written g.K.Sink.faults c.args.out.now) (seen_sink g.K.Sink.written g.K.Sink.faults c.run_sources.new.out) c.run_sources.result.edges.items c.run_sources.result.ran.items c.run_sources.result.outcome
-    (by_run (λ j. RunEnds j c.args.plan.now.nodes.items (seen_files g.F.Files.content g.F.Files.faults g.F.Files.asked c.find_sources.new.files) (seen_files g.F.Files.content g.F.Files.faults g.F.Files.asked c.run_sources.new.files) (seen_sink g.K.Sink.written g.K.Sink.faults c.args.out.now) (seen_sink g.K.Sink.written g.K.Sink.faults c.run_sources.new.out) c.run_sources.result.edges.items c.run_sources.result.ran.items c.run_sources.result.outcome) c.args.job c.requires.job c.in_default.not-Stream c.run_sources.ensures.ends)
+    c.run_sources.ensures.ends
 
 pub returns-in-Stream-clause-strong : goal.returns-in-Stream-clause-strong
 returns-in-Stream-clause-strong g c = λ is.

@@ -20,6 +20,6 @@ end_of-outcome-requires-clause-can_tell g c = λ done.
     )
 
 pub returns-clause-ends : goal.returns-clause-ends
-returns-clause-ends g c =
-    run_ends g.F.Source.Source.rest g.F.Source.Source.faults c.accepted_sources.ensures c.args.plan.now c.requires.plan (seen_files g.F.Files.content g.F.Files.faults g.F.Files.asked c.args.files.now) (seen_files g.F.Files.content g.F.Files.faults g.F.Files.asked c.give_back_ends.new.files) (seen_sink g.K.Sink.written g.K.Sink.faults c.args.out.now) (seen_sink g.K.Sink.written g.K.Sink.faults c.end_of-outcome.new.out) c.args.report c.requires.report c.requires.files_count c.give_back_ends.ensures.counted c.end_of-outcome.result
+returns-clause-ends g c = λ job threaded at_end.
+    run_ends g.F.Source.Source.rest g.F.Source.Source.faults job threaded at_end c.accepted_sources.ensures c.args.plan.now c.requires.plan (seen_files g.F.Files.content g.F.Files.faults g.F.Files.asked c.args.files.now) (seen_files g.F.Files.content g.F.Files.faults g.F.Files.asked c.give_back_ends.new.files) (seen_sink g.K.Sink.written g.K.Sink.faults c.args.out.now) (seen_sink g.K.Sink.written g.K.Sink.faults c.end_of-outcome.new.out) c.args.report c.requires.report c.requires.files_count c.give_back_ends.ensures.counted c.end_of-outcome.result
     (tells_as c.args.report.outcome c.args.plan.now.nodes.items c.as_slice-nodes.result.now c.args.report.changes.items c.deref.result.now c.args.report.forgotten.items c.deref-2.result.now (seen_sink g.K.Sink.written g.K.Sink.faults c.args.out.now) (seen_sink g.K.Sink.written g.K.Sink.faults c.end_of-outcome.new.out) c.end_of-outcome.result c.as_slice-nodes.ensures.value c.deref.ensures.value c.deref-2.ensures.value c.end_of-outcome.ensures)

@@ -1,40 +1,23 @@
-use Rattle.std.proofs.Common.{◌≡◌, Option, Some, ap, refl, sym, subst, ◌∙◌, map}
+use Rattle.std.proofs.Common.{◌≡◌, Option, Some, ap, subst, ◌∙◌, map}
 use Rattle.std.specs.String.{string_bytes}
-use Rattle.cedr_run.specs.declared.command.Job.TheVariants.{Run, Stream}
 use Rattle.cedr_run.specs.Commands.{Command, command_of}
 use Rattle.cedr_run.specs.Seen.{seen_files, seen_sink}
 use Rattle.cedr_run.specs.Strong.{StreamsStrong}
 use Rattle.cedr_run.specs.Threads.{HasRun}
+use Rattle.cedr_run.proofs.StrongLemmas.{streams_strong_by}
 use Rattle.cedr_run.proofs.top.run.Goals as goal
 
 pub returns-in-Some-Run-default-default-clause-ran : goal.returns-in-Some-Run-default-default-clause-ran
 returns-in-Some-Run-default-default-clause-ran g c =
     let arm = c.in-Some-Run-default-default in
     let script = arm.field-0-2.now in
-    let same : Some (record { job = Run; file = c.as_bytes.result.now; script = script }) ≡ command_of (map string_bytes c.args.words.now) = ap {B = Option Command} (λ file. Some (record { job = Run; file = file; script = script })) c.as_bytes.ensures.value
-    ∙ (ap {B = Option Command} (λ job. Some (record { job = job; file = arm.file.now; script = script })) (sym arm.field-0-0-is) ∙ arm.ensures.named) in
+    let same : Some (record { job = arm.job; file = c.as_bytes.result.now; script = script }) ≡ command_of (map string_bytes c.args.words.now) = ap {B = Option Command} (λ file. Some (record { job = arm.job; file = file; script = script })) c.as_bytes.ensures.value ∙ arm.ensures.named in
     subst (λ (command : Option Command). HasRun command (seen_files g.F.Files.content g.F.Files.faults g.F.Files.asked c.args.files.now) (seen_sink g.K.Sink.written g.K.Sink.faults c.args.out.now) (seen_sink g.K.Sink.written g.K.Sink.faults c.call_threads.new.out) c.call_threads.result.status c.call_threads.result.edges.items c.call_threads.result.ran.items) same (c.call_threads.ensures.ran script)
-
-pub returns-in-Some-Stream-default-default-clause-ran : goal.returns-in-Some-Stream-default-default-clause-ran
-returns-in-Some-Stream-default-default-clause-ran g c =
-    let arm = c.in-Some-Stream-default-default in
-    let script = arm.field-0-2.now in
-    let same : Some (record { job = Stream; file = c.as_bytes-in-Some-Stream-default-default.result.now; script = script }) ≡ command_of (map string_bytes c.args.words.now) = ap {B = Option Command} (λ file. Some (record { job = Stream; file = file; script = script })) c.as_bytes-in-Some-Stream-default-default.ensures.value
-    ∙ (ap {B = Option Command} (λ job. Some (record { job = job; file = arm.file.now; script = script })) (sym arm.field-0-0-is) ∙ arm.ensures.named) in
-    subst (λ (command : Option Command). HasRun command (seen_files g.F.Files.content g.F.Files.faults g.F.Files.asked c.args.files.now) (seen_sink g.K.Sink.written g.K.Sink.faults c.args.out.now) (seen_sink g.K.Sink.written g.K.Sink.faults c.call_threads-in-Some-Stream-default-default.new.out) c.call_threads-in-Some-Stream-default-default.result.status c.call_threads-in-Some-Stream-default-default.result.edges.items c.call_threads-in-Some-Stream-default-default.result.ran.items) same (c.call_threads-in-Some-Stream-default-default.ensures.ran script)
 
 pub returns-in-Some-Run-default-default-clause-strong : goal.returns-in-Some-Run-default-default-clause-strong
 returns-in-Some-Run-default-default-clause-strong g c =
     let arm = c.in-Some-Run-default-default in
     let script = arm.field-0-2.now in
-    let same : Some (record { job = Run; file = c.as_bytes.result.now; script = script }) ≡ command_of (map string_bytes c.args.words.now) = ap {B = Option Command} (λ file. Some (record { job = Run; file = file; script = script })) c.as_bytes.ensures.value
-    ∙ (ap {B = Option Command} (λ job. Some (record { job = job; file = arm.file.now; script = script })) (sym arm.field-0-0-is) ∙ arm.ensures.named) in
-    subst (λ (command : Option Command). StreamsStrong command (seen_files g.F.Files.content g.F.Files.faults g.F.Files.asked c.args.files.now) (seen_sink g.K.Sink.written g.K.Sink.faults c.args.out.now) (seen_sink g.K.Sink.written g.K.Sink.faults c.call_threads.new.out)) same tt
-
-pub returns-in-Some-Stream-default-default-clause-strong : goal.returns-in-Some-Stream-default-default-clause-strong
-returns-in-Some-Stream-default-default-clause-strong g c =
-    let arm = c.in-Some-Stream-default-default in
-    let script = arm.field-0-2.now in
-    let same : Some (record { job = Stream; file = c.as_bytes-in-Some-Stream-default-default.result.now; script = script }) ≡ command_of (map string_bytes c.args.words.now) = ap {B = Option Command} (λ file. Some (record { job = Stream; file = file; script = script })) c.as_bytes-in-Some-Stream-default-default.ensures.value
-    ∙ (ap {B = Option Command} (λ job. Some (record { job = job; file = arm.file.now; script = script })) (sym arm.field-0-0-is) ∙ arm.ensures.named) in
-    subst (λ (command : Option Command). StreamsStrong command (seen_files g.F.Files.content g.F.Files.faults g.F.Files.asked c.args.files.now) (seen_sink g.K.Sink.written g.K.Sink.faults c.args.out.now) (seen_sink g.K.Sink.written g.K.Sink.faults c.call_threads-in-Some-Stream-default-default.new.out)) same (c.call_threads-in-Some-Stream-default-default.ensures.strong refl)
+    let same : Some (record { job = arm.job; file = c.as_bytes.result.now; script = script }) ≡ command_of (map string_bytes c.args.words.now) = ap {B = Option Command} (λ file. Some (record { job = arm.job; file = file; script = script })) c.as_bytes.ensures.value ∙ arm.ensures.named in
+    subst (λ (command : Option Command). StreamsStrong command (seen_files g.F.Files.content g.F.Files.faults g.F.Files.asked c.args.files.now) (seen_sink g.K.Sink.written g.K.Sink.faults c.args.out.now) (seen_sink g.K.Sink.written g.K.Sink.faults c.call_threads.new.out)) same
+    (streams_strong_by arm.job (seen_files g.F.Files.content g.F.Files.faults g.F.Files.asked c.args.files.now) c.as_bytes.result.now script (seen_sink g.K.Sink.written g.K.Sink.faults c.args.out.now) (seen_sink g.K.Sink.written g.K.Sink.faults c.call_threads.new.out) c.call_threads.ensures.strong)

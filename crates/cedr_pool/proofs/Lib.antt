@@ -1,0 +1,6 @@
+mod TaskLemmas
+mod OrderLemmas
+mod EndedLemmas
+mod SeatLemmas
+mod RunLemmas
+mod SendLemmas

@@ -1,0 +1,4 @@
+pub mod Tasks
+pub mod Seats
+pub mod Rooms
+pub mod Turns
