@@ -9,8 +9,9 @@ import picture
 from network_cases import NetworkCase
 from program import Case
 
-SHOWN = re.compile(r"```sh\n(?:\(cd crates[^\n]*\n)?\(cd (\S+) && \S*/cedr ([^\n]*)\)\n```\n\n```text\n(.*?)```", re.DOTALL)
-CALL = re.compile(r"^(?:\(cd \S+ && )?\S*/cedr ", re.MULTILINE)
+# What stands in a pipe is run by from_csv.py.
+SHOWN = re.compile(r"```sh\n(?:\(cd crates[^\n]*\n)?\(cd (\S+) && \S*/cedr ([^|\n]*)\)\n```\n\n```text\n(.*?)```", re.DOTALL)
+CALL = re.compile(r"^(?:\(cd \S+ && )?\S*/cedr [^|\n]*$", re.MULTILINE)
 TABLE_ROW = re.compile(r"^\| (\d+|the end) \|(.*)\|$", re.MULTILINE)
 TEXT = re.compile("`([^`]*)`")
 NODE = re.compile(r"```json\n([^`]*)```\n\n```sh\n[^`]*/cedr run ([^\n]*)\)\n")
@@ -50,6 +51,7 @@ def all_cases(root: Path):
     check_levels(root)
     check_guide(root)
     check_front(root)
+    check_side_by_side((root / "docs/plans.md").read_text(), root / "examples", 4)
     if picture.PICTURE.read_text() != picture.drawn():
         raise PageError("docs/picture.svg isn't what checks/picture.py draws")
     yield from faults((root / "docs/faults.md").read_text())
@@ -115,16 +117,24 @@ def anchor_of(heading: str) -> str:
 def check_front(root: Path) -> None:
     """The files and the plan of the README's example are as it shows them, and its sorted file has the same lines."""
     page, folder = (root / "README.md").read_text(), root / "examples/monday"
-    names, body = SIDE_BY_SIDE.search(page).groups()
-    files = [(folder / name).read_text().splitlines() for name in names.split()]
-    if [line.split() for line in body.splitlines()] != [[*filter(None, row)] for row in zip_longest(*files)]:
-        raise PageError("the files aren't as the README shows them")
+    check_side_by_side(page, folder, 1)
     name, plan = PLAN.search(page).groups()
     if (folder / name).read_text() != plan:
         raise PageError("the plan isn't as the README shows it")
     for one in (folder / "sorted").iterdir():
         if sorted(one.read_text().splitlines()) != sorted((folder / one.name).read_text().splitlines()):
             raise PageError(f"the sorted {one.name} has other lines")
+
+
+def check_side_by_side(page: str, folder: Path, count: int) -> None:
+    """The blocks that show files side by side, of which there are so many, have their lines."""
+    found = SIDE_BY_SIDE.findall(page)
+    for names, body in found:
+        files = [(folder / name).read_text().splitlines() for name in names.split()]
+        if [line.split() for line in body.splitlines()] != [[*filter(None, row)] for row in zip_longest(*files)]:
+            raise PageError(f"{names.strip()} aren't as the page shows them")
+    if len(found) != count:
+        raise PageError(f"{len(found)} blocks show files, and {count} must")
 
 
 def check_guide(root: Path) -> None:
