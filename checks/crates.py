@@ -4,7 +4,7 @@
 Each crate that a line of crates.txt names is named in the sources of its crate. One of the repository that proofs alone name
 is below that crate by others too, or a crate of laws, so that no crate stands on another for a lemma alone. And each row of
 the table of crates in docs/architecture.md says how many crates are proved anew when its crate changes: itself and all above
-it. The table of modules there has each module of each crate.
+it. The table of modules there has each module of each crate, and what a page calls `CRATE::NAME` is a module or an item there.
 
 usage: python3 checks/crates.py [--table]   with --table: only writes, for each crate, how many are proved anew
 """
@@ -87,12 +87,21 @@ def modules(crates: dict):
         yield from (f"docs/architecture.md: {name} has no module {one}" for one in sorted(found - there))
 
 
+def misnamed(crates: dict):
+    """Where a page calls something `CRATE::NAME` that is no module of the crate and no item in it."""
+    for page in [ROOT / "README.md", ROOT / "CONTRIBUTING.md", *sorted((ROOT / "docs").glob("*.md"))]:
+        for crate, name in sorted(set(re.findall(r"`(\w+)::(\w+)`", page.read_text()))):
+            if crate in crates and not (ROOT / "crates" / crate / "src" / f"{name}.rt").is_file() \
+                    and not re.search(rf"\b(?:fn|struct|enum|trait|const|type) {name}\b", text_of(crate, "src")):
+                yield f"{page.relative_to(ROOT)}: {crate} has no {name}"
+
+
 def main() -> None:
     crates = listed()
     if sys.argv[1:] == ["--table"]:
         print("\n".join(f"{name} {count}" for name, count in proved_anew(crates).items()))
         return
-    found = [*unnamed(crates), *miscounted(crates), *modules(crates)]
+    found = [*unnamed(crates), *miscounted(crates), *modules(crates), *misnamed(crates)]
     print("\n".join(found + [f"crates: {len(found)} differences"]))
     sys.exit(1 if found else 0)
 

@@ -9,6 +9,7 @@ import contextlib
 import random
 import sys
 import tempfile
+from concurrent.futures import ProcessPoolExecutor
 from pathlib import Path
 from unittest import mock
 
@@ -25,7 +26,9 @@ from aligner import Aligner
 from messages import Add, Cut, End, Mark, in_one_list, later, sync
 from network import Network, WorkingNode, fed_in_rounds
 
-SEEDS = range(60), range(60), range(20), range(20), range(1)
+# Of these plans two take as long as all others together.
+PLANS = [seed for seed in range(25) if seed not in (7, 10)]
+SEEDS = PLANS, range(60), range(20), range(20), range(1)
 
 
 class Found(Exception):
@@ -218,7 +221,8 @@ CHOICE = random.Random(1)
 READ_SOURCES, FORGOTTEN, ANSWER, MIXED = asked.read_sources, Network.forgotten, network_texts.answer, made.mixed
 REVISE, EXTREMES = reference.Judge.revise, nodes.extremes
 
-WAYS = {
+# What random plans and scripts show.
+BY_CHANCE = {
     "a change is late one too early": instead(Aligner, "cause", late_at_once),
     "an orphan is called late": instead(Aligner, "cause", all_late),
     "a row that ends at the mark is released": instead(Aligner, "is_held", released_at_the_mark),
@@ -227,16 +231,11 @@ WAYS = {
     "a group hands its guarantee on": instead(nodes, "open_begins", lambda *_: []),
     "a join makes one copy": operator("join", one_copy_joined),
     "a tie is in sequence": operator("sequence", ties_in_sequence),
-    "two rows of one port are at least two": operator("atleast", two_of_one_port),
-    "at least so many are joined by their ports": instead(nodes, "in_turn", list),
     "each row is an exception": operator("except", untested),
     "an except hands its guarantee on": instead(nodes, "open_parts", lambda *_: []),
     "the end of the scope blocks": operator("unless", scope_end_blocks),
     "a hop begins with its row": operator("hop", hop_from_the_begin),
-    "greatest fields are the least ones": instead(nodes, "extremes", least_of_each),
-    "sums have 64 bits": instead(nodes, "wrapped", lambda number: (number + 2**63) % 2**64 - 2**63),
     "the first faulty source alone is told": instead(asked, "read_sources", first_fault_alone),
-    "faults are told before reads that fail": instead(asked, "read_sources", events_before_reads),
     "a port behind an operator forgets and doesn't tell": instead(Network, "forgotten", quiet_inner_ports),
     "the list is turned round": instead(Network, "forgotten", lambda self: FORGOTTEN(self)[::-1]),
     "rows are sorted by their begin": instead(Network, "answer", lambda self: sorted(
@@ -245,13 +244,22 @@ WAYS = {
     "a field isn't quoted": instead(reference, "field_text", never_quoted),
     "what a script showed before its fault is lost": instead(network_texts, "answer", silent_at_a_fault),
     "a guarantee of live is that of the sources": instead(Network, "reach", lambda self: 0),
+    "a revision leaves the old row": instead(reference.Judge, "revise", revised_without_a_cut),
+    "a revision doesn't lengthen a life": instead(reference.Judge, "revise", revised_within_its_life),
+}
+
+# What cases by hand alone show.
+BY_HAND = {
+    "two rows of one port are at least two": operator("atleast", two_of_one_port),
+    "at least so many are joined by their ports": instead(nodes, "in_turn", list),
+    "greatest fields are the least ones": instead(nodes, "extremes", least_of_each),
+    "sums have 64 bits": instead(nodes, "wrapped", lambda number: (number + 2**63) % 2**64 - 2**63),
+    "faults are told before reads that fail": instead(asked, "read_sources", events_before_reads),
     "a line without a message uses up no turn": instead(network_texts, "fed_in_rounds", fed_by_messages),
     "the network settles once all is fed": instead(network_texts, "fed_in_rounds", fed_before_all_settles),
     "sources come one after the other in rounds": instead(network_texts, "fed_in_rounds", fed_one_after_the_other),
     "the last port takes first in rounds": instead(network_texts, "fed_in_rounds", fed_last_first),
     "the messages of a revision come in two rounds": instead(network_texts, "fed_in_rounds", fed_one_message_a_round),
-    "a revision leaves the old row": instead(reference.Judge, "revise", revised_without_a_cut),
-    "a revision doesn't lengthen a life": instead(reference.Judge, "revise", revised_within_its_life),
     "made numbers are others": instead(made, "mixed", lambda number: MIXED(number + 1)),
 }
 
@@ -278,26 +286,33 @@ LAWFUL = {
     "sources come one after the other on threads": instead(network_texts, "fed_on_threads", fed_one_after_the_other),
 }
 
+WAYS = BY_CHANCE | BY_HAND | LAWFUL
 
-def first_difference(wrong) -> str:
+
+def first_difference(way: str) -> str:
     with tempfile.TemporaryDirectory(prefix="cedr-check-") as folder:
-        check = StandIn(Path(folder), wrong)
+        check = StandIn(Path(folder), WAYS[way])
         try:
-            networks.check_seeds(check, *SEEDS)
-            networks.check_made(check)
-            networks.check_by_hand(check, network_cases.all_cases())
-            networks.check_full_device(check)
+            if way not in BY_HAND:
+                networks.check_seeds(check, *SEEDS)
+            if way not in BY_CHANCE:
+                networks.check_made(check)
+                networks.check_by_hand(check, network_cases.all_cases())
+                networks.check_full_device(check)
         except Found as found:
             return str(found)
     return ""
 
 
 def main() -> int:
-    found = {way: first_difference(wrong) for way, wrong in WAYS.items()}
-    lawful = {way: first_difference(right) for way, right in LAWFUL.items()}
-    for way, name in (found | lawful).items():
-        print(f"{way}: {name or 'no difference'}")
-    return 1 if "" in found.values() or any(lawful.values()) else 0
+    with ProcessPoolExecutor() as pool:
+        found = dict(zip(WAYS, pool.map(first_difference, WAYS)))
+    missed = [way for way, name in found.items() if bool(name) == (way in LAWFUL)]
+    for way in missed:
+        print(f"{way}: {found[way] or 'no difference'}")
+    print(f"wrong networks: {len(WAYS) - len(LAWFUL)} wrong and {len(LAWFUL)} lawful ones, {len(missed)} not seen as such")
+    return 1 if missed else 0
 
 
-sys.exit(main())
+if __name__ == "__main__":
+    sys.exit(main())

@@ -101,6 +101,7 @@ FILES = {
 PLANS = ["strong.json", "middle.json", "weak.json"]
 COMMANDS = [["history", "e.csv"], ["history", "faulty.csv"], ["check", "strong.json"], ["check", "faulty.json"], ["make", "3"],
             *[[command, name] for command in asked.ON_SOURCES for name in [*PLANS, "refused.json"]],
+            *[["pool", "3", name] for name in [*PLANS, "refused.json"]],
             *[["live", name, "script.txt"] for name in PLANS], ["live", "middle.json", "faulty.txt"], ["run"]]
 
 
