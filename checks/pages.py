@@ -44,7 +44,7 @@ def of_history(root: Path):
 
 
 def all_cases(root: Path):
-    names = ["README.md", "CONTRIBUTING.md", *(f"docs/{one.name}" for one in sorted((root / "docs").glob("*.md")))]
+    names = ["README.md", "CONTRIBUTING.md", "checks/README.md", "bench/README.md", *(f"docs/{one.name}" for one in sorted((root / "docs").glob("*.md")))]
     for name in names:
         check_links(root, name)
         yield from shown_cases(root, name)
