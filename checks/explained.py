@@ -1,0 +1,260 @@
+#!/usr/bin/env python3
+"""Runs tools/cedr-explain over the ordinary mistakes of mistakes.py, and holds it to the cases of the other checks.
+
+- For each mistake the tool hands on what the program writes, byte by byte, and its status, and says the lines that are written
+  by hand.
+- It finds the fault of each plan and of each line that the other checks have, with its place, and says of each more than the
+  fault's name. For random files the faults are those of reference.py.
+- Its commands are those of the table in docs/program.md, and what docs/faults.md shows of it is what it says.
+- A stand-in for the program shows what it says of memory, of signals and of how far a file is read, and that it hands on
+  standard input and many bytes as they are.
+
+Status 0: all right. 1: something differs; the first differences are printed. 2: the program isn't there.
+
+usage: checks/explained.py [PROGRAM]
+"""
+import os
+import random
+import re
+import subprocess
+import sys
+import tempfile
+from pathlib import Path
+
+sys.dont_write_bytecode = True
+
+import cases
+import doc_tables
+import mistakes
+import plan_cases
+import random_files
+import reference
+from program import ROOT, built_program
+
+sys.path.insert(0, str(ROOT / "tools"))
+
+from cedr_explain import command, commands, event_line, events, language
+from cedr_explain.plan import Plan
+
+TOOL = ROOT / "tools/cedr-explain"
+SECONDS = 60
+RANDOM = 300
+SHOWN = 5
+# What docs/faults.md shows: the words behind the tool, and what stands under them. The plan is the first one of docs/plans.md.
+SHOWN_CALL = re.compile(r"```sh\ntools/cedr-explain ([^\n]*)\n```\n\n```text\n(.*?)```", re.DOTALL)
+FIRST_PLAN = re.compile(r"```json\n(.*?)```", re.DOTALL)
+PAGE_EVENTS = "+,1,10,20,a\n=,5\n+,2,4,20,b\n"
+EVENTS = re.compile(rb"events e.csv line (\d+) fault (\d+)")
+
+# Each stand-in is a script: what it does, with which words of the tool it is called, the status that must come, and the lines.
+STAND_INS = [
+    ("want of memory", 'echo "out of memory" >&2; exit 6', ["run", "plan.json"], 6,
+     ["out of memory", "  The system gave no more memory."]),
+    ("a signal", "kill -KILL $$", ["run", "plan.json"], 137,
+     ["  The program was ended by the signal 9, Killed.", "  The system does so where memory runs out."]),
+    ("a reader that has ended", "kill -PIPE $$", ["run", "plan.json"], 141,
+     ["  Standard output is a pipe, and whoever read it has ended."]),
+    ("a fault that there is none of", 'echo "plan fault 99 node 1" >&2; exit 2', ["run", "plan.json"], 2,
+     ["  The plan has a fault that this tool knows nothing of."]),
+    ("a plan that is another one by now", 'echo "plan fault 3 node 1" >&2; exit 2', ["run", "plan.json"], 2,
+     ["  The plan that is there now hasn't this fault: it is another one than the program read."]),
+    ("a file that is another one by now", 'echo "events orders line 2 fault 3" >&2; exit 3', ["run", "plan.json"], 3,
+     ["  orders.csv:2: Its ID, BEGIN, END or TIME isn't a whole number in digits. The file may be another one by now: as "
+      "it is, this "
+      "line has no fault."]),
+    ("a read that is refused in the middle", 'echo "read fault" >&2; exit 4', ["check", "plan.json"], 4,
+     ["  Each file can be opened now: plan.json. A read of one was refused, or it is there only since then."]),
+    ("half of a file", "exec 3< orders.csv; head -c 55 <&3 > /dev/null; sleep 1", ["--progress=0.3", "run", "plan.json"], 0,
+     ["orders 50 % of 110 bytes; payments isn't open; memory "]),
+]
+
+
+# The file of docs/faults.md that has a byte too many, and what is said of it.
+LARGE = ("=," + "0" * 65_533 + "\n") * 1_024 + "x"
+TOO_LARGE = ['events orders.csv line 1025 fault 10',
+             '  orders.csv:1025: The file has 67,108,865 bytes, and a source has at most 67,108,864. docs/program.md says '
+             'in "A source of '
+             'more than 64 MiB" how to divide a file.', "  > 1025 | "]
+
+
+class Differences:
+    """Counts what differs, and shows the first of it."""
+
+    def __init__(self) -> None:
+        self.count = 0
+
+    def expect(self, holds: bool, name: str, told: object) -> None:
+        if not holds:
+            self.count += 1
+            if self.count <= SHOWN:
+                print(f"DIFFERENCE {self.count}: {name}\n{told}", flush=True)
+
+
+class Folder:
+    """A folder with the files of a mistake, in which commands are run."""
+
+    def __init__(self, program: Path, path: Path) -> None:
+        self.program, self.path = program, path
+
+    def fill(self, files: dict) -> None:
+        for old in self.path.iterdir():
+            old.unlink()
+        for name, data in files.items():
+            (self.path / name).write_bytes(data)
+
+    def run(self, words: list, program: Path = None, given: bytes = b"", out=subprocess.PIPE) -> tuple:
+        """The status, standard output and standard error of the tool with this program."""
+        settings = {**os.environ, "CEDR": str(program or self.program)}
+        done = subprocess.run([TOOL, *words], cwd=self.path, env=settings, input=given, stdout=out, stderr=subprocess.PIPE,
+                              timeout=SECONDS)
+        return done.returncode, done.stdout or b"", done.stderr
+
+    def plain(self, words: list) -> tuple:
+        done = subprocess.run([self.program, *words], cwd=self.path, capture_output=True, timeout=SECONDS, stdin=subprocess.DEVNULL)
+        return done.returncode, done.stdout, done.stderr
+
+
+def has_in_order(lines: list, wanted: list) -> bool:
+    """Whether each wanted line is among the lines, behind the one before it. A wanted one may be the begin of a line."""
+    left = iter(lines)
+    return all(any(line.startswith(one) for line in left) for one in wanted)
+
+
+def check_mistakes(folder: Folder, differences: Differences) -> int:
+    for one in mistakes.ALL:
+        folder.fill(one.files())
+        words = one.words.split()
+        plain, came = folder.plain(words), folder.run(words)
+        told = f"{one.told}\n".encode() if one.told else b""
+        differences.expect((plain[0], plain[2]) == (one.status, told), f"{one.name}: the program's own answer", plain)
+        differences.expect(came[:2] == plain[:2] and came[2].startswith(told), f"{one.name}: what is handed on", came)
+        said = came[2][len(told):].decode().splitlines()
+        wanted = [f"  {line}" for line in one.wanted()]
+        is_whole = all(line in said for line in wanted) and has_in_order(said, wanted)
+        differences.expect(is_whole, one.name, "\n".join(["wanted:", *wanted, "came:", *said]))
+    return len(mistakes.ALL)
+
+
+def check_good(folder: Folder, differences: Differences) -> int:
+    """Where nothing is wrong nothing is said: the plan without a mistake, and each command over it."""
+    folder.fill({name: text.encode() for name, text in mistakes.FILES.items()})
+    lines = ["run plan.json", "stream plan.json", "pool 2 plan.json", "serial plan.json", "audit plan.json", "check plan.json",
+             "live plan.json script.txt", "history orders.csv", "make 3", "--version"]
+    for words in map(str.split, lines):
+        plain, came = folder.plain(words), folder.run(words)
+        differences.expect(came == plain and plain[0] == 0 and not plain[2], f"the words {words}", (plain, came))
+    came = folder.run(["history", "/dev/stdin"], given=b"+,1,1,2,a\n")
+    differences.expect(came == (0, b"1,2,a\n", b""), "standard input", came)
+    came = folder.run(["history", "/dev/stdin"], given=b"+,1,1,1,a\n")
+    told = b"events /dev/stdin line 1 fault 4\n  /dev/stdin:1: Its END isn't after its BEGIN. The line can't be shown"
+    differences.expect(came[0] == 3 and came[2].startswith(told), "a fault on standard input", came)
+    with open("/dev/full", "wb") as full:
+        came = folder.run(["check", "plan.json"], out=full)
+    told = b"write fault\n  The device that standard output is takes no more.\n"
+    differences.expect(came[0] == 5 and came[2].startswith(told), "a full device", came)
+    return len(lines) + 3
+
+
+def check_page(folder: Folder, differences: Differences) -> int:
+    plan = FIRST_PLAN.search((ROOT / "docs/plans.md").read_text())[1].replace('"="', '"=="')
+    folder.fill({"plan.json": plan.encode(), "e.csv": PAGE_EVENTS.encode()})
+    shown = SHOWN_CALL.findall(doc_tables.section("docs/faults.md", "## In words"))
+    for words, told in shown:
+        came = folder.run(words.split())
+        differences.expect(came[2].decode() == told, f"{words}, as docs/faults.md shows it", came[2].decode())
+    differences.expect(len(shown) == 2, "docs/faults.md shows two calls", shown)
+    return len(shown)
+
+
+def check_stand_ins(folder: Folder, differences: Differences) -> int:
+    folder.fill({name: text.encode() for name, text in mistakes.FILES.items()})
+    lines = [b"+,%d,1000,1001,A1,25\n" % number for number in range(1, 6)]
+    (folder.path / "orders.csv").write_bytes(b"".join(lines) + b"=,3000000\n")
+    for name, script, words, status, wanted in STAND_INS:
+        came = folder.run(words, stand_in(folder, script))
+        is_right = came[0] == status and has_in_order(came[2].decode().splitlines(), wanted)
+        differences.expect(is_right, name, (came, wanted))
+    (folder.path / "orders.csv").write_text(LARGE)
+    came = folder.run(["history", "orders.csv"], stand_in(folder, f'echo "{TOO_LARGE[0]}" >&2; exit 3'))
+    differences.expect(came[0] == 3 and has_in_order(came[2].decode().splitlines(), TOO_LARGE), "a file that is too large", came)
+    many = random.Random(0).randbytes(3_000_000)
+    came = folder.run(["any"], stand_in(folder, "cat; head -c 70000 /dev/zero >&2; exit 99"), many)
+    differences.expect(came == (99, many, bytes(70_000)), "many bytes, and a status of no meaning", (came[0], len(came[1]), len(came[2])))
+    came = folder.run(["run", "plan.json"], folder.path / "no_program")
+    differences.expect(came[0] == 126 and b"can't be started" in came[2], "no program", came)
+    came = folder.run(["--progress=soon", "run", "plan.json"])
+    differences.expect(came[0] == 2 and came[2].startswith(b"cedr-explain: `--progress=soon`"), "a wrong option", came)
+    return len(STAND_INS) + 4
+
+
+def stand_in(folder: Folder, script: str) -> Path:
+    path = folder.path / "stand_in"
+    path.write_text(f"#!/bin/sh\n{script}\n")
+    path.chmod(0o755)
+    return path
+
+
+def check_plans(differences: Differences) -> int:
+    """The tool's own reading of each plan that plan_cases.py refuses or accepts, and that it says more than the fault's " \
+      "name."""
+    count = 0
+    for case in plan_cases.all_cases():
+        wanted = tuple(map(int, case.err.split()[2::2])) if case.err else (0, 0)
+        plan = Plan(case.data)
+        own = [one.text for one in plan.findings if one.fault == wanted[0]]
+        is_said = not wanted[0] or own and not set(own) & set(language.FAULTS.values())
+        differences.expect((plan.fault, plan.node) == wanted and is_said, case.name, (case.data[:300], wanted, plan.fault, plan.node, own))
+        call = commands.Call(["check", "p.json"])
+        said = list(command.of_plan(call, plan, case.err.strip())) if case.err else []
+        differences.expect(bool(said) == bool(case.err), f"{case.name}, as it is told", said)
+        count += 1
+    return count
+
+
+def check_lines(folder: Path, differences: Differences) -> int:
+    """The same of each faulty line of cases.py and of random files."""
+    told = [(case.name, case.data, case.err) for table in (cases.SMALL, cases.large()) for case in table]
+    files = [random_files.small_file(random.Random(seed)) for seed in range(RANDOM)]
+    told += [(f"random file {seed}", data, reference.history("e.csv", data)[2]) for seed, data in enumerate(files)]
+    found = set()
+    for name, data, err in told:
+        reported = EVENTS.match(err)
+        if not reported:
+            continue
+        (folder / "e.csv").write_bytes(data)
+        number, fault = map(int, reported.groups())
+        place = events.Place(str(folder / "e.csv"))
+        said = list(events.explained(place, number, fault))
+        first = f"{place.file}:{number}: "
+        is_said = said[0].startswith(first) and not said[0].startswith(first + event_line.FAULTS[fault] + " The file may")
+        differences.expect(is_said and sum(line.startswith("> ") for line in said) == 1, name, said)
+        found.add((fault, name))
+    differences.expect({fault for fault, _ in found} == {1, 2, 3, 4, 6, 7, 8, 9, 10}, "the faults of lines", found)
+    return len(found)
+
+
+def check_commands(differences: Differences) -> None:
+    wanted = {one.name: one.words for one in doc_tables.commands() if one.words}
+    differences.expect(wanted == commands.COMMANDS, "the commands of docs/program.md", wanted)
+    alone = tuple(one.name for one in doc_tables.commands() if not one.words)
+    differences.expect(alone == commands.ALONE, "the commands without words", alone)
+
+
+def main() -> int:
+    differences = Differences()
+    check_commands(differences)
+    with tempfile.TemporaryDirectory(prefix="cedr-check-") as path:
+        folder = Folder(built_program(), Path(path))
+        known = check_mistakes(folder, differences)
+        good = check_good(folder, differences)
+        shown = check_page(folder, differences)
+        stand_ins = check_stand_ins(folder, differences)
+        lines = check_lines(folder.path, differences)
+    plans = check_plans(differences)
+    print(f"explained: {known} mistakes, {good} commands without one, {shown} of docs/, {stand_ins} with a stand-in for "
+          f"the program, {plans} plans and "
+          f"{lines} faulty lines of the other checks: {differences.count} differences")
+    return 1 if differences.count else 0
+
+
+sys.exit(main())
