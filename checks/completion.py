@@ -1,0 +1,222 @@
+#!/usr/bin/env python3
+"""Holds the completion of bash and of zsh, completion/cedr.bash and completion/_cedr, to the table of commands in docs/program.md
+that they are made from, writes them, and tries them in the shells that are there.
+
+Status 0: all right. 1: something differs.
+
+usage: checks/completion.py            compares, and tries them
+       checks/completion.py --write    writes them
+"""
+import os
+import pty
+import re
+import select
+import shutil
+import subprocess
+import sys
+import tempfile
+import time
+from pathlib import Path
+
+sys.dont_write_bytecode = True
+
+from doc_tables import CODE, commands
+from program import ROOT
+
+BASH, ZSH = ROOT / "completion/cedr.bash", ROOT / "completion/_cedr"
+# So many numbers at most are offered one by one.
+FEW = 64
+SECONDS = 20
+STOP = re.compile(r"`[^`]*`|[.:;] ")
+
+BASH_TEXT = """# Completion of cedr and cedr-explain for bash. Made from the table of commands in docs/program.md by
+# checks/completion.py --write. Change that table, and not this file.
+
+# What stands behind a command; the status is 1 where the word is none.
+_cedr_words() {
+  case $1 in
+@WORDS@
+    *) return 1 ;;
+  esac
+}
+
+_cedr() {
+  local word=${COMP_WORDS[COMP_CWORD]} at kinds='' offered=''
+  COMPREPLY=()
+  for ((at = 1; at < COMP_CWORD; at++)); do
+    if kinds=$(_cedr_words "${COMP_WORDS[at]}"); then break; fi
+  done
+  if ((at == COMP_CWORD)); then
+    offered='@NAMES@'
+    if [[ ${COMP_WORDS[0]##*/} == cedr-explain ]]; then offered+=' --progress'; fi
+  else
+    read -ra kinds <<< "$kinds"
+    case ${kinds[COMP_CWORD - at - 1]-} in
+      PLAN) compopt -o filenames; mapfile -t COMPREPLY < <(compgen -f -X '!*.json' -- "$word"; compgen -d -- "$word"); return ;;
+      N:*) offered=$(seq "${kinds[COMP_CWORD - at - 1]#N:}") ;;
+      N | '') return ;;
+      *) compopt -o filenames; mapfile -t COMPREPLY < <(compgen -f -- "$word"); return ;;
+    esac
+  fi
+  mapfile -t COMPREPLY < <(compgen -W "$offered" -- "$word")
+}
+
+complete -F _cedr cedr cedr-explain
+"""
+ZSH_TEXT = """#compdef cedr cedr-explain
+# Completion of cedr and cedr-explain for zsh. Made from the table of commands in docs/program.md by
+# checks/completion.py --write. Change that table, and not this file.
+
+_cedr() {
+  local curcontext=$curcontext state line
+  local -a commands options kinds
+  local -A words_of
+  commands=(
+@COMMANDS@
+  )
+  words_of=(
+@WORDS@
+  )
+  [[ ${service:-cedr} == cedr-explain ]] && options=('--progress[say each second how far the files are read]')
+  _arguments -C $options '1: :->command' '*:: :->word' && return
+  if [[ $state == command ]]; then
+    _describe -t commands command commands
+    return
+  fi
+  kinds=(${=words_of[$words[1]]})
+  case ${kinds[CURRENT - 1]} in
+    PLAN) _files -g '*.json(-.)' ;;
+    N:*) compadd -- {1..${kinds[CURRENT - 1]#N:}} ;;
+    N | '') _message 'no more words' ;;
+    *) _files ;;
+  esac
+}
+
+_cedr "$@"
+"""
+
+# Words, the last of them begun, and what is offered, in a folder with these files. Where no plan begins so, zsh offers other files.
+FILES = ["plan.json", "second plan.json", "events.csv"]
+TRIED = [
+    (["cedr", "st"], ["stream"]),
+    (["cedr", "--v"], ["--version"]),
+    (["cedr", "h"], ["history"]),
+    (["cedr", "run", "pl"], ["plan.json"]),
+    (["cedr", "run", "ev"], [], ["events.csv"]),
+    (["cedr", "run", "sec"], ["second plan.json"]),
+    (["cedr", "history", "ev"], ["events.csv"]),
+    (["cedr", "live", "plan.json", "ev"], ["events.csv"]),
+    (["cedr", "pool", "16"], ["16"]),
+    (["cedr", "pool", "4", "pl"], ["plan.json"]),
+    (["cedr", "make", "1"], []),
+    (["cedr", "run", "plan.json", "pl"], []),
+    (["cedr", "--prog"], []),
+    (["cedr-explain", "--prog"], ["--progress"]),
+    (["cedr-explain", "--progress", "run", "pl"], ["plan.json"]),
+]
+
+
+def kinds(one) -> str:
+    """The words behind a command, and a number with its greatest value where all can be offered."""
+    return " ".join(f"N:{one.most()}" if word == "N" and one.most() <= FEW else word for word in one.words)
+
+
+def about(one) -> str:
+    """What the command writes, up to its first colon or full stop outside of code."""
+    end = next((found.start() for found in STOP.finditer(one.text) if found[0][0] != "`"), len(one.text))
+    return CODE.sub(lambda code: code[1], one.text[:end]).replace("'", "'\\''").replace(":", "\\:")
+
+
+def bash_text() -> str:
+    words = "\n".join(f"    {one.name}) echo '{kinds(one)}' ;;" for one in commands())
+    return BASH_TEXT.replace("@WORDS@", words).replace("@NAMES@", " ".join(one.name for one in commands()))
+
+
+def zsh_text() -> str:
+    lines = "\n".join(f"    '{one.name}:{about(one)}'" for one in commands())
+    words = "\n".join(f"    {one.name} '{kinds(one)}'" for one in commands())
+    return ZSH_TEXT.replace("@COMMANDS@", lines).replace("@WORDS@", words)
+
+
+def in_bash(words: list, folder: Path) -> list:
+    """What bash offers for the last of these words."""
+    script = 'source "$0"; compopt() { :; }; COMP_WORDS=("$@"); COMP_CWORD=$(($# - 1)); _cedr; printf "%s\\n" ' \
+             '"${COMPREPLY[@]}"'
+    done = subprocess.run(["bash", "-c", script, BASH, *words], cwd=folder, capture_output=True, text=True, check=False)
+    return done.stdout.split("\n")[:-1] if done.stdout.strip() else done.stderr.split("\n")[:-1]
+
+
+class Zsh:
+    """A zsh at a terminal, in which a line is typed up to a tabulator; the line that comes of it is written to a file."""
+
+    def __init__(self, folder: Path, home: Path) -> None:
+        self.told = home / "line"
+        start = (f"PROMPT=; unsetopt beep list_beep; fpath=({ZSH.parent} $fpath); autoload -Uz compinit; compinit -D -u\n"
+                 f"told() {{ print -r -- $BUFFER > {self.told}.new && mv {self.told}.new {self.told}; BUFFER= }}\n"
+                 "zle -N told; bindkey '^X' told; bindkey '^I' expand-or-complete\n")
+        (home / ".zshrc").write_text(start)
+        self.process, self.terminal = pty.fork()
+        if not self.process:
+            os.chdir(folder)
+            os.execvpe("zsh", ["zsh", "-i", "-d"], {**os.environ, "ZDOTDIR": str(home), "TERM": "dumb", "LANG": "C"})
+
+    def line(self, text: str) -> str:
+        """What the line is behind the tabulator."""
+        self.told.unlink(missing_ok=True)
+        os.write(self.terminal, text.encode() + b"\t\x18")
+        end = time.monotonic() + SECONDS
+        while time.monotonic() < end and not self.told.exists():
+            if select.select([self.terminal], [], [], 0.02)[0]:
+                os.read(self.terminal, 65_536)
+        return self.told.read_text().rstrip("\n") if self.told.exists() else f"no answer within {SECONDS} s"
+
+    def end(self) -> None:
+        os.write(self.terminal, b"exit\n")
+        os.close(self.terminal)
+        os.waitpid(self.process, 0)
+
+
+def check_bash(folder: Path, differ: list) -> str:
+    if not shutil.which("bash"):
+        return "there is no bash"
+    for words, wanted, *_ in TRIED:
+        came = in_bash(words, folder)
+        if came != wanted:
+            differ.append(f"bash, {words}: {came}, and {wanted} is wanted")
+    return f"{len(TRIED)} lines in bash"
+
+
+def check_zsh(folder: Path, home: Path, differ: list) -> str:
+    """A word that one offer completes stands whole in the line, with a blank behind it; else the line is as it was."""
+    if not shutil.which("zsh"):
+        return "there is no zsh"
+    zsh = Zsh(folder, home)
+    for words, *offers in TRIED:
+        wanted, typed = offers[-1], " ".join(words)
+        last = wanted[0].replace(" ", "\\ ") if wanted else words[-1]
+        line = " ".join([*words[:-1], last])
+        came = zsh.line(typed)
+        if came.rstrip(" ") != line:
+            differ.append(f"zsh, {typed!r}: {came!r}, and {line!r} is wanted")
+    zsh.end()
+    return f"{len(TRIED)} lines in zsh"
+
+
+def main() -> int:
+    made = {BASH: bash_text(), ZSH: zsh_text()}
+    if sys.argv[1:] == ["--write"]:
+        for path, text in made.items():
+            path.write_text(text)
+    differ = [f"{path.relative_to(ROOT)} isn't what docs/program.md makes of it; python3 checks/completion.py --write "
+              "makes it anew"
+              for path, text in made.items() if not path.is_file() or path.read_text() != text]
+    with tempfile.TemporaryDirectory(prefix="cedr-check-") as folder, tempfile.TemporaryDirectory(prefix="cedr-home-") as home:
+        for name in FILES:
+            Path(folder, name).touch()
+        tried = [check_bash(Path(folder), differ), check_zsh(Path(folder), Path(home), differ)]
+    print("\n".join([*differ, f"completion: of {len(commands())} commands, {', '.join(tried)}: {len(differ)} differences"]))
+    return 1 if differ else 0
+
+
+if __name__ == "__main__":
+    sys.exit(main())
