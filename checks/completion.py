@@ -1,6 +1,6 @@
 #!/usr/bin/env python3
-"""Holds the completion of bash and of zsh, completion/cedr.bash and completion/_cedr, to the table of commands in docs/program.md
-that they are made from, writes them, and tries them in the shells that are there.
+"""Holds the completion of bash and of zsh, completion/cedr.bash and completion/_cedr, to the table of commands in
+docs/program.md that they are made from, writes them, and tries them in the shells that are there.
 
 Status 0: all right. 1: something differs.
 
@@ -52,10 +52,16 @@ _cedr() {
   else
     read -ra kinds <<< "$kinds"
     case ${kinds[COMP_CWORD - at - 1]-} in
-      PLAN) compopt -o filenames; mapfile -t COMPREPLY < <(compgen -f -X '!*.json' -- "$word"; compgen -d -- "$word"); return ;;
+      PLAN)
+        compopt -o filenames
+        mapfile -t COMPREPLY < <(compgen -f -X '!*.json' -- "$word"; compgen -d -- "$word")
+        return ;;
       N:*) offered=$(seq "${kinds[COMP_CWORD - at - 1]#N:}") ;;
       N | '') return ;;
-      *) compopt -o filenames; mapfile -t COMPREPLY < <(compgen -f -- "$word"); return ;;
+      *)
+        compopt -o filenames
+        mapfile -t COMPREPLY < <(compgen -f -- "$word")
+        return ;;
     esac
   fi
   mapfile -t COMPREPLY < <(compgen -W "$offered" -- "$word")
@@ -95,8 +101,9 @@ _cedr() {
 _cedr "$@"
 """
 
-# Words, the last of them begun, and what is offered, in a folder with these files. Where no plan begins so, zsh offers other files.
-FILES = ["plan.json", "second plan.json", "events.csv"]
+# Words, the last of them begun, and what is offered, in a folder with these files. Where no plan begins so, zsh offers
+# other files.
+FILES = ["plan.json", "plan.txt", "second plan.json", "events.csv"]
 TRIED = [
     (["cedr", "st"], ["stream"]),
     (["cedr", "--v"], ["--version"]),
@@ -210,7 +217,8 @@ def main() -> int:
     differ = [f"{path.relative_to(ROOT)} isn't what docs/program.md makes of it; python3 checks/completion.py --write "
               "makes it anew"
               for path, text in made.items() if not path.is_file() or path.read_text() != text]
-    with tempfile.TemporaryDirectory(prefix="cedr-check-") as folder, tempfile.TemporaryDirectory(prefix="cedr-home-") as home:
+    with tempfile.TemporaryDirectory(prefix="cedr-check-") as folder, \
+            tempfile.TemporaryDirectory(prefix="cedr-home-") as home:
         for name in FILES:
             Path(folder, name).touch()
         tried = [check_bash(Path(folder), differ), check_zsh(Path(folder), Path(home), differ)]

@@ -30,7 +30,8 @@ def section(page: str, heading: str) -> str:
     if not found:
         raise ValueError(f"{page} has no heading {heading}")
     rank = len(heading) - len(heading.lstrip("#"))
-    return re.split(rf"^#{{1,{rank}}} ", FENCE.sub(lambda one: one[0].replace("\n#", "\n\\#"), behind), maxsplit=1, flags=re.MULTILINE)[0]
+    unlike_headings = FENCE.sub(lambda one: one[0].replace("\n#", "\n\\#"), behind)
+    return re.split(rf"^#{{1,{rank}}} ", unlike_headings, maxsplit=1, flags=re.MULTILINE)[0]
 
 
 def table(page: str, heading: str, number: int = 1) -> list:
@@ -38,12 +39,13 @@ def table(page: str, heading: str, number: int = 1) -> list:
     found = TABLE.findall(section(page, heading))
     if len(found) < number:
         raise ValueError(f"{page} has no table {number} behind {heading}")
-    return [[cell.strip().replace("\\|", "|") for cell in CELL.split(row)[1:-1]] for row in found[number - 1].splitlines()[2:]]
+    rows = found[number - 1].splitlines()[2:]
+    return [[cell.strip().replace("\\|", "|") for cell in CELL.split(row)[1:-1]] for row in rows]
 
 
 def paragraphs(page: str, heading: str) -> list:
-    """The paragraphs of a section before its next heading of any rank, without tables and what stands between fences. An item of
-    a list is one that begins with a hyphen and a space."""
+    """The paragraphs of a section before its next heading of any rank, without tables and what stands between fences. An
+    item of a list is one that begins with a hyphen and a space."""
     text = re.split(r"^#", FENCE.sub("\n", section(page, heading)), maxsplit=1, flags=re.MULTILINE)[0]
     blocks = [block.strip() for block in re.split(r"\n\s*\n|\n(?=- )", TABLE.sub("\n", text))]
     return [" ".join(block.split()) for block in blocks if block]

@@ -1,10 +1,10 @@
 #!/usr/bin/env python3
 """Runs tools/cedr-explain over the ordinary mistakes of mistakes.py, and holds it to the cases of the other checks.
 
-- For each mistake the tool hands on what the program writes, byte by byte, and its status, and says the lines that are written
-  by hand.
-- It finds the fault of each plan and of each line that the other checks have, with its place, and says of each more than the
-  fault's name. For random files the faults are those of reference.py.
+- For each mistake the tool hands on what the program writes, byte by byte, and its status, and says the lines that are
+  written by hand.
+- It finds the fault of each plan and of each line that the other checks have, with its place, and says of each more than
+  the fault's name. For random files the faults are those of reference.py.
 - Its commands are those of the table in docs/program.md, and what docs/faults.md shows of it is what it says.
 - A stand-in for the program shows what it says of memory, of signals and of how far a file is read, and that it hands on
   standard input and many bytes as they are.
@@ -40,13 +40,15 @@ TOOL = ROOT / "tools/cedr-explain"
 SECONDS = 60
 RANDOM = 300
 SHOWN = 5
-# What docs/faults.md shows: the words behind the tool, and what stands under them. The plan is the first one of docs/plans.md.
+# What docs/faults.md shows: the words behind the tool, and what stands under them. The plan is the first one of
+# docs/plans.md.
 SHOWN_CALL = re.compile(r"```sh\ntools/cedr-explain ([^\n]*)\n```\n\n```text\n(.*?)```", re.DOTALL)
 FIRST_PLAN = re.compile(r"```json\n(.*?)```", re.DOTALL)
 PAGE_EVENTS = "+,1,10,20,a\n=,5\n+,2,4,20,b\n"
 EVENTS = re.compile(rb"events e.csv line (\d+) fault (\d+)")
 
-# Each stand-in is a script: what it does, with which words of the tool it is called, the status that must come, and the lines.
+# Each stand-in is a script: what it does, with which words of the tool it is called, the status that must come, and the
+# lines.
 STAND_INS = [
     ("want of memory", 'echo "out of memory" >&2; exit 6', ["run", "plan.json"], 6,
      ["out of memory", "  The system gave no more memory."]),
@@ -110,7 +112,8 @@ class Folder:
         return done.returncode, done.stdout or b"", done.stderr
 
     def plain(self, words: list) -> tuple:
-        done = subprocess.run([self.program, *words], cwd=self.path, capture_output=True, timeout=SECONDS, stdin=subprocess.DEVNULL)
+        done = subprocess.run([self.program, *words], cwd=self.path, capture_output=True, timeout=SECONDS,
+                              stdin=subprocess.DEVNULL)
         return done.returncode, done.stdout, done.stderr
 
 
@@ -138,7 +141,8 @@ def check_mistakes(folder: Folder, differences: Differences) -> int:
 def check_good(folder: Folder, differences: Differences) -> int:
     """Where nothing is wrong nothing is said: the plan without a mistake, and each command over it."""
     folder.fill({name: text.encode() for name, text in mistakes.FILES.items()})
-    lines = ["run plan.json", "stream plan.json", "pool 2 plan.json", "serial plan.json", "audit plan.json", "check plan.json",
+    lines = ["run plan.json", "stream plan.json", "pool 2 plan.json", "serial plan.json", "audit plan.json",
+             "check plan.json",
              "live plan.json script.txt", "history orders.csv", "make 3", "--version"]
     for words in map(str.split, lines):
         plain, came = folder.plain(words), folder.run(words)
@@ -176,10 +180,12 @@ def check_stand_ins(folder: Folder, differences: Differences) -> int:
         differences.expect(is_right, name, (came, wanted))
     (folder.path / "orders.csv").write_text(LARGE)
     came = folder.run(["history", "orders.csv"], stand_in(folder, f'echo "{TOO_LARGE[0]}" >&2; exit 3'))
-    differences.expect(came[0] == 3 and has_in_order(came[2].decode().splitlines(), TOO_LARGE), "a file that is too large", came)
+    is_right = came[0] == 3 and has_in_order(came[2].decode().splitlines(), TOO_LARGE)
+    differences.expect(is_right, "a file that is too large", came)
     many = random.Random(0).randbytes(3_000_000)
     came = folder.run(["any"], stand_in(folder, "cat; head -c 70000 /dev/zero >&2; exit 99"), many)
-    differences.expect(came == (99, many, bytes(70_000)), "many bytes, and a status of no meaning", (came[0], len(came[1]), len(came[2])))
+    sizes = came[0], len(came[1]), len(came[2])
+    differences.expect(came == (99, many, bytes(70_000)), "many bytes, and a status of no meaning", sizes)
     came = folder.run(["run", "plan.json"], folder.path / "no_program")
     differences.expect(came[0] == 126 and b"can't be started" in came[2], "no program", came)
     came = folder.run(["--progress=soon", "run", "plan.json"])
@@ -203,7 +209,8 @@ def check_plans(differences: Differences) -> int:
         plan = Plan(case.data)
         own = [one.text for one in plan.findings if one.fault == wanted[0]]
         is_said = not wanted[0] or own and not set(own) & set(language.FAULTS.values())
-        differences.expect((plan.fault, plan.node) == wanted and is_said, case.name, (case.data[:300], wanted, plan.fault, plan.node, own))
+        told = case.data[:300], wanted, plan.fault, plan.node, own
+        differences.expect((plan.fault, plan.node) == wanted and is_said, case.name, told)
         call = commands.Call(["check", "p.json"])
         said = list(command.of_plan(call, plan, case.err.strip())) if case.err else []
         differences.expect(bool(said) == bool(case.err), f"{case.name}, as it is told", said)

@@ -1,9 +1,10 @@
 #!/usr/bin/env python3
 """Holds the Makefile to the README, and uses what `make install` puts under a prefix, away from the repository.
 
-`make build` is the command of the README, `make test` the gate, and `make` alone says what there is. The installed program answers, the installed tools find it
-and their modules, the man page is found and shown by `man` where that is there, both completions are the repository's, and
-`make uninstall` takes all of it away. Status 0: all right. 1: something differs. 2: the program isn't there.
+`make build` is the command of the README, `make test` the gate, and `make` alone says what there is. The installed
+program answers, the installed tools find it and their modules, the man page is found and shown by `man` where that is
+there, both completions are the repository's, and `make uninstall` takes all of it away. Status 0: all right. 1: something
+differs. 2: the program isn't there.
 
 usage: checks/installed.py
 """
@@ -20,6 +21,9 @@ sys.dont_write_bytecode = True
 from program import ROOT, built_program
 
 BUILD = re.compile(r"^\(cd (\S+) && (rt run [^)]*)\)$", re.MULTILINE)
+# What stands under share/, by where it is in the repository.
+SHARED = {"completion/cedr.bash": "bash-completion/completions/cedr-explain",
+          "completion/_cedr": "zsh/site-functions/_cedr", "docs/guide.md": "doc/cedr/docs/guide.md"}
 PLAN = b'{"version":1,"nodes":[{"name":"s","op":"source","file":"s.csv","fields":["text"]}]}'
 
 
@@ -39,7 +43,10 @@ class Prefix:
 
     def call(self, *words: str) -> tuple:
         settings = {"PATH": f"{self.path}/bin:/usr/bin:/bin", "HOME": str(self.top), "LANG": "C.UTF-8", "MANWIDTH": "80"}
-        done = subprocess.run(words, cwd=self.top / "work", env=settings, capture_output=True, text=True, check=False)
+        try:
+            done = subprocess.run(words, cwd=self.top / "work", env=settings, capture_output=True, text=True, check=False)
+        except OSError as error:
+            return 127, "", str(error)
         return done.returncode, done.stdout, done.stderr
 
     def expect(self, holds: bool, name: str, came: object) -> None:
@@ -67,9 +74,9 @@ def check_installed(prefix: Prefix) -> int:
         came = prefix.call(tool, "--help")
         prefix.expect(came[0] == 0 and tool in came[1] and not came[2], f"{tool} --help", came)
     came = prefix.call("cedr-explain", "check", "plan.json")
-    prefix.expect(came[0] == 2 and "plan fault 13 node 0\n  plan.json:1:22: No node is the output" in came[2], "cedr-explain", came)
-    for file, place in (("completion/cedr.bash", "bash-completion/completions/cedr-explain"), ("completion/_cedr", "zsh/site-functions/_cedr"),
-                        ("docs/guide.md", "doc/cedr/docs/guide.md")):
+    is_said = came[2].startswith("plan fault 13 node 0\n  plan.json:1:22: No node is the output")
+    prefix.expect(came[0] == 2 and is_said, "cedr-explain", came)
+    for file, place in SHARED.items():
         there = prefix.path / "share" / place
         prefix.expect(there.is_file() and there.read_bytes() == (ROOT / file).read_bytes(), place, "it isn't there, or "
             "another file")

@@ -1,9 +1,9 @@
 #!/usr/bin/env python3
 """Divides a source and shortens its parts as docs/program.md shows it, and compares the answers.
 
-The commands and the nodes of the page are run over lines made at random. Each part has the lines of its events in their order,
-and each guarantee; a plan over the parts answers what one over the whole file does; and the history of a shortened part is that of
-the part. Status 0: all right. 1: something differs. 2: the program isn't there.
+The commands and the nodes of the page are run over lines made at random. Each part has the lines of its events in their
+order, and each guarantee; a plan over the parts answers what one over the whole file does; and the history of a shortened
+part is that of the part. Status 0: all right. 1: something differs. 2: the program isn't there.
 
 usage: checks/large_source.py [PROGRAM]
 """
@@ -79,7 +79,8 @@ class Folder:
         self.settings = {**os.environ, "PATH": f"{path}/bin:{os.environ['PATH']}"}
 
     def shell(self, command: str) -> tuple:
-        done = subprocess.run(["bash", "-c", command], cwd=self.path, env=self.settings, capture_output=True, timeout=60, check=False)
+        done = subprocess.run(["bash", "-c", command], cwd=self.path, env=self.settings, capture_output=True,
+                              timeout=60, check=False)
         return done.returncode, done.stdout, done.stderr
 
 
@@ -112,7 +113,8 @@ def main() -> int:
     found = []
     for seed in range(SEEDS):
         with tempfile.TemporaryDirectory(prefix="cedr-check-") as path:
-            found += [f"seed {seed}: {one}" for one in differences(Folder(Path(path), built_program()), Source(seed), blocks)]
+            folder = Folder(Path(path), built_program())
+            found += [f"seed {seed}: {one}" for one in differences(folder, Source(seed), blocks)]
     print("\n".join([*found[:5], f"large_source: {SEEDS} sources of {LINES} lines in {PARTS} parts: {len(found)} "
                                  "differences"]))
     return 1 if found else 0

@@ -1,9 +1,9 @@
 #!/usr/bin/env python3
 """Holds docs/cedr.1, the man page, to the tables of docs/ that it is made from, and writes it.
 
-The page has each command, kind of line, operator, level, status and fault in the words of the docs, so that a change of these
-shows here. Where groff is there, the page must pass it without a warning. Status 0: all right. 1: the page is another one, or
-groff warns of it.
+The page has each command, kind of line, operator, level, status and fault in the words of the docs, so that a change of
+these shows here. Where groff is there, the page must pass it without a warning. Status 0: all right. 1: the page is
+another one, or groff warns of it.
 
 usage: checks/manual.py            compares
        checks/manual.py --write    writes the page
@@ -82,7 +82,8 @@ def entries(rows) -> str:
 
 def told(texts) -> str:
     """Paragraphs, and items of lists."""
-    return "".join(f".IP \\(bu 2\n{roff(text[2:])}\n" if text.startswith("- ") else f".PP\n{roff(text)}\n" for text in texts)
+    return "".join(f".IP \\(bu 2\n{roff(text[2:])}\n" if text.startswith("- ") else f".PP\n{roff(text)}\n"
+                   for text in texts)
 
 
 def titled(title: str, *parts: str) -> str:
@@ -90,8 +91,10 @@ def titled(title: str, *parts: str) -> str:
 
 
 def synopsis() -> str:
-    lines = [" ".join(["\\fBcedr\\fR", f"\\fB{one.name}\\fR".replace("-", "\\-"), *(f"\\fI{word}\\fR" for word in one.words)])
-             for one in commands()]
+    lines = []
+    for one in commands():
+        name = one.name.replace("-", "\\-")
+        lines.append(" ".join(["\\fBcedr\\fR", f"\\fB{name}\\fR", *(f"\\fI{word}\\fR" for word in one.words)]))
     return "\n.br\n".join(lines) + "\n"
 
 
@@ -146,13 +149,16 @@ def page() -> str:
         titled("COMMANDS", entries(table(program, "## Commands")), told(paragraphs(program, "## Commands"))),
         titled("EVENT FILES", told(paragraphs(program, "## Event files")[:1]), entries(table(program, "## Event files")),
                told(paragraphs(program, "## Event files")[1:]),
-               told(["The sync of a line is the time from which on it changes something:"]), entries(table(program, "### Syncs"))),
-        titled("PLANS", told(["A plan is a JSON text. Its document has the members"]), entries(table(plans, "## The document")),
+               told(["The sync of a line is the time from which on it changes something:"]),
+               entries(table(program, "### Syncs"))),
+        titled("PLANS", told(["A plan is a JSON text. Its document has the members"]),
+               entries(table(plans, "## The document")),
                told(["and a node has"]), entries(table(plans, "## Nodes")), told(paragraphs(plans, "## Nodes")),
                told(paragraphs(plans, "## Tests and columns"))),
         titled("OPERATORS", operators()),
         titled("LEVELS", told(paragraphs(plans, "## Levels")[:1]), levels()),
-        titled("LIMITS", entries((what, f"{limit}; beyond it {fault}.") for what, limit, fault in table(plans, "## Limits"))),
+        titled("LIMITS", entries((what, f"{limit}; beyond it {fault}.")
+                                 for what, limit, fault in table(plans, "## Limits"))),
         titled("THE ORDER OF ROWS", told(paragraphs(program, "## The order of rows"))),
         titled("EXIT STATUS", statuses()),
         titled("FAULTS OF A LINE", line_faults()),
@@ -167,7 +173,8 @@ def warnings() -> str:
     """What groff has to say of the page, or why it wasn't asked."""
     if not shutil.which("groff"):
         return ""
-    asked = subprocess.run(["groff", "-man", "-Tutf8", "-ww", "-z", "-K", "utf8", PAGE], capture_output=True, text=True, check=False)
+    words = ["groff", "-man", "-Tutf8", "-ww", "-z", "-K", "utf8", PAGE]
+    asked = subprocess.run(words, capture_output=True, text=True, check=False)
     return asked.stdout + asked.stderr
 
 

@@ -31,8 +31,9 @@ USAGE = ("usage: cedr history FILE | check PLAN | serial PLAN | run PLAN | strea
 class Mistake(NamedTuple):
     """What was done: the words behind the program, and in which file which text stands for which other one.
 
-    `told` is what the program says, of status `status`. `lines` are among the lines that the tool adds, in this order. Where
-    `mark` is given, the first of them stands behind the file, the line and the column at which the first mark is in the plan.
+    `told` is what the program says, of status `status`. `lines` are among the lines that the tool adds, in this order.
+    Where `mark` is given, the first of them stands behind the file, the line and the column at which the first mark is in
+    the plan.
     """
     name: str
     words: str
@@ -66,7 +67,8 @@ class Mistake(NamedTuple):
         return [f"plan.json:{line}:{column}: {self.lines[0]}", *self.lines[1:]]
 
 
-def in_plan(name: str, old: str, new: str, fault: int, node: int, mark: str, *lines: str, words: str = "run plan.json") -> Mistake:
+def in_plan(name: str, old: str, new: str, fault: int, node: int, mark: str, *lines: str,
+            words: str = "run plan.json") -> Mistake:
     return Mistake(name, words, 2, f"plan fault {fault} node {node}", [*lines], "plan.json", old, new, mark)
 
 
@@ -130,10 +132,12 @@ DOCUMENT = [
         "number from 1 to 1,024."),
     in_plan("65 nodes", "", '{"version":1,"nodes":[' + ",".join(["0"] * 65) + "]}", 5, 0, "",
             "plan.json:1:151: The plan has 65 nodes, of which this is number 65. It may have 64."),
-    in_plan("no output", ',\n {"name":"out","op":"output","from":["totals"],"level":"strong"}', "", 13, 0, '[\n {"name":"orders"',
+    in_plan("no output", ',\n {"name":"out","op":"output","from":["totals"],"level":"strong"}', "", 13, 0,
+            '[\n {"name":"orders"',
             "No node is the output, which hands out the answer. Put one at the end: "
             '{"name":"out","op":"output","from":["totals"]}.'),
-    in_plan("two outputs", '{"name":"out"', '{"name":"log","op":"output","from":["large"]},\n {"name":"out"', 13, 8, '{"name":"out"',
+    in_plan("two outputs", '{"name":"out"', '{"name":"log","op":"output","from":["large"]},\n {"name":"out"', 13, 8,
+            '{"name":"out"',
             "Node 7, the output `log`, is an output already, and a plan has one. A `union` makes one answer of up to four; "
             "for two answers "
             "write two plans."),
@@ -167,13 +171,16 @@ MEMBERS = [
             f'`scope` is "24h", a text. {SPAN}, without quotes and unit. 24h is 86400 where times are in seconds, and '
             '86400000 where in '
             "milliseconds."),
-    in_plan("a type of decimals", '"orders.csv","fields":["text","int"]', '"orders.csv","fields":["text","float"]', 3, 1, '"float"',
+    in_plan("a type of decimals", '"orders.csv","fields":["text","int"]', '"orders.csv","fields":["text","float"]', 3, 1,
+            '"float"',
             'Field 1 of `fields` is "float". It must be "int" or "text". There are no decimals: count in a smaller unit, '
             'as 1250 cents for '
             '12.50, and write "int".'),
-    in_plan("a type of texts", '"orders.csv","fields":["text","int"]', '"orders.csv","fields":["string","int"]', 3, 1, '"string"',
+    in_plan("a type of texts", '"orders.csv","fields":["text","int"]', '"orders.csv","fields":["string","int"]', 3, 1,
+            '"string"',
             'Field 0 of `fields` is "string". It must be "int" or "text". Write "text" for it.'),
-    in_plan("a type of dates", '"orders.csv","fields":["text","int"]', '"orders.csv","fields":["text","timestamp"]', 3, 1, '"timestamp"',
+    in_plan("a type of dates", '"orders.csv","fields":["text","int"]', '"orders.csv","fields":["text","timestamp"]', 3, 1,
+            '"timestamp"',
             'Field 1 of `fields` is "timestamp". It must be "int" or "text". A date is a whole number of a unit, as '
             '1767225600 seconds for '
             '2026-01-01, and its type is "int".'),

@@ -31,10 +31,16 @@ _cedr() {
   else
     read -ra kinds <<< "$kinds"
     case ${kinds[COMP_CWORD - at - 1]-} in
-      PLAN) compopt -o filenames; mapfile -t COMPREPLY < <(compgen -f -X '!*.json' -- "$word"; compgen -d -- "$word"); return ;;
+      PLAN)
+        compopt -o filenames
+        mapfile -t COMPREPLY < <(compgen -f -X '!*.json' -- "$word"; compgen -d -- "$word")
+        return ;;
       N:*) offered=$(seq "${kinds[COMP_CWORD - at - 1]#N:}") ;;
       N | '') return ;;
-      *) compopt -o filenames; mapfile -t COMPREPLY < <(compgen -f -- "$word"); return ;;
+      *)
+        compopt -o filenames
+        mapfile -t COMPREPLY < <(compgen -f -- "$word")
+        return ;;
     esac
   fi
   mapfile -t COMPREPLY < <(compgen -W "$offered" -- "$word")

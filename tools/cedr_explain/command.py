@@ -49,6 +49,8 @@ PLAN_FAULT = re.compile(rb"plan fault ([0-9]+) node ([0-9]+)")
 CARRIED = rb"(?: begin \S+ end \S+| sync \S+ mark \S+)?"
 EVENTS_FAULT = re.compile(rb"events (.*) line ([0-9]+) fault ([0-9]+)" + CARRIED, re.DOTALL)
 SEEN_BEFORE, SEEN_BEHIND = 50, 50
+# Where standard error is closed there is nobody to tell, and the program is run all the same.
+ERRORS = sys.stderr.buffer if sys.stderr else open(os.devnull, "wb")
 HERE = Path(__file__).resolve().parent.parent
 BUILT = [HERE.parent / "crates/cedr/out/cedr", HERE.parent.parent / "bin/cedr"]
 
@@ -86,8 +88,8 @@ def tell(lines, indent: str = "  ") -> None:
     """Writes these lines to standard error. Where that takes none, there is nobody to tell."""
     try:
         for line in lines:
-            sys.stderr.buffer.write(f"{indent}{line}\n".encode("utf-8", "surrogateescape"))
-        sys.stderr.buffer.flush()
+            ERRORS.write(f"{indent}{line}\n".encode("utf-8", "surrogateescape"))
+        ERRORS.flush()
     except OSError:
         pass
 
@@ -105,7 +107,7 @@ def followed(process: subprocess.Popen, call: Call, seconds: float | None) -> by
     told = []
     signal.signal(signal.SIGINT, signal.SIG_IGN)  # the terminal sends it to the program too, whose end is waited for
     signal.signal(signal.SIGTERM, lambda *_: process.terminate())
-    progress = Progress(files_of(call), sys.stderr.buffer) if seconds else None
+    progress = Progress(files_of(call), ERRORS) if seconds else None
     copier = threading.Thread(target=handed_on, args=(process.stderr, told, progress))
     copier.start()
     while True:
@@ -129,8 +131,8 @@ def handed_on(stream, told: list, progress: Progress | None) -> None:
         try:
             if progress:
                 progress.end()
-            sys.stderr.buffer.write(piece)
-            sys.stderr.buffer.flush()
+            ERRORS.write(piece)
+            ERRORS.flush()
         except OSError:
             pass
 

@@ -1,6 +1,7 @@
 """One line of an event file: its fields, or its least fault with a sentence for each place that has it."""
 from __future__ import annotations
 
+import codecs
 import re
 from typing import NamedTuple
 
@@ -272,6 +273,7 @@ def time_text(time: int) -> str:
 
 def shown(value: bytes, quote: str = "`", most: int = SHOWN) -> str:
     """The bytes for people: signs that can't be seen as escapes, and cut where there are over so many bytes."""
-    text = value.decode("utf-8", "backslashreplace") if len(value) <= most else value[:most].decode("utf-8", "ignore") + " .."
+    is_cut = len(value) > most
+    text = codecs.getincrementaldecoder("utf-8")("backslashreplace").decode(value[:most], not is_cut)
     text = "".join(one if one.isprintable() else one.encode("unicode_escape").decode() for one in text)
-    return f"{quote}{text}{quote}"
+    return f"{quote}{text}{' ..' * is_cut}{quote}"

@@ -36,13 +36,13 @@ class Raw(NamedTuple):
 def explained(place: Place, number: int, fault: int) -> Iterator[str]:
     """Sentences about this fault of this line, with the line between its neighbours."""
     if not is_regular(place.file):
-        yield (f"{place.file}:{number}: {FAULTS.get(fault, '')} The line can't be shown, since {place.file} is a pipe and can't "
-               "be read again.")
+        why = f"since {place.file} is a pipe and can't be read again"
+        yield f"{place.file}:{number}: {named(fault)} The line can't be shown, {why}."
         return
     try:
         yield from of_file(place, number, fault)
     except OSError as error:
-        yield f"{place.file}:{number}: {FAULTS.get(fault, '')} The line can't be shown: {error.strerror}."
+        yield f"{place.file}:{number}: {named(fault)} The line can't be shown: {error.strerror}."
 
 
 def is_regular(file: str) -> bool:
@@ -53,12 +53,13 @@ def is_regular(file: str) -> bool:
 
 
 def of_file(place: Place, number: int, fault: int) -> Iterator[str]:
-    near = [raw for raw in lines_of(place.file, number + 1) if number - 1 <= raw.number]
+    near = list(lines_of(place.file, number - 1, number + 1))
     line = next((raw for raw in near if raw.number == number), Raw(number, b"", False))
     found = Judged(place, line)
     if found.fault != fault:
         now = f"has the fault {found.fault}" if found.fault else "has no fault"
-        found.fault, found.sentences = fault, [f"{named(fault)} The file may be another one by now: as it is, this line {now}."]
+        told = f"{named(fault)} The file may be another one by now: as it is, this line {now}."
+        found.fault, found.sentences = fault, [told]
     source = f"{place.file}:{number}"
     yield from (f"{source}: {sentence}" for sentence in found.sentences)
     for raw in near:
@@ -74,8 +75,8 @@ def excerpt(data: bytes) -> str:
     return shown(data[:-1] if data.endswith(b"\r") else data, "", SHOWN_BYTES)
 
 
-def lines_of(file: str, last: int) -> Iterator[Raw]:
-    """The lines up to this number, of the bytes that a file may have; of a long one only as much as shows that it is."""
+def lines_of(file: str, first: int, last: int) -> Iterator[Raw]:
+    """The lines of these numbers, of the bytes that a file may have; of a long one only as much as shows that it is."""
     left = FILE_BYTES
     with open(file, "rb") as events:
         is_larger = os.fstat(events.fileno()).st_size > FILE_BYTES
@@ -89,7 +90,8 @@ def lines_of(file: str, last: int) -> Iterator[Raw]:
             if not kept and not is_larger:
                 return
             has_ended = data.endswith(b"\n") or not is_larger
-            yield Raw(number, kept[:-1] if kept.endswith(b"\n") else kept, not has_ended)
+            if number >= first:
+                yield Raw(number, kept[:-1] if kept.endswith(b"\n") else kept, not has_ended)
             if not has_ended:
                 return
 
@@ -144,13 +146,13 @@ class Judged:
 
     def judge_event(self, line: Line, trace: Trace) -> None:
         if line.kind == b"+" and trace.inserted:
-            raise LineFault(KNOWN_ID, f"Its ID, {line.identity}, was inserted before, by line {trace.inserted}. Each insertion has "
-                            "an ID of its own, even where that event was withdrawn. A line "
+            raise LineFault(KNOWN_ID, f"Its ID, {line.identity}, was inserted before, by line {trace.inserted}. Each "
+                            "insertion has an ID of its own, even where that event was withdrawn. A line "
                             f"`~,{line.identity},BEGIN,END,FIELD..` gives that event another begin, end and other fields.")
         if line.kind != b"+" and not trace.inserted:
             later = f" Line {trace.inserted_later} does: it must stand before." if trace.inserted_later else ""
-            raise LineFault(UNKNOWN_ID, f"Its ID, {line.identity}, was inserted by no line before.{later} A line `-` or `~` names "
-                            "an event that a line `+` of the same file inserted.")
+            raise LineFault(UNKNOWN_ID, f"Its ID, {line.identity}, was inserted by no line before.{later} A line `-` or "
+                            "`~` names an event that a line `+` of the same file inserted.")
         if line.kind == b"-" and not trace.begin <= line.end < trace.end:
             raise LineFault(BAD_END, self.bad_end(line, trace))
         if trace.sync_of(line) < trace.mark:
@@ -159,11 +161,12 @@ class Judged:
     def bad_end(self, line: Line, trace: Trace) -> str:
         identity, begin, end = line.identity, trace.begin, time_text(trace.end)
         if trace.begin == trace.end:
-            return (f"The event {identity} was withdrawn before, by line {trace.ended}. A line `~,{identity},BEGIN,END,FIELD..` "
-                    "alone can bring it back.")
+            return (f"The event {identity} was withdrawn before, by line {trace.ended}. A line "
+                    f"`~,{identity},BEGIN,END,FIELD..` alone can bring it back.")
         by = f"line {trace.version}" if trace.ended == trace.version else f"the lines {trace.version} and {trace.ended}"
-        told = (f"The event {identity} is valid from {begin} on and before {end} by {by}. A retraction makes an end earlier: its "
-                f"END must be from {begin}, which withdraws the event, to {'any time' if end == 'inf' else trace.end - 1}.")
+        last = "any time" if end == "inf" else trace.end - 1
+        told = (f"The event {identity} is valid from {begin} on and before {end} by {by}. A retraction makes an end "
+                f"earlier: its END must be from {begin}, which withdraws the event, to {last}.")
         if line.end == trace.end:
             return f"{told} Before this line it ends at {end} already."
         revision = f"`~,{identity},{begin},{time_text(line.end)},FIELD..`"
@@ -174,8 +177,9 @@ class Judged:
         why = {b"+": "its BEGIN", b"-": "its END"}.get(line.kind, "its BEGIN" if sync == line.begin else
                                                      f"the begin that the event had by line {trace.version}")
         mark = time_text(trace.mark)
-        return (f"It changes something from {time_text(sync)} on, {why}, and line {trace.marked}, `=,{mark}`, guarantees that no "
-                f"later line does so before {mark}. Such a line is best left out, or the guarantee comes later. {CORRECTING}")
+        return (f"It changes something from {time_text(sync)} on, {why}, and line {trace.marked}, `=,{mark}`, guarantees "
+                f"that no later line does so before {mark}. Such a line is best left out, or the guarantee comes later. "
+                f"{CORRECTING}")
 
 
 class Trace:
@@ -186,8 +190,10 @@ class Trace:
         self.inserted = self.inserted_later = self.version = self.ended = self.marked = 0
         self.begin = self.end = self.mark = 0
         name = source.encode() + b"," if place.script is not None else b""
-        for raw in lines_of(place.file, FILE_BYTES):
-            if raw.data.startswith(name):
+        digits = b"%d" % identity
+        for raw in lines_of(place.file, 1, FILE_BYTES):
+            # most lines are about other events, and are passed over by a look for its digits
+            if (digits in raw.data or b"=" in raw.data) and raw.data.startswith(name):
                 self.take(raw.number, raw.data[len(name):], raw.number < before)
             if raw.number >= before and self.inserted or self.inserted_later:
                 return

@@ -8,9 +8,9 @@ from cedr_explain.commands import ALONE, COMMANDS, MOST
 
 SAID_FOR_COMMANDS = {
     "help": "--help", "-h": "--help", "-help": "--help", "-?": "--help", "version": "--version", "-v": "--version",
-    "-V": "--version", "exec": "run", "answer": "run", "execute": "run", "query": "run", "validate": "check", "test": "check",
-    "lint": "check", "show": "history", "cat": "history", "watch": "stream", "tail": "stream", "parallel": "pool",
-    "threads": "pool", "bench": "make",
+    "-V": "--version", "exec": "run", "answer": "run", "execute": "run", "query": "run", "validate": "check",
+    "test": "check", "lint": "check", "show": "history", "cat": "history", "watch": "stream", "tail": "stream",
+    "parallel": "pool", "threads": "pool", "bench": "make",
 }
 
 
@@ -30,8 +30,8 @@ def explained(words: list) -> Iterator[str]:
 def of_unknown(words: list) -> Iterator[str]:
     word = words[0]
     if word.endswith(".json"):
-        yield (f"A command stands before the plan: `cedr run {word}` answers it, and `cedr check {word}` says whether it is "
-               "right.")
+        yield (f"A command stands before the plan: `cedr run {word}` answers it, and `cedr check {word}` says whether it "
+               "is right.")
     elif word.endswith((".csv", ".txt")):
         yield f"A command stands before the file: `cedr history {word}` says what it amounts to."
     elif not is_utf8(word):
