@@ -20,7 +20,7 @@ from pathlib import Path
 
 sys.dont_write_bytecode = True
 
-from doc_tables import CODE, commands
+from doc_tables import CODE, Command, commands
 from program import ROOT
 
 BASH, ZSH = ROOT / "completion/cedr.bash", ROOT / "completion/_cedr"
@@ -123,15 +123,16 @@ TRIED = [
 ]
 
 
-def kinds(one) -> str:
+def kinds(command: Command) -> str:
     """The words behind a command, and a number with its greatest value where all can be offered."""
-    return " ".join(f"N:{one.most()}" if word == "N" and one.most() <= FEW else word for word in one.words)
+    return " ".join(f"N:{command.most()}" if word == "N" and command.most() <= FEW else word for word in command.words)
 
 
-def about(one) -> str:
+def about(command: Command) -> str:
     """What the command writes, up to its first colon or full stop outside of code."""
-    end = next((found.start() for found in STOP.finditer(one.text) if found[0][0] != "`"), len(one.text))
-    return CODE.sub(lambda code: code[1], one.text[:end]).replace("'", "'\\''").replace(":", "\\:")
+    text = command.text
+    end = next((found.start() for found in STOP.finditer(text) if found[0][0] != "`"), len(text))
+    return CODE.sub(lambda code: code[1], text[:end]).replace("'", "'\\''").replace(":", "\\:")
 
 
 def bash_text() -> str:
@@ -147,18 +148,22 @@ def zsh_text() -> str:
 
 def in_bash(words: list, folder: Path) -> list:
     """What bash offers for the last of these words."""
-    script = 'source "$0"; compopt() { :; }; COMP_WORDS=("$@"); COMP_CWORD=$(($# - 1)); _cedr; printf "%s\\n" ' \
-             '"${COMPREPLY[@]}"'
+    script = ('source "$0"; compopt() { :; }; COMP_WORDS=("$@"); COMP_CWORD=$(($# - 1)); _cedr; '
+              'printf "%s\\n" "${COMPREPLY[@]}"')
     done = subprocess.run(["bash", "-c", script, BASH, *words], cwd=folder, capture_output=True, text=True, check=False)
     return done.stdout.split("\n")[:-1] if done.stdout.strip() else done.stderr.split("\n")[:-1]
 
 
 class Zsh:
-    """A zsh at a terminal, in which a line is typed up to a tabulator; the line that comes of it is written to a file."""
+    """A zsh at a terminal, in which a line is typed up to a tabulator.
+
+    The line that comes of it is written to a file.
+    """
 
     def __init__(self, folder: Path, home: Path) -> None:
         self.told = home / "line"
-        start = (f"PROMPT=; unsetopt beep list_beep; fpath=({ZSH.parent} $fpath); autoload -Uz compinit; compinit -D -u\n"
+        start = (f"PROMPT=; unsetopt beep list_beep; fpath=({ZSH.parent} $fpath); "
+                 "autoload -Uz compinit; compinit -D -u\n"
                  f"told() {{ print -r -- $BUFFER > {self.told}.new && mv {self.told}.new {self.told}; BUFFER= }}\n"
                  "zle -N told; bindkey '^X' told; bindkey '^I' expand-or-complete\n")
         (home / ".zshrc").write_text(start)
@@ -214,15 +219,16 @@ def main() -> int:
     if sys.argv[1:] == ["--write"]:
         for path, text in made.items():
             path.write_text(text)
-    differ = [f"{path.relative_to(ROOT)} isn't what docs/program.md makes of it; python3 checks/completion.py --write "
-              "makes it anew"
-              for path, text in made.items() if not path.is_file() or path.read_text() != text]
+    others = [path.relative_to(ROOT) for path, text in made.items() if not path.is_file() or path.read_text() != text]
+    differ = [f"{path} isn't what docs/program.md makes of it; python3 checks/completion.py --write makes it anew"
+              for path in others]
     with tempfile.TemporaryDirectory(prefix="cedr-check-") as folder, \
             tempfile.TemporaryDirectory(prefix="cedr-home-") as home:
         for name in FILES:
             Path(folder, name).touch()
         tried = [check_bash(Path(folder), differ), check_zsh(Path(folder), Path(home), differ)]
-    print("\n".join([*differ, f"completion: of {len(commands())} commands, {', '.join(tried)}: {len(differ)} differences"]))
+    summary = f"completion: of {len(commands())} commands, {', '.join(tried)}: {len(differ)} differences"
+    print("\n".join([*differ, summary]))
     return 1 if differ else 0
 
 

@@ -44,8 +44,10 @@ def table(page: str, heading: str, number: int = 1) -> list:
 
 
 def paragraphs(page: str, heading: str) -> list:
-    """The paragraphs of a section before its next heading of any rank, without tables and what stands between fences. An
-    item of a list is one that begins with a hyphen and a space."""
+    """The paragraphs of a section before its next heading of any rank, without tables and what stands between fences.
+
+    An item of a list is one that begins with a hyphen and a space.
+    """
     text = re.split(r"^#", FENCE.sub("\n", section(page, heading)), maxsplit=1, flags=re.MULTILINE)[0]
     blocks = [block.strip() for block in re.split(r"\n\s*\n|\n(?=- )", TABLE.sub("\n", text))]
     return [" ".join(block.split()) for block in blocks if block]

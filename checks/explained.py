@@ -3,11 +3,11 @@
 
 - For each mistake the tool hands on what the program writes, byte by byte, and its status, and says the lines that are
   written by hand.
-- It finds the fault of each plan and of each line that the other checks have, with its place, and says of each more than
-  the fault's name. For random files the faults are those of reference.py.
+- It finds the fault of each plan and of each line that the other checks have, with its place, and says of each more
+  than the fault's name. For random files the faults are those of reference.py.
 - Its commands are those of the table in docs/program.md, and what docs/faults.md shows of it is what it says.
-- A stand-in for the program shows what it says of memory, of signals and of how far a file is read, and that it hands on
-  standard input and many bytes as they are.
+- A stand-in for the program shows what it says of memory, of signals and of how far a file is read, and that it hands
+  on standard input and many bytes as they are.
 
 Status 0: all right. 1: something differs; the first differences are printed. 2: the program isn't there.
 
@@ -40,15 +40,15 @@ TOOL = ROOT / "tools/cedr-explain"
 SECONDS = 60
 RANDOM = 300
 SHOWN = 5
-# What docs/faults.md shows: the words behind the tool, and what stands under them. The plan is the first one of
-# docs/plans.md.
+# What docs/faults.md shows: the words behind the tool, and what stands under them. Its plan is the first one of the
+# page docs/plans.md.
 SHOWN_CALL = re.compile(r"```sh\ntools/cedr-explain ([^\n]*)\n```\n\n```text\n(.*?)```", re.DOTALL)
 FIRST_PLAN = re.compile(r"```json\n(.*?)```", re.DOTALL)
 PAGE_EVENTS = "+,1,10,20,a\n=,5\n+,2,4,20,b\n"
 EVENTS = re.compile(rb"events e.csv line (\d+) fault (\d+)")
 
-# Each stand-in is a script: what it does, with which words of the tool it is called, the status that must come, and the
-# lines.
+# Each stand-in has a name, what it does as a script, the words that the tool is called with, and the status and the
+# lines that must come.
 STAND_INS = [
     ("want of memory", 'echo "out of memory" >&2; exit 6', ["run", "plan.json"], 6,
      ["out of memory", "  The system gave no more memory."]),
@@ -61,22 +61,20 @@ STAND_INS = [
     ("a plan that is another one by now", 'echo "plan fault 3 node 1" >&2; exit 2', ["run", "plan.json"], 2,
      ["  The plan that is there now hasn't this fault: it is another one than the program read."]),
     ("a file that is another one by now", 'echo "events orders line 2 fault 3" >&2; exit 3', ["run", "plan.json"], 3,
-     ["  orders.csv:2: Its ID, BEGIN, END or TIME isn't a whole number in digits. The file may be another one by now: as "
-      "it is, this "
-      "line has no fault."]),
+     ["  orders.csv:2: Its ID, BEGIN, END or TIME isn't a whole number in digits. The file may be another one by now: "
+      "as it is, this line has no fault."]),
     ("a read that is refused in the middle", 'echo "read fault" >&2; exit 4', ["check", "plan.json"], 4,
      ["  Each file can be opened now: plan.json. A read of one was refused, or it is there only since then."]),
-    ("half of a file", "exec 3< orders.csv; head -c 55 <&3 > /dev/null; sleep 1", ["--progress=0.3", "run", "plan.json"], 0,
-     ["orders 50 % of 110 bytes; payments isn't open; memory "]),
+    ("half of a file", "exec 3< orders.csv; head -c 55 <&3 > /dev/null; sleep 1",
+     ["--progress=0.3", "run", "plan.json"], 0, ["orders 50 % of 110 bytes; payments isn't open; memory "]),
 ]
-
 
 # The file of docs/faults.md that has a byte too many, and what is said of it.
 LARGE = ("=," + "0" * 65_533 + "\n") * 1_024 + "x"
-TOO_LARGE = ['events orders.csv line 1025 fault 10',
-             '  orders.csv:1025: The file has 67,108,865 bytes, and a source has at most 67,108,864. docs/program.md says '
-             'in "A source of '
-             'more than 64 MiB" how to divide a file.', "  > 1025 | "]
+TOO_LARGE = ["events orders.csv line 1025 fault 10",
+             "  orders.csv:1025: The file has 67,108,865 bytes, and a source has at most 67,108,864. docs/program.md "
+             'says in "A source of more than 64 MiB" how to divide a file.',
+             "  > 1025 | "]
 
 
 class Differences:
@@ -107,8 +105,8 @@ class Folder:
     def run(self, words: list, program: Path = None, given: bytes = b"", out=subprocess.PIPE) -> tuple:
         """The status, standard output and standard error of the tool with this program."""
         settings = {**os.environ, "CEDR": str(program or self.program)}
-        done = subprocess.run([TOOL, *words], cwd=self.path, env=settings, input=given, stdout=out, stderr=subprocess.PIPE,
-                              timeout=SECONDS)
+        done = subprocess.run([TOOL, *words], cwd=self.path, env=settings, input=given, stdout=out,
+                              stderr=subprocess.PIPE, timeout=SECONDS)
         return done.returncode, done.stdout or b"", done.stderr
 
     def plain(self, words: list) -> tuple:
@@ -118,7 +116,7 @@ class Folder:
 
 
 def has_in_order(lines: list, wanted: list) -> bool:
-    """Whether each wanted line is among the lines, behind the one before it. A wanted one may be the begin of a line."""
+    """Whether each wanted line is among the lines, behind the one before it. A wanted one may be a line's begin."""
     left = iter(lines)
     return all(any(line.startswith(one) for line in left) for one in wanted)
 
@@ -142,8 +140,7 @@ def check_good(folder: Folder, differences: Differences) -> int:
     """Where nothing is wrong nothing is said: the plan without a mistake, and each command over it."""
     folder.fill({name: text.encode() for name, text in mistakes.FILES.items()})
     lines = ["run plan.json", "stream plan.json", "pool 2 plan.json", "serial plan.json", "audit plan.json",
-             "check plan.json",
-             "live plan.json script.txt", "history orders.csv", "make 3", "--version"]
+             "check plan.json", "live plan.json script.txt", "history orders.csv", "make 3", "--version"]
     for words in map(str.split, lines):
         plain, came = folder.plain(words), folder.run(words)
         differences.expect(came == plain and plain[0] == 0 and not plain[2], f"the words {words}", (plain, came))
@@ -201,8 +198,10 @@ def stand_in(folder: Folder, script: str) -> Path:
 
 
 def check_plans(differences: Differences) -> int:
-    """The tool's own reading of each plan that plan_cases.py refuses or accepts, and that it says more than the fault's " \
-      "name."""
+    """The tool's own reading of each plan that plan_cases.py refuses or accepts.
+
+    It must say more than the fault's name.
+    """
     count = 0
     for case in plan_cases.all_cases():
         wanted = tuple(map(int, case.err.split()[2::2])) if case.err else (0, 0)
@@ -233,7 +232,8 @@ def check_lines(folder: Path, differences: Differences) -> int:
         place = events.Place(str(folder / "e.csv"))
         said = list(events.explained(place, number, fault))
         first = f"{place.file}:{number}: "
-        is_said = said[0].startswith(first) and not said[0].startswith(first + event_line.FAULTS[fault] + " The file may")
+        bare = f"{first}{event_line.FAULTS[fault]} The file may"
+        is_said = said[0].startswith(first) and not said[0].startswith(bare)
         differences.expect(is_said and sum(line.startswith("> ") for line in said) == 1, name, said)
         found.add((fault, name))
     differences.expect({fault for fault, _ in found} == {1, 2, 3, 4, 6, 7, 8, 9, 10}, "the faults of lines", found)
@@ -258,9 +258,9 @@ def main() -> int:
         stand_ins = check_stand_ins(folder, differences)
         lines = check_lines(folder.path, differences)
     plans = check_plans(differences)
-    print(f"explained: {known} mistakes, {good} commands without one, {shown} of docs/, {stand_ins} with a stand-in for "
-          f"the program, {plans} plans and "
-          f"{lines} faulty lines of the other checks: {differences.count} differences")
+    print(f"explained: {known} mistakes, {good} commands without one, {shown} of docs/, {stand_ins} with a stand-in "
+          f"for the program, {plans} plans and {lines} faulty lines of the other checks: "
+          f"{differences.count} differences")
     return 1 if differences.count else 0
 
 

@@ -3,8 +3,9 @@
 
 `make build` is the command of the README, `make test` the gate, and `make` alone says what there is. The installed
 program answers, the installed tools find it and their modules, the man page is found and shown by `man` where that is
-there, both completions are the repository's, and `make uninstall` takes all of it away. Status 0: all right. 1: something
-differs. 2: the program isn't there.
+there, both completions are the repository's, and `make uninstall` takes all of it away.
+
+Status 0: all right. 1: something differs. 2: the program isn't there.
 
 usage: checks/installed.py
 """
@@ -38,13 +39,16 @@ class Prefix:
 
     def make(self, *words: str) -> str:
         settings = {name: value for name, value in os.environ.items() if not name.startswith("MAKE")}
-        done = subprocess.run(["make", "-s", "-C", ROOT, *words], capture_output=True, text=True, env=settings, check=False)
+        done = subprocess.run(["make", "-s", "-C", ROOT, *words], env=settings, capture_output=True, text=True,
+                              check=False)
         return done.stdout + done.stderr if not done.returncode else f"status {done.returncode}: {done.stderr}"
 
     def call(self, *words: str) -> tuple:
-        settings = {"PATH": f"{self.path}/bin:/usr/bin:/bin", "HOME": str(self.top), "LANG": "C.UTF-8", "MANWIDTH": "80"}
+        settings = {"PATH": f"{self.path}/bin:/usr/bin:/bin", "HOME": str(self.top), "LANG": "C.UTF-8",
+                    "MANWIDTH": "80"}
         try:
-            done = subprocess.run(words, cwd=self.top / "work", env=settings, capture_output=True, text=True, check=False)
+            done = subprocess.run(words, cwd=self.top / "work", env=settings, capture_output=True, text=True,
+                                  check=False)
         except OSError as error:
             return 127, "", str(error)
         return done.returncode, done.stdout, done.stderr
@@ -78,8 +82,8 @@ def check_installed(prefix: Prefix) -> int:
     prefix.expect(came[0] == 2 and is_said, "cedr-explain", came)
     for file, place in SHARED.items():
         there = prefix.path / "share" / place
-        prefix.expect(there.is_file() and there.read_bytes() == (ROOT / file).read_bytes(), place, "it isn't there, or "
-            "another file")
+        is_same = there.is_file() and there.read_bytes() == (ROOT / file).read_bytes()
+        prefix.expect(is_same, place, "it isn't there, or another file")
     if shutil.which("man"):
         shown = re.sub("\x1b\\[[0-9;]*m|.\b", "", prefix.call("man", "-M", f"{prefix.path}/share/man", "cedr")[1])
         prefix.expect("cedr - answers a plan" in shown and "cedr pool N PLAN" in shown, "man cedr", shown[:500])

@@ -2,8 +2,10 @@
 """Divides a source and shortens its parts as docs/program.md shows it, and compares the answers.
 
 The commands and the nodes of the page are run over lines made at random. Each part has the lines of its events in their
-order, and each guarantee; a plan over the parts answers what one over the whole file does; and the history of a shortened
-part is that of the part. Status 0: all right. 1: something differs. 2: the program isn't there.
+order, and each guarantee; a plan over the parts answers what one over the whole file does; and the history of a
+shortened part is that of the part.
+
+Status 0: all right. 1: something differs. 2: the program isn't there.
 
 usage: checks/large_source.py [PROGRAM]
 """
@@ -115,8 +117,8 @@ def main() -> int:
         with tempfile.TemporaryDirectory(prefix="cedr-check-") as path:
             folder = Folder(Path(path), built_program())
             found += [f"seed {seed}: {one}" for one in differences(folder, Source(seed), blocks)]
-    print("\n".join([*found[:5], f"large_source: {SEEDS} sources of {LINES} lines in {PARTS} parts: {len(found)} "
-                                 "differences"]))
+    summary = f"large_source: {SEEDS} sources of {LINES} lines in {PARTS} parts: {len(found)} differences"
+    print("\n".join([*found[:5], summary]))
     return 1 if found else 0
 
 

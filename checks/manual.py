@@ -53,9 +53,9 @@ what is proved of the program.
 def roff(text: str) -> str:
     """Text of the docs as roff: code and strong words in bold, links as their words."""
     parts = CODE.split(LINK.sub(lambda one: one[1], text))
-    told = "".join(f"\\fB{escaped(part).replace('-', chr(92) + '-')}\\fR" if place % 2 else plain(part)
-                   for place, part in enumerate(parts))
-    return f"\\&{told}" if told[:1] in (".", "'") else told
+    made = "".join(f"\\fB{literal(part)}\\fR" if place % 2 else plain(part) for place, part in enumerate(parts))
+    # a full stop or a quote in front would make a request of the line
+    return f"\\&{made}" if made[:1] in (".", "'") else made
 
 
 def plain(text: str) -> str:
@@ -66,10 +66,14 @@ def escaped(text: str) -> str:
     return text.replace("\\", "\\e")
 
 
+def literal(text: str) -> str:
+    """Text of code, whose hyphens must come as the sign that is typed."""
+    return escaped(text).replace("-", "\\-")
+
+
 def block(text: str) -> str:
     """Lines as they stand."""
-    lines = [escaped(line).replace("-", "\\-") for line in text.splitlines()]
-    return ".PP\n.nf\n.RS 4\n" + "".join(f"\\&{line}\n" for line in lines) + ".RE\n.fi\n"
+    return ".PP\n.nf\n.RS 4\n" + "".join(f"\\&{literal(line)}\n" for line in text.splitlines()) + ".RE\n.fi\n"
 
 
 def entry(name: str, text: str) -> str:
@@ -93,16 +97,15 @@ def titled(title: str, *parts: str) -> str:
 def synopsis() -> str:
     lines = []
     for one in commands():
-        name = one.name.replace("-", "\\-")
-        lines.append(" ".join(["\\fBcedr\\fR", f"\\fB{name}\\fR", *(f"\\fI{word}\\fR" for word in one.words)]))
+        words = [f"\\fI{word}\\fR" for word in one.words]
+        lines.append(" ".join(["\\fBcedr\\fR", f"\\fB{literal(one.name)}\\fR", *words]))
     return "\n.br\n".join(lines) + "\n"
 
 
 def operators() -> str:
     """Each operator's paragraphs: its ports, its members, the types of its result and what it means."""
     names = OPERATOR.findall(doc_tables.section("docs/plans.md", "## Operators"))
-    told = [(f"`{name}`", " ".join(paragraphs("docs/plans.md", f"### {name}"))) for name in names]
-    return entries(told)
+    return entries((f"`{name}`", " ".join(paragraphs("docs/plans.md", f"### {name}"))) for name in names)
 
 
 def line_faults() -> str:
@@ -130,9 +133,9 @@ def statuses() -> str:
 def example() -> str:
     """The plan of the README's first page, its call and its answer."""
     name, plan, rows = FRONT.search((ROOT / "README.md").read_text()).groups()
-    return told([f"The plan `{name}` asks which machines were shut down within 12 hours of an install, and not restarted "
-                 "within 5 "
-                 "minutes:"]) + block(plan) + told([f"`cedr run {name}` writes its answer:"]) + block(rows)
+    asks = (f"The plan `{name}` asks which machines were shut down within 12 hours of an install, and not restarted "
+            "within 5 minutes:")
+    return told([asks]) + block(plan) + told([f"`cedr run {name}` writes its answer:"]) + block(rows)
 
 
 def levels() -> str:
@@ -147,12 +150,13 @@ def page() -> str:
         titled("SYNOPSIS", synopsis()),
         titled("DESCRIPTION", told(paragraphs("README.md", "# CEDR")[:1])),
         titled("COMMANDS", entries(table(program, "## Commands")), told(paragraphs(program, "## Commands"))),
-        titled("EVENT FILES", told(paragraphs(program, "## Event files")[:1]), entries(table(program, "## Event files")),
+        titled("EVENT FILES",
+               told(paragraphs(program, "## Event files")[:1]), entries(table(program, "## Event files")),
                told(paragraphs(program, "## Event files")[1:]),
                told(["The sync of a line is the time from which on it changes something:"]),
                entries(table(program, "### Syncs"))),
-        titled("PLANS", told(["A plan is a JSON text. Its document has the members"]),
-               entries(table(plans, "## The document")),
+        titled("PLANS",
+               told(["A plan is a JSON text. Its document has the members"]), entries(table(plans, "## The document")),
                told(["and a node has"]), entries(table(plans, "## Nodes")), told(paragraphs(plans, "## Nodes")),
                told(paragraphs(plans, "## Tests and columns"))),
         titled("OPERATORS", operators()),
@@ -185,12 +189,17 @@ def main() -> int:
     if not PAGE.is_file() or PAGE.read_text() != made:
         print("manual: docs/cedr.1 isn't what docs/ make of it; python3 checks/manual.py --write makes it anew")
         return 1
-    told = warnings()
-    print(told, end="")
+    warned = warnings()
+    print(warned, end="")
+    if warned:
+        by_groff = "groff warns of it"
+    elif shutil.which("groff"):
+        by_groff = "groff has no warning"
+    else:
+        by_groff = "there is no groff to ask"
     print(f"manual: docs/cedr.1 has {len(commands())} commands and {made.count('.TP')} entries as docs/ have them, "
-          + ("groff warns of it" if told else "groff has no warning" if shutil.which("groff") else "there is no groff to "
-              "ask"))
-    return 1 if told else 0
+          f"{by_groff}")
+    return 1 if warned else 0
 
 
 if __name__ == "__main__":

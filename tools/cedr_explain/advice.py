@@ -5,26 +5,37 @@ import difflib
 import re
 
 SAID_FOR_OPERATORS = {
-    "filter": "select", "where": "select", "having": "select", "map": "project", "columns": "project", "keep": "project",
-    "fields": "project", "merge": "union", "concat": "union", "append": "union", "unionall": "union", "lookup": "join",
-    "innerjoin": "join", "inner": "join", "aggregate": "group", "groupby": "group", "reduce": "group", "count": "group",
-    "sum": "group", "min": "group", "max": "group", "avg": "group", "tumble": "hop", "tumbling": "hop", "hopping": "hop",
-    "slide": "hop", "bucket": "hop", "sliding": "window", "timeout": "window", "expire": "window", "delay": "shift",
-    "lag": "shift", "lead": "shift", "begin": "starts", "start": "starts", "end": "ends", "seq": "sequence",
-    "followedby": "sequence", "then": "sequence", "pattern": "sequence", "not": "unless", "absent": "unless",
-    "without": "unless", "missing": "unless", "minus": "except", "difference": "except", "antijoin": "except",
-    "anyof": "atleast", "any": "atleast", "input": "source", "file": "source", "read": "source", "csv": "source",
-    "from": "source", "stream": "source", "sink": "output", "result": "output", "write": "output", "print": "output",
+    "filter": "select", "where": "select", "having": "select",
+    "map": "project", "columns": "project", "keep": "project", "fields": "project",
+    "merge": "union", "concat": "union", "append": "union", "unionall": "union",
+    "lookup": "join", "innerjoin": "join", "inner": "join",
+    "aggregate": "group", "groupby": "group", "reduce": "group", "count": "group", "sum": "group", "min": "group",
+    "max": "group", "avg": "group",
+    "tumble": "hop", "tumbling": "hop", "hopping": "hop", "slide": "hop", "bucket": "hop",
+    "sliding": "window", "timeout": "window", "expire": "window",
+    "delay": "shift", "lag": "shift", "lead": "shift",
+    "begin": "starts", "start": "starts",
+    "end": "ends",
+    "seq": "sequence", "followedby": "sequence", "then": "sequence", "pattern": "sequence",
+    "not": "unless", "absent": "unless", "without": "unless", "missing": "unless",
+    "minus": "except", "difference": "except", "antijoin": "except",
+    "anyof": "atleast", "any": "atleast",
+    "input": "source", "file": "source", "read": "source", "csv": "source", "from": "source", "stream": "source",
+    "sink": "output", "result": "output", "write": "output", "print": "output",
 }
 SAID_FOR_COMPARISONS = {
-    "==": "=", "===": "=", "eq": "=", "equals": "=", "is": "=", "<>": "!=", "ne": "!=", "not": "!=", "~=": "!=",
-    "/=": "!=", "!==": "!=", "=<": "<=", "le": "<=", "lte": "<=", "≤": "<=", "=>": ">=", "ge": ">=", "gte": ">=",
-    "≥": ">=", "≠": "!=", "lt": "<", "gt": ">",
+    "==": "=", "===": "=", "eq": "=", "equals": "=", "is": "=",
+    "<>": "!=", "ne": "!=", "not": "!=", "~=": "!=", "/=": "!=", "!==": "!=", "≠": "!=",
+    "=<": "<=", "le": "<=", "lte": "<=", "≤": "<=",
+    "=>": ">=", "ge": ">=", "gte": ">=", "≥": ">=",
+    "lt": "<",
+    "gt": ">",
 }
 SAID_FOR_TYPES = {
     "string": "text", "str": "text", "varchar": "text", "char": "text", "bytes": "text", "keyword": "text",
-    "text": "text", "int": "int", "integer": "int", "number": "int", "long": "int", "bigint": "int", "int64": "int",
-    "int32": "int", "i64": "int",
+    "text": "text",
+    "int": "int", "integer": "int", "number": "int", "long": "int", "bigint": "int", "int64": "int", "int32": "int",
+    "i64": "int",
 }
 DECIMALS = ("float", "double", "decimal", "real", "numeric", "money", "float64", "f64")
 DATES = ("date", "time", "datetime", "timestamp", "instant")

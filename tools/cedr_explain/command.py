@@ -46,8 +46,10 @@ text that begins with `cedr-explain:`.
 """
 OPTION = re.compile(r"--progress(?:=([0-9]+(?:\.[0-9]+)?))?")
 PLAN_FAULT = re.compile(rb"plan fault ([0-9]+) node ([0-9]+)")
+# Two faults of a line carry times, which the sentences have from the file itself.
 CARRIED = rb"(?: begin \S+ end \S+| sync \S+ mark \S+)?"
 EVENTS_FAULT = re.compile(rb"events (.*) line ([0-9]+) fault ([0-9]+)" + CARRIED, re.DOTALL)
+# So many letters of a plan's line are shown before and behind the place of a fault.
 SEEN_BEFORE, SEEN_BEHIND = 50, 50
 # Where standard error is closed there is nobody to tell, and the program is run all the same.
 ERRORS = sys.stderr.buffer if sys.stderr else open(os.devnull, "wb")
@@ -123,6 +125,7 @@ def followed(process: subprocess.Popen, call: Call, seconds: float | None) -> by
 
 
 def handed_on(stream, told: list, progress: Progress | None) -> None:
+    """Hands on what the program writes to standard error up to its end, and gathers it in `told`."""
     while True:
         piece = os.read(stream.fileno(), 65_536)
         if not piece:
@@ -185,8 +188,10 @@ def of_plan(call: Call, plan: Plan | None, line: bytes) -> Iterator[str]:
     fault, node = (int(reported[1]), int(reported[2])) if reported else (0, 0)
     if not plan or (plan.fault, plan.node) != (fault, node):
         yield language.FAULTS.get(fault, "The plan has a fault that this tool knows nothing of.")
-        yield f"`{call.plan()}` is no file that can be read again, so no more can be said." if not plan else \
-            "The plan that is there now hasn't this fault: it is another one than the program read."
+        if plan:
+            yield "The plan that is there now hasn't this fault: it is another one than the program read."
+        else:
+            yield f"`{call.plan()}` is no file that can be read again, so no more can be said."
         return
     if node:
         yield f"Node {node} of {call.plan()} is {plan.label(node)}."

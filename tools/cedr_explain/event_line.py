@@ -10,7 +10,9 @@ import cedr_explain.advice as advice
 LINE_BYTES = 65_536
 FILE_BYTES = 67_108_864
 MOST_FIELDS = 16
+# IDs and times are below these; an end `inf` counts as the second.
 IDS, TIMES = 2**64, 2**62
+# So many bytes of a field are shown.
 SHOWN = 60
 BYTE_ORDER_MARK = b"\xef\xbb\xbf"
 HEADER = re.compile(rb"[A-Za-z_][\w .-]*")
@@ -22,9 +24,8 @@ LONG_LINE, BAD_FORM, BAD_NUMBER, EMPTY_LIFE, BAD_FIELD, KNOWN_ID, UNKNOWN_ID, BA
 # What a fault is where more can't be said, since the file can't be read again.
 FAULTS = {
     LONG_LINE: f"The line has over {LINE_BYTES:,} bytes before its line feed.",
-    BAD_FORM: "The line isn't in form: its first field is none of `+`, `-`, `~` and `=`, it has a wrong number of fields, "
-              "or a "
-              "quote, a carriage return or a byte order mark stands where none may.",
+    BAD_FORM: "The line isn't in form: its first field is none of `+`, `-`, `~` and `=`, it has a wrong number of "
+              "fields, or a quote, a carriage return or a byte order mark stands where none may.",
     BAD_NUMBER: "Its ID, BEGIN, END or TIME isn't a whole number in digits.",
     EMPTY_LIFE: "Its END isn't after its BEGIN.",
     BAD_FIELD: "A field that the plan calls an int isn't a whole number of 64 bits.",
@@ -61,7 +62,10 @@ class LineFault(Exception):
 
 
 def read_line(data: bytes, types: list | None, is_first: bool) -> Line:
-    """Reads a line, without its line feed, of a source of these types, or of any where there are none. Raises LineFault."""
+    """Reads a line, without its line feed, of a source of these types, or of any where there are none.
+
+    Raises LineFault.
+    """
     if len(data) > LINE_BYTES:
         returns = data.count(b"\r")
         why = f" It has {returns:,} carriage returns: end each line with a line feed." if returns > 1 else ""
@@ -81,16 +85,18 @@ def check_bytes(text: bytes, is_first: bool) -> None:
         raise LineFault(BAD_FORM, f"{what}, which no line may have in front. Save the file as UTF-8 without one.")
     place = text.find(b"\r")
     if place >= 0:
-        raise LineFault(BAD_FORM, f"A carriage return stands inside it, behind {shown(text[max(0, place - 20):place])}. "
-                                  "One alone is "
-                        "dropped, and that at the line's end.")
+        before = shown(text[max(0, place - 20): place])
+        raise LineFault(BAD_FORM,
+                        f"A carriage return stands inside it, behind {before}. One alone is dropped, and that at the "
+                        "line's end.")
 
 
 def fields_of(text: bytes) -> list:
     """The values of the fields. A quoted one may have commas and doubled quotes; a bare one has no quote."""
     fields, place = [], 0
     while True:
-        value, place = (quoted_field if text[place: place + 1] == b'"' else bare_field)(text, place, len(fields) + 1)
+        read_field = quoted_field if text[place: place + 1] == b'"' else bare_field
+        value, place = read_field(text, place, len(fields) + 1)
         fields.append(value)
         if place == len(text):
             return fields
@@ -102,13 +108,14 @@ def bare_field(text: bytes, place: int, number: int) -> tuple[bytes, int]:
     end = len(text) if end < 0 else end
     value = text[place:end]
     if value.lstrip().startswith(b'"'):
-        raise LineFault(BAD_FORM, f"Field {number}, {shown(value)}, has a blank before its quote. A field that stands "
-                                  "between quotes "
-                        "begins with one: take the blank out.")
+        raise LineFault(BAD_FORM,
+                        f"Field {number}, {shown(value)}, has a blank before its quote. A field that stands between "
+                        "quotes begins with one: take the blank out.")
     if b'"' in value:
-        raise LineFault(BAD_FORM, f"Field {number}, {shown(value)}, has a quote and doesn't begin with one. Such a field "
-                                  "stands "
-                        f"between quotes, and a quote in it is written twice: {shown(quoted(value), '')}.")
+        right = shown(quoted(value), "")
+        raise LineFault(BAD_FORM,
+                        f"Field {number}, {shown(value)}, has a quote and doesn't begin with one. Such a field stands "
+                        f"between quotes, and a quote in it is written twice: {right}.")
     return value, end
 
 
@@ -117,8 +124,8 @@ def quoted_field(text: bytes, place: int, number: int) -> tuple[bytes, int]:
     while True:
         end = text.find(b'"', place + 1)
         if end < 0:
-            raise LineFault(BAD_FORM, f"Field {number} begins with a quote, and the line has none that closes it. A field "
-                                      "has no "
+            raise LineFault(BAD_FORM,
+                            f"Field {number} begins with a quote, and the line has none that closes it. A field has no "
                             "line break; a quote inside it is written twice.")
         parts.append(text[place + 1: end])
         if text[end + 1: end + 2] != b'"':
@@ -126,9 +133,10 @@ def quoted_field(text: bytes, place: int, number: int) -> tuple[bytes, int]:
         place = end + 1
     behind = text[end + 1: end + 2]
     if behind not in (b"", b","):
-        raise LineFault(BAD_FORM, f"Behind field {number}, {shown(text[start: end + 1])}, a comma or the line's end must "
-                                  "follow, and "
-                        f"not {shown(behind)}. A quote inside a field is written twice.")
+        field = shown(text[start: end + 1])
+        raise LineFault(BAD_FORM,
+                        f"Behind field {number}, {field}, a comma or the line's end must follow, and not "
+                        f"{shown(behind)}. A quote inside a field is written twice.")
     return b'"'.join(parts), end + 1
 
 
@@ -141,15 +149,15 @@ def check_form(text: bytes, fields: list, types: list | None, is_first: bool) ->
     kind = fields[0]
     if kind not in FORMS:
         raise LineFault(BAD_FORM, wrong_kind(text, fields, is_first))
-    own = FORMS[kind].count(",") + 1
-    least, most = own, own
+    least = most = FORMS[kind].count(",") + 1
     if kind in (b"+", b"~"):
-        least, most = (own, own + MOST_FIELDS) if types is None else (own + len(types),) * 2
+        least += len(types or [])
+        most += MOST_FIELDS if types is None else len(types)
     if least <= len(fields) <= most:
         return
-    raise LineFault(BAD_FORM, f"It has {len(fields)} field{'s' * (len(fields) > 1)}. "
-                              f"{wanted_fields(kind, least, most, types)}"
-                    + separated(text, fields, least))
+    count = f"{len(fields)} field{'s' * (len(fields) > 1)}"
+    wanted = wanted_fields(kind, least, most, types)
+    raise LineFault(BAD_FORM, f"It has {count}. {wanted}{separated(text, fields, least)}")
 
 
 def wanted_fields(kind: bytes, least: int, most: int, types: list | None) -> str:
@@ -205,9 +213,9 @@ def numbers_of(fields: list, types: list | None) -> Line:
     line = Line(kind, whole(fields[1]), whole(fields[2]), time_of(fields[3]))
     if line.end <= line.begin:
         moment = f" An event of one moment has the END {line.begin + 1}." if line.begin == line.end else ""
-        raise LineFault(EMPTY_LIFE, f"Its END, {time_text(line.end)}, isn't after its BEGIN, {line.begin}. An event is "
-                                    "valid from BEGIN "
-                        f"on and before END.{moment}")
+        raise LineFault(EMPTY_LIFE,
+                        f"Its END, {time_text(line.end)}, isn't after its BEGIN, {line.begin}. An event is valid from "
+                        f"BEGIN on and before END.{moment}")
     check_ints(fields[4:], types or [])
     return line
 
@@ -218,8 +226,8 @@ def check_number(*wanted: tuple) -> None:
     for name, value, limit, may_be_open in wanted:
         is_open = may_be_open and value == b"inf"
         if not is_open and not (value.isdigit() and int_below(value, limit)):
-            wrong.append(f"Its {name} is {shown(value)}. It must be a whole number from 0 to {limit - 1:,}, in digits alone"
-                         f"{', or `inf`' * may_be_open}. {about(name, value)}".rstrip())
+            right = f"a whole number from 0 to {limit - 1:,}, in digits alone{', or `inf`' * may_be_open}"
+            wrong.append(f"Its {name} is {shown(value)}. It must be {right}. {about(name, value)}".rstrip())
     if wrong:
         raise LineFault(BAD_NUMBER, *wrong)
 
@@ -251,8 +259,7 @@ def check_ints(fields: list, types: list) -> None:
             text = value.decode("utf-8", "replace")
             why = "It is out of that range." if INT.fullmatch(value) else advice.about_number(text)
             wrong.append(f"Its field {place}, {shown(value)}, must be an int by the plan: a whole number from -2^63 to "
-                         "2^63 - 1, in "
-                         f"digits, perhaps after a `-`. {why}".rstrip())
+                         f"2^63 - 1, in digits, perhaps after a `-`. {why}".rstrip())
     if wrong:
         raise LineFault(BAD_FIELD, *wrong)
 

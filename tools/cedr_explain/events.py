@@ -7,8 +7,9 @@ import os
 import stat
 from typing import Iterator, NamedTuple
 
-from cedr_explain.event_line import (BAD_END, BAD_FORM, FAULTS, FILE_BYTES, IDS, KNOWN_ID, LARGE_FILE, LINE_BYTES, PASSED,
-                                     TIMES, UNKNOWN_ID, Line, LineFault, int_below, read_line, shown, time_text, whole)
+from cedr_explain.event_line import (BAD_END, BAD_FORM, FAULTS, FILE_BYTES, IDS, KNOWN_ID, LARGE_FILE, LINE_BYTES,
+                                     PASSED, TIMES, UNKNOWN_ID, Line, LineFault, int_below, read_line, shown,
+                                     time_text, whole)
 
 SPLITTING = 'docs/program.md says in "A source of more than 64 MiB" how to divide a file.'
 CORRECTING = 'docs/guide.md says in "Corrections" what can still be put right once a guarantee has passed.'
@@ -16,9 +17,10 @@ SHOWN_BYTES = 120
 
 
 class Place(NamedTuple):
-    """Where a line is: the file, whether it is a script of `live`, and the sources of the plan with their types.
+    """Where a line is: the file, and the types of its fields.
 
-    `source` is the name of the source, where one file is read for it; `types` are None for a file without a plan.
+    `source` is the name of the source, where one file is read for it; `types` are None for a file without a plan. Where
+    the file is a script of `live`, `script` has the types of the plan's sources by their names.
     """
     file: str
     source: str = ""
@@ -145,14 +147,17 @@ class Judged:
         return f"{form} {shown(told.encode()) if has_comma else shown(plain)} is no source. {names}"
 
     def judge_event(self, line: Line, trace: Trace) -> None:
+        identity = line.identity
         if line.kind == b"+" and trace.inserted:
-            raise LineFault(KNOWN_ID, f"Its ID, {line.identity}, was inserted before, by line {trace.inserted}. Each "
-                            "insertion has an ID of its own, even where that event was withdrawn. A line "
-                            f"`~,{line.identity},BEGIN,END,FIELD..` gives that event another begin, end and other fields.")
+            raise LineFault(KNOWN_ID,
+                            f"Its ID, {identity}, was inserted before, by line {trace.inserted}. Each insertion has an "
+                            "ID of its own, even where that event was withdrawn. A line "
+                            f"`~,{identity},BEGIN,END,FIELD..` gives that event another begin, end and other fields.")
         if line.kind != b"+" and not trace.inserted:
             later = f" Line {trace.inserted_later} does: it must stand before." if trace.inserted_later else ""
-            raise LineFault(UNKNOWN_ID, f"Its ID, {line.identity}, was inserted by no line before.{later} A line `-` or "
-                            "`~` names an event that a line `+` of the same file inserted.")
+            raise LineFault(UNKNOWN_ID,
+                            f"Its ID, {identity}, was inserted by no line before.{later} A line `-` or `~` names an "
+                            "event that a line `+` of the same file inserted.")
         if line.kind == b"-" and not trace.begin <= line.end < trace.end:
             raise LineFault(BAD_END, self.bad_end(line, trace))
         if trace.sync_of(line) < trace.mark:
@@ -174,12 +179,16 @@ class Judged:
 
     def passed(self, line: Line, trace: Trace) -> str:
         sync = trace.sync_of(line)
-        why = {b"+": "its BEGIN", b"-": "its END"}.get(line.kind, "its BEGIN" if sync == line.begin else
-                                                     f"the begin that the event had by line {trace.version}")
+        if line.kind == b"-":
+            why = "its END"
+        elif line.kind == b"+" or sync == line.begin:
+            why = "its BEGIN"
+        else:
+            why = f"the begin that the event had by line {trace.version}"
         mark = time_text(trace.mark)
-        return (f"It changes something from {time_text(sync)} on, {why}, and line {trace.marked}, `=,{mark}`, guarantees "
-                f"that no later line does so before {mark}. Such a line is best left out, or the guarantee comes later. "
-                f"{CORRECTING}")
+        return (f"It changes something from {time_text(sync)} on, {why}, and line {trace.marked}, `=,{mark}`, "
+                f"guarantees that no later line does so before {mark}. Such a line is best left out, or the guarantee "
+                f"comes later. {CORRECTING}")
 
 
 class Trace:
@@ -195,7 +204,7 @@ class Trace:
             # most lines are about other events, and are passed over by a look for its digits
             if (digits in raw.data or b"=" in raw.data) and raw.data.startswith(name):
                 self.take(raw.number, raw.data[len(name):], raw.number < before)
-            if raw.number >= before and self.inserted or self.inserted_later:
+            if (raw.number >= before and self.inserted) or self.inserted_later:
                 return
 
     def take(self, number: int, data: bytes, is_before: bool) -> None:

@@ -91,7 +91,7 @@ class Reader:
         members, twice = {}, []
         place = self.after_blank(start + 1)
         while self.text[place: place + 1] != "}":
-            if members or twice:
+            if members:
                 place = self.after_comma(place, start, "}")
             if self.text[place: place + 1] != '"':
                 raise NoJson(self.no_name(place, start), place)
@@ -126,11 +126,12 @@ class Reader:
         return behind
 
     def no_comma(self, sign: str, start: int, close: str) -> str:
-        what = "object" if close == "}" else "array"
+        kind = "object" if close == "}" else "array"
+        begun = f"the {kind} that begins at {position(self.text, start)}"
         if not sign:
-            return f"the text ends here, and the {what} that begins at {position(self.text, start)} has no `{close}`"
+            return f"the text ends here, and {begun} has no `{close}`"
         if sign in "]}":
-            return f"`{sign}` stands here, and the {what} that begins at {position(self.text, start)} ends with `{close}`"
+            return f"`{sign}` stands here, and {begun} ends with `{close}`"
         return comment(sign) or f"a comma or `{close}` is missing here"
 
     def no_name(self, place: int, start: int) -> str:
@@ -167,11 +168,11 @@ class Reader:
     def escape(self, place: int) -> tuple[str, int]:
         """The sign that the escape at this place stands for, and the place behind it."""
         sign = self.text[place + 1: place + 2]
-        if sign in ESCAPES and sign:
+        if sign in ESCAPES:
             return ESCAPES[sign], place + 2
         if sign != "u":
-            raise NoJson("a backslash stands before one of \" \\ / b f n r t u alone; for itself it is written "
-                         "twice", place)
+            raise NoJson('a backslash stands before one of " \\ / b f n r t u alone; for itself it is written twice',
+                         place)
         high, behind = self.code(place)
         if 0xDC00 <= high < 0xE000:
             raise NoJson("this is the second half of a letter, without the first half before it", place)
@@ -216,7 +217,8 @@ class Reader:
         if word.lstrip("+-").lower() in ("nan", "inf", "infinity"):
             return f'JSON has no number {word}; where a plan allows no limit it is the text "inf"'
         if sign in "+.0123456789-":
-            return f"`{word}` isn't a number of JSON: digits, perhaps after one `-`, without a sign `+` or a zero in front"
+            right = "digits, perhaps after one `-`, without a sign `+` or a zero in front"
+            return f"`{word}` isn't a number of JSON: {right}"
         if word:
             return f'`{word}` is no value; a text stands between double quotes: "{word}"'
         return comment(sign) or f"a value is missing before {sign!r}"

@@ -73,5 +73,6 @@ def of_tests(node: Value, label: str) -> Iterator[Finding]:
         for name, one in side.held.items():
             if name != counts:
                 why = f"`{counts}` counts" if name in SIDES else "It says nothing"
-                yield Finding(0, one.begin, f"Test {place} of {label} has the member `{name}` beside `{counts}`. {why}.")
+                yield Finding(0, one.begin,
+                              f"Test {place} of {label} has the member `{name}` beside `{counts}`. {why}.")
         yield from twice(side, f"test {place} of {label}")

@@ -17,18 +17,17 @@ LIMITS = {resource.RLIMIT_AS: "ulimit -v", resource.RLIMIT_DATA: "ulimit -d"}
 
 def read_fault(call: Call, plan: Plan | None) -> Iterator[str]:
     """Which of the files that the command reads can't be opened, and why."""
-    named = [(WORDS.get(kind, kind), name) for kind, name in call.words.items() if kind != "N"]
+    named = [(WORDS.get(kind, kind), name, False) for kind, name in call.words.items() if kind != "N"]
     sources = {name: file for name, (file, _) in plan.sources().items()} if plan and call.reads_sources() else {}
-    named += [(f"file of the source `{source}`", file) for source, file in sources.items()]
+    named += [(f"file of the source `{source}`", file, True) for source, file in sources.items()]
     found = 0
-    for what, name in named:
+    for what, name, is_source in named:
         why = why_not(name)
         if why:
             found += 1
-            is_source = what.startswith("file of")
             yield f"The {what}, `{name}`, can't be read: {why}.{advice_for(name, call, is_source)}"
     if not found:
-        names = ", ".join(name for _, name in named)
+        names = ", ".join(name for _, name, _ in named)
         yield f"Each file can be opened now: {names}. A read of one was refused, or it is there only since then."
     if sources and found and not os.path.isabs(call.plan() or ""):
         yield f"The files of a plan's sources are found from where the program is called, which is {os.getcwd()}."
@@ -47,9 +46,12 @@ def why_not(name: str) -> str:
         if stat.S_ISREG(mode):
             with open(name, "rb") as file:
                 file.read(1)
+    except FileNotFoundError:
+        return "there is no such file"
+    except NotADirectoryError:
+        return "a part of its path is no folder"
     except OSError as error:
-        return {FileNotFoundError: "there is no such file", NotADirectoryError: "a part of its path is no folder"}.get(
-            type(error), str(error.strerror))
+        return str(error.strerror)
     except ValueError:
         return "its name has a byte 0"
     return ""
@@ -107,8 +109,8 @@ def out_of_memory() -> Iterator[str]:
         allowed = resource.getrlimit(limit)[0]
         if allowed != resource.RLIM_INFINITY:
             yield f"It may have {allowed / 1_000_000:,.0f} MB here ({command})."
-    yield ("Guarantees in the files let it keep less, and so do a `select`, a `project` or a `window` near the sources: "
-           'docs/operators.md says in "What is kept" what each operator keeps.')
+    yield ("Guarantees in the files let it keep less, and so do a `select`, a `project` or a `window` near the "
+           'sources: docs/operators.md says in "What is kept" what each operator keeps.')
 
 
 def killed(number: int) -> Iterator[str]:
@@ -118,4 +120,4 @@ def killed(number: int) -> Iterator[str]:
         yield "Standard output is a pipe, and whoever read it has ended."
     if number == signal.SIGKILL:
         yield "The system does so where memory runs out."
-        yield from list(out_of_memory())[:1]
+        yield next(out_of_memory())

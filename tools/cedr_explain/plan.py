@@ -1,5 +1,7 @@
-"""The faults of a plan, each with its place and its sentence. A plan is read in the order of the program's own faults: the
-document, the nodes one after the other up to the first faulty one, and then what the nodes are to each other."""
+"""The faults of a plan, each with its place and its sentence.
+
+A plan is read in the order of the program's own faults: the document, the nodes one after the other up to the first
+faulty one, and then what the nodes are to each other."""
 from __future__ import annotations
 
 from typing import Iterator
@@ -55,22 +57,23 @@ class Plan:
     def of_document(self) -> Iterator[Finding]:
         document = self.document
         if type(document.held) is not dict:
-            yield Finding(MISSING_PART, document.begin, f"The document is {document.kind()}. It must be an object with the "
-                                                        "members "
-                          '`version` and `nodes`: {"version":1,"nodes":[..]}.')
+            yield Finding(MISSING_PART, document.begin,
+                          f"The document is {document.kind()}. It must be an object with the members `version` and "
+                          '`nodes`: {"version":1,"nodes":[..]}.')
             return
         yield from self.of_version(document.member("version"))
         nodes = document.member("nodes")
         if nodes is None:
-            yield Finding(MISSING_PART, document.begin, '`nodes` is missing. It must be an array of nodes: '
-                                                        '"nodes":[{..},{..}].')
+            yield Finding(MISSING_PART, document.begin,
+                          '`nodes` is missing. It must be an array of nodes: "nodes":[{..},{..}].')
         elif type(nodes.held) is not list:
-            yield Finding(MISSING_PART, nodes.begin, f"`nodes` is {self.values.told(nodes)}. It must be an array of nodes, "
-                          'each with a member `name`: [{"name":"orders",..},..].')
+            yield Finding(MISSING_PART, nodes.begin,
+                          f"`nodes` is {self.values.told(nodes)}. It must be an array of nodes, each with a member "
+                          '`name`: [{"name":"orders",..},..].')
         elif len(nodes.held) > MOST_NODES:
-            yield Finding(TOO_MANY, nodes.held[MOST_NODES].begin, f"The plan has {len(nodes.held):,} nodes, of which this "
-                                                                  "is "
-                          f"number {MOST_NODES + 1}. It may have {MOST_NODES}.")
+            yield Finding(TOO_MANY, nodes.held[MOST_NODES].begin,
+                          f"The plan has {len(nodes.held):,} nodes, of which this is number {MOST_NODES + 1}. It may "
+                          f"have {MOST_NODES}.")
         edge = document.member("edge")
         if edge is not None:
             yield from self.values.number("`edge`", edge, 1, 1_024, '"edge":64')
@@ -78,17 +81,18 @@ class Plan:
     def of_version(self, version: Value | None) -> Iterator[Finding]:
         right = "It must be the number 1 or 2, the version of the plan language"
         if version is None:
-            yield Finding(MISSING_PART, self.document.begin, f'`version` is missing. {right}: '
-                                                             f'{{"version":1,"nodes":[..]}}.')
+            yield Finding(MISSING_PART, self.document.begin,
+                          f'`version` is missing. {right}: {{"version":1,"nodes":[..]}}.')
         elif type(version.held) is not int or version.held not in VERSIONS:
-            yield Finding(MISSING_PART, version.begin, f"`version` is {self.values.told(version)}. {right}, in one digit.")
+            yield Finding(MISSING_PART, version.begin,
+                          f"`version` is {self.values.told(version)}. {right}, in one digit.")
 
     def of_node(self, node: Value) -> Iterator[Finding]:
         """The faults of one node. Those of names, columns and types are looked for where all members are right."""
         if type(node.held) is not dict:
-            yield Finding(MISSING_PART, node.begin, f"The node is {self.values.told(node)}. It must be an object with the "
-                                                    "members "
-                          "`name` and `op`.")
+            told = self.values.told(node)
+            yield Finding(MISSING_PART, node.begin,
+                          f"The node is {told}. It must be an object with the members `name` and `op`.")
             return
         found = [*self.values.name(node), *self.of_op(node)]
         if not found:
@@ -106,7 +110,8 @@ class Plan:
         if op is None:
             yield Finding(MISSING_PART, node.begin, '`op`, the operator, is missing. Write it as in "op":"select".')
         elif type(op.held) is not str:
-            yield Finding(MISSING_PART, op.begin, f"`op` is {self.values.told(op)}. It must be the name of an operator.")
+            yield Finding(MISSING_PART, op.begin,
+                          f"`op` is {self.values.told(op)}. It must be the name of an operator.")
         elif op.held not in self.operators:
             yield Finding(UNKNOWN_OP, op.begin, f"`op` is {self.values.raw(op)}. {self.meant_op(op.held)}")
 
@@ -135,34 +140,34 @@ class Plan:
         if ports is None:
             yield Finding(MISSING_PART, node.begin, f'`from` is missing. {right}: "from":[{form}].')
         elif type(ports.held) is not list:
-            names = [f'"{ports.held}"'] if type(ports.held) is str else [form]
-            yield Finding(MISSING_PART, ports.begin, f"`from` is {self.values.told(ports)}. It must be an array of names, "
-                                                     "even of "
-                          f"one: [{names[0]}].")
+            names = f'"{ports.held}"' if type(ports.held) is str else form
+            yield Finding(MISSING_PART, ports.begin,
+                          f"`from` is {self.values.told(ports)}. It must be an array of names, even of one: [{names}].")
         else:
+            count = len(ports.held)
             for one in ports.held:
                 if type(one.held) is not str:
-                    yield Finding(MISSING_PART, one.begin, f"An entry of `from` is {self.values.told(one)}. It must be the "
-                                                           "name of "
-                                  "an earlier node.")
-            if len(ports.held) < least:
-                yield Finding(MISSING_PART, ports.begin, f"`from` has {len(ports.held)} "
-                                                         f"name{'s' * (len(ports.held) != 1)}. "
-                              f"{right}.")
-            if len(ports.held) > most:
-                yield Finding(TOO_MANY, ports.held[most].begin, f"`from` has {len(ports.held)} names. {right}."
-                              + (" A `union` in front of it makes one of up to four." if most == 1 else ""))
+                    told = self.values.told(one)
+                    yield Finding(MISSING_PART, one.begin,
+                                  f"An entry of `from` is {told}. It must be the name of an earlier node.")
+            if count < least:
+                yield Finding(MISSING_PART, ports.begin, f"`from` has {count} name{'s' * (count != 1)}. {right}.")
+            if count > most:
+                hint = " A `union` in front of it makes one of up to four." if most == 1 else ""
+                yield Finding(TOO_MANY, ports.held[most].begin, f"`from` has {count} names. {right}.{hint}")
 
     def of_names(self, node: Value) -> Iterator[Finding]:
         name, earlier = node.member("name"), self.earlier()
         if name.held in earlier:
-            yield Finding(TWICE_NAMED, name.begin, f"`name` is {self.values.raw(name)}, which is the name of node "
-                          f"{earlier[name.held]}, {self.label(earlier[name.held])}, too. Each node has a name of its own.")
+            other = earlier[name.held]
+            yield Finding(TWICE_NAMED, name.begin,
+                          f"`name` is {self.values.raw(name)}, which is the name of node {other}, {self.label(other)}, "
+                          "too. Each node has a name of its own.")
             return
         for one in node.member("from").held if self.op_of(node) != "source" else []:
             if one.held not in self.results or self.op_of(self.nodes[earlier[one.held] - 1]) == "output":
-                yield Finding(UNKNOWN_NODE, one.begin, f"`from` has {self.values.raw(one)}. "
-                                                       f"{self.meant_node(one.held, earlier)}")
+                meant = self.meant_node(one.held, earlier)
+                yield Finding(UNKNOWN_NODE, one.begin, f"`from` has {self.values.raw(one)}. {meant}")
 
     def meant_node(self, said: str, earlier: dict) -> str:
         """What is wrong with a name in `from`, and which names are right."""
@@ -172,9 +177,9 @@ class Plan:
             return f"That is the output, and no node reads it. {told}"
         for place, node in enumerate(self.nodes[self.node - 1:], self.node):
             if type(node.held) is dict and node.member("name") is not None and node.member("name").held == said:
-                where = "That is the node itself" if place == self.node else \
-                    f"Node {place} has that name, but stands behind; move it in front of this one"
-                return f"{where}. {told}"
+                if place == self.node:
+                    return f"That is the node itself. {told}"
+                return f"Node {place} has that name, but stands behind; move it in front of this one. {told}"
         near = advice.near(said, readable)
         return f"No node has that name. {f'Perhaps `{near}` is meant. ' if near else ''}{told}"
 
@@ -186,22 +191,21 @@ class Plan:
                   if self.op_of(node) != "output" and self.name_of(node) not in used]
         if not outputs:
             last = self.name_of(self.nodes[unused[-1] - 1]) if unused else "NAME"
-            yield Finding(NOT_ONE_OUTPUT, self.document.member("nodes").begin, "No node is the output, which hands out the "
-                "answer. "
-                          f"Put one at the end: {OUTPUT.replace('NAME', last)}.")
+            output = OUTPUT.replace("NAME", last)
+            yield Finding(NOT_ONE_OUTPUT, self.document.member("nodes").begin,
+                          f"No node is the output, which hands out the answer. Put one at the end: {output}.")
         elif len(outputs) > 1:
-            self.node = outputs[1]
-            yield Finding(NOT_ONE_OUTPUT, self.nodes[outputs[1] - 1].begin, f"Node {outputs[0]}, {self.label(outputs[0])}, "
-                "is an "
-                          "output already, and a plan has one. A `union` makes one answer of up to four; for two answers "
-                          "write two plans.")
+            first, self.node = outputs[:2]
+            yield Finding(NOT_ONE_OUTPUT, self.nodes[self.node - 1].begin,
+                          f"Node {first}, {self.label(first)}, is an output already, and a plan has one. A `union` "
+                          "makes one answer of up to four; for two answers write two plans.")
         elif unused:
             self.node = unused[0]
-            name = self.name_of(self.nodes[unused[0] - 1])
-            output = self.nodes[outputs[0] - 1].member("from").held[0].held
-            yield Finding(UNUSED, self.nodes[unused[0] - 1].begin, f"No node has `{name}` in its `from`, so it says "
-                                                                   "nothing to the "
-                          f"answer. The output reads `{output}`. Let a later node read it, or take it out.")
+            node = self.nodes[self.node - 1]
+            answered = self.nodes[outputs[0] - 1].member("from").held[0].held
+            yield Finding(UNUSED, node.begin,
+                          f"No node has `{self.name_of(node)}` in its `from`, so it says nothing to the answer. The "
+                          f"output reads `{answered}`. Let a later node read it, or take it out.")
 
     # what is known of nodes
 

@@ -20,7 +20,7 @@ class Open(NamedTuple):
 
 
 class Progress:
-    """Tells how far each of these files is read, which are by the names of their sources."""
+    """Tells how far each of these files is read. They stand by the names of their sources."""
 
     def __init__(self, files: dict, out) -> None:
         self.files, self.out = files, out

@@ -22,8 +22,8 @@ class Column(NamedTuple):
 class Columns:
     """What the tests and the lists of columns of a node count through.
 
-    `inputs` has for each port the name of the node that it reads and the types of that node's result. `members` are those
-    that the node's operator knows.
+    `inputs` has for each port the name of the node that it reads and the types of that node's result. `members` are
+    those that the node's operator knows.
     """
 
     def __init__(self, op: str, node: Value, members: dict, inputs: list) -> None:
@@ -39,29 +39,32 @@ class Columns:
         return self.held(name, [])
 
     def told(self) -> str:
-        """All columns: `its columns are 0 (a text) and 1 (an int) of orders, 2 (a text) of payments`."""
+        """All columns, as in: Its columns are 0 (text), 1 (int) of `orders`; 2 (text) of `payments`."""
         if not self.all:
             return "What it reads has no columns."
         parts = []
-        for name, run in groupby(enumerate(self.all), lambda one: (one[1].node, one[0] - one[1].place)):
+        # Two ports in a row may read one node: how far a column is from its place in the node tells them apart.
+        for (name, _), run in groupby(enumerate(self.all), lambda one: (one[1].node, one[0] - one[1].place)):
             columns = ", ".join(f"{at} ({one.type})" for at, one in run)
-            parts.append(f"{columns} of `{name[0]}`")
+            parts.append(f"{columns} of `{name}`")
         return "Its columns are " + "; ".join(parts) + "."
 
     def result(self) -> list:
         """The types of the node's result, where it has no fault."""
         if self.op in KEPT:
-            lists = [self.listed(KEPT[self.op]), *([self.listed(name) for name in EXTREMES] if self.op == "group" else [])]
-            kept, *extremes = [[self.all[one.held].type for one in columns] for columns in lists]
-            return kept + self.numbers() + [one for types in extremes for one in types]
+            numbers = ["int"] * (self.is_counted() + len(self.listed("sum")))
+            return self.listed_types(KEPT[self.op]) + numbers + self.listed_types(*EXTREMES)
         if self.op in JOINING:
             return [one.type for one in self.all]
         return list(self.inputs[0][1])
 
-    def numbers(self) -> list:
-        if self.op != "group":
-            return []
-        return ["int"] * (bool(self.held("count", False)) + len(self.listed("sum")))
+    def listed_types(self, *names: str) -> list:
+        """The types of the columns that these members list."""
+        return [self.all[one.held].type for name in names for one in self.listed(name)]
+
+    def is_counted(self) -> bool:
+        """Whether the result has a count; a group alone may have one."""
+        return self.held("count", False)
 
     def faults(self) -> Iterator[Finding]:
         yield from self.width()
@@ -77,16 +80,16 @@ class Columns:
             if self.op == "atleast":
                 why = f"{self.held('number', 1)} times {len(self.inputs[0][1])}"
         elif self.op in KEPT:
-            names = [KEPT[self.op], "sum", *EXTREMES] if self.op == "group" else [KEPT[self.op]]
-            count = sum(len(self.listed(name)) for name in names) + (len(self.numbers()) > len(self.listed("sum")))
-            why = ", ".join(f"{len(self.listed(name))} by `{name}`" for name in names if self.listed(name))
-            why += ", and the count" if len(self.numbers()) > len(self.listed("sum")) else ""
+            names = [name for name in (KEPT[self.op], "sum", *EXTREMES) if self.listed(name)]
+            count = sum(len(self.listed(name)) for name in names) + self.is_counted()
+            why = ", ".join(f"{len(self.listed(name))} by `{name}`" for name in names)
+            why += ", and the count" * self.is_counted()
         else:
             return
         if count > MOST_FIELDS:
-            yield Finding(TOO_WIDE, self.node.begin, f"Its result would have {count} fields: {why}. It may have "
-                                                     f"{MOST_FIELDS}. "
-                          "Put a `project` in front of it that keeps the fields that are needed.")
+            yield Finding(TOO_WIDE, self.node.begin,
+                          f"Its result would have {count} fields: {why}. It may have {MOST_FIELDS}. Put a `project` in "
+                          "front of it that keeps the fields that are needed.")
 
     def past_the_end(self) -> Iterator[Finding]:
         for what, value in self.named():
@@ -109,28 +112,29 @@ class Columns:
             left, (which, side) = test.held[0].held, right_side(test.held[2])
             if left >= len(self.all) or which == "column" and side.held >= len(self.all):
                 continue
+            own = self.all[left].type
             other = self.all[side.held].type if which == "column" else which
-            if self.all[left].type != other:
-                what = f"column {side.held}, which is {a_type(other)}" if which == "column" else f"{a_type(other)}"
-                yield Finding(TYPE_DIFFERS, test.begin, f"Test {place} of `where` compares column {left}, which is "
-                              f"{a_type(self.all[left].type)}, with {what}. {self.told()}")
+            if own != other:
+                what = f"column {side.held}, which is {a_type(other)}" if which == "column" else a_type(other)
+                yield Finding(TYPE_DIFFERS, test.begin,
+                              f"Test {place} of `where` compares column {left}, which is {a_type(own)}, with {what}. "
+                              f"{self.told()}")
 
     def texts_summed(self) -> Iterator[Finding]:
         for place, value in enumerate(self.listed("sum")):
             if value.held < len(self.all) and self.all[value.held].type == "text":
-                yield Finding(TYPE_DIFFERS, value.begin, f"Entry {place} of `sum` is column {value.held}, which is a text. "
-                              f"Numbers alone are summed. {self.told()}")
+                yield Finding(TYPE_DIFFERS, value.begin,
+                              f"Entry {place} of `sum` is column {value.held}, which is a text. Numbers alone are "
+                              f"summed. {self.told()}")
 
     def inputs_differ(self) -> Iterator[Finding]:
         if self.op not in ("union", "atleast"):
             return
-        for name, types in self.inputs[1:]:
-            if types != self.inputs[0][1]:
-                told = "; ".join(f"`{one}` has {', '.join(of) or 'none'}" for one, of in self.inputs)
-                yield Finding(TYPE_DIFFERS, self.node.member("from").begin, f"The inputs of {a_word(self.op)} must have "
-                    "the same "
-                              f"types of fields: {told}. A `project` in front of one can put its fields in order.")
-                return
+        if any(types != self.inputs[0][1] for _, types in self.inputs):
+            told = "; ".join(f"`{name}` has {', '.join(types) or 'none'}" for name, types in self.inputs)
+            yield Finding(TYPE_DIFFERS, self.node.member("from").begin,
+                          f"The inputs of {a_word(self.op)} must have the same types of fields: {told}. A `project` in "
+                          "front of one can put its fields in order.")
 
 
 def a_type(name: str) -> str:

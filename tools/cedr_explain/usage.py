@@ -30,8 +30,8 @@ def explained(words: list) -> Iterator[str]:
 def of_unknown(words: list) -> Iterator[str]:
     word = words[0]
     if word.endswith(".json"):
-        yield (f"A command stands before the plan: `cedr run {word}` answers it, and `cedr check {word}` says whether it "
-               "is right.")
+        yield (f"A command stands before the plan: `cedr run {word}` answers it, and `cedr check {word}` says whether "
+               "it is right.")
     elif word.endswith((".csv", ".txt")):
         yield f"A command stands before the file: `cedr history {word}` says what it amounts to."
     elif not is_utf8(word):
@@ -51,15 +51,16 @@ def of_command(command: str, given: list) -> Iterator[str]:
         yield f"Behind `{command}` {'stands' if len(given) < 2 else 'stand'} {told}; it is called as {form}."
         options = [word for word in given if word.startswith("-") and word != "-"]
         if options:
-            yield (f"`{options[0]}` would be an option, and the program has none but `--help` and `--version`, which stand "
-                   "alone.")
+            yield (f"`{options[0]}` would be an option, and the program has none but `--help` and `--version`, which "
+                   "stand alone.")
         elif len(given) > len(kinds):
             yield "A name with a blank in it stands between quotes."
         return
     yield from (f"The word `{shown(word)}` isn't UTF-8." for word in given if not is_utf8(word))
-    number = given[kinds.index("N")] if "N" in kinds else "1"
-    if "N" in kinds and not is_number(number, MOST[command]):
-        yield f"N is `{shown(number)}`. It must be a number from 1 to {MOST[command]:,} in digits; the form is {form}."
+    if "N" in kinds:
+        number, most = given[kinds.index("N")], MOST[command]
+        if not is_number(number, most):
+            yield f"N is `{shown(number)}`. It must be a number from 1 to {most:,} in digits; the form is {form}."
 
 
 def is_number(word: str, most: int) -> bool:

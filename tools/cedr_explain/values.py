@@ -16,7 +16,7 @@ LEVEL_FORM = '"strong", "middle" or {"block":0,"memory":60}'
 
 
 class Finding(NamedTuple):
-    """A fault of a plan by its number, the place of the text that it is about, and what to say of it."""
+    """A fault of a plan by its number, 0 for a note; the place of the text that it is about, and what to say of it."""
     fault: int
     place: int
     text: str
@@ -73,8 +73,8 @@ class Values:
             yield self.wrong("name", value, f"{right}, between quotes.")
         elif not NAME.fullmatch(value.held):
             other = re.sub("[^A-Za-z0-9_]+", "_", value.held).strip("_")
-            yield Finding(MISSING_PART, value.begin, f"`name` is {self.raw(value)}. {right} alone"
-                          + (f', as "{other}" has.' if NAME.fullmatch(other) else "."))
+            like = f', as "{other}" has' if NAME.fullmatch(other) else ""
+            yield Finding(MISSING_PART, value.begin, f"`name` is {self.raw(value)}. {right} alone{like}.")
 
     def number(self, what: str, value: Value, least: int, most: int, example: str) -> Iterator[Finding]:
         """A whole number in a range, `what` being its name in the sentence."""
@@ -84,8 +84,9 @@ class Values:
             right = f"{right}, without quotes and unit." if type(value.held) is str else f"{right}, as in {example}."
             yield Finding(MISSING_PART, value.begin, f"{what} is {self.told(value)}. {right} {about}".rstrip())
         elif type(value.held) is float:
-            yield Finding(BAD_NUMBER, value.begin, f"{what} is {self.raw(value)}. {right}, written in digits alone, "
-                          "without point and exponent, and below 2^64.")
+            yield Finding(BAD_NUMBER, value.begin,
+                          f"{what} is {self.raw(value)}. {right}, written in digits alone, without point and exponent, "
+                          "and below 2^64.")
         elif not least <= value.held <= most:
             yield Finding(BAD_NUMBER, value.begin, f"{what} is {self.raw(value)}. {right}.")
 
@@ -103,17 +104,17 @@ class Values:
             yield self.wrong("fields", value, right)
             return
         for place, one in enumerate(value.held):
-            if one.held not in TYPES or type(one.held) is not str:
+            if one.held not in TYPES:
                 about = advice.about_type(one.held) if type(one.held) is str else "It stands between quotes."
-                yield Finding(MISSING_PART, one.begin,
-                              f'Field {place} of `fields` is {self.raw(one)}. It must be "int" or "text". {about}'.rstrip())
+                told = f'Field {place} of `fields` is {self.raw(one)}. It must be "int" or "text". {about}'
+                yield Finding(MISSING_PART, one.begin, told.rstrip())
         yield from self.too_many("fields", value, MOST_FIELDS)
 
-    def too_many(self, name: str, value: Value, most: int, why: str = "") -> Iterator[Finding]:
-        if len(value.held) > most:
+    def too_many(self, name: str, value: Value, most: int) -> Iterator[Finding]:
+        count = len(value.held)
+        if count > most:
             yield Finding(TOO_MANY, value.held[most].begin,
-                          f"`{name}` has {len(value.held):,} entries, of which this is number {most + 1}. "
-                          f"It may have {most}{why}.")
+                          f"`{name}` has {count:,} entries, of which this is number {most + 1}. It may have {most}.")
 
     def columns(self, name: str, value: Value, example: str) -> Iterator[Finding]:
         if type(value.held) is not list:
@@ -136,8 +137,9 @@ class Values:
             yield self.wrong("where", value, 'It must be an array of tests, as [[0,"=",{"int":5}]]; [] has none.')
             return
         if self.is_one_test(value):
-            yield Finding(MISSING_PART, value.begin, f"`where` is the test {self.raw(value)} itself. "
-                          f"It must be an array of tests: [{self.raw(value)}].")
+            raw = self.raw(value)
+            yield Finding(MISSING_PART, value.begin,
+                          f"`where` is the test {raw} itself. It must be an array of tests: [{raw}].")
             return
         for place, one in enumerate(value.held, 1):
             yield from self.test(place, one)
@@ -149,31 +151,34 @@ class Values:
     def test(self, place: int, value: Value) -> Iterator[Finding]:
         if type(value.held) is not list or len(value.held) != 3:
             count = f", which has {len(value.held)} entries" if type(value.held) is list else f", {value.kind()}"
-            yield Finding(MISSING_PART, value.begin, f"Test {place} of `where` is {self.raw(value)}{count}. It must be an "
-                          'array of three: a column, a comparison and what to compare with, as [0,"=",{"int":5}].')
+            yield Finding(MISSING_PART, value.begin,
+                          f"Test {place} of `where` is {self.raw(value)}{count}. It must be an array of three: a "
+                          'column, a comparison and what to compare with, as [0,"=",{"int":5}].')
             return
         left, comparison, right = value.held
         yield from self.column(f"The column of test {place} of `where`", left)
-        if comparison.held not in COMPARISONS or type(comparison.held) is not str:
+        if comparison.held not in COMPARISONS:
+            known = ", ".join(map(quoted, COMPARISONS))
             meant = advice.SAID_FOR_COMPARISONS.get(str(comparison.held).lower())
-            yield Finding(MISSING_PART, comparison.begin, f"The comparison of test {place} of `where` is "
-                          f'{self.raw(comparison)}. It must be one of {", ".join(map(quoted, COMPARISONS))}.'
-                          + (f" Write {quoted(meant)}." if meant else ""))
+            wanted = f"It must be one of {known}." + (f" Write {quoted(meant)}." if meant else "")
+            yield Finding(MISSING_PART, comparison.begin,
+                          f"The comparison of test {place} of `where` is {self.raw(comparison)}. {wanted}")
         yield from self.right_side(place, right)
 
     def right_side(self, place: int, value: Value) -> Iterator[Finding]:
-        what = f"What test {place} of `where` compares with"
         side = right_side(value)
         if side is None:
-            yield Finding(MISSING_PART, value.begin, f"{what} is {self.told(value)}. It must be an object: "
-                          + self.wanted_side(value))
+            told, right = self.told(value), self.wanted_side(value)
+            yield Finding(MISSING_PART, value.begin,
+                          f"What test {place} of `where` compares with is {told}. It must be an object: {right}")
         elif side[0] == "column":
             yield from self.column(f"The column that test {place} of `where` compares with", side[1])
         elif side[0] == "int":
             yield from self.number(f"The `int` of test {place} of `where`", side[1], -(2**63), 2**63 - 1, '{"int":5}')
         elif type(side[1].held) is not str:
-            yield Finding(MISSING_PART, side[1].begin, f"The `text` of test {place} of `where` is {self.told(side[1])}. "
-                          "It must stand between quotes.")
+            told = self.told(side[1])
+            yield Finding(MISSING_PART, side[1].begin,
+                          f"The `text` of test {place} of `where` is {told}. It must stand between quotes.")
 
     def wanted_side(self, value: Value) -> str:
         """How to write what a value is meant as on the right side of a test."""
@@ -186,8 +191,8 @@ class Values:
     def level(self, value: Value) -> Iterator[Finding]:
         if type(value.held) is str:
             if value.held not in LEVELS:
-                yield Finding(BAD_LEVEL, value.begin, f"`level` is {self.raw(value)}. It must be {LEVEL_FORM}."
-                              + self.level_meant(value.held))
+                meant = self.level_meant(value.held)
+                yield Finding(BAD_LEVEL, value.begin, f"`level` is {self.raw(value)}. It must be {LEVEL_FORM}.{meant}")
             return
         if type(value.held) is not dict:
             yield self.wrong("level", value, f"It must be {LEVEL_FORM}.")
@@ -195,10 +200,11 @@ class Values:
         found = [one for name in ("block", "memory") for one in self.bound(value, name)]
         yield from found
         block, memory = value.member("block"), value.member("memory")
+        # float takes the text "inf" too
         if not found and float(block.held) > float(memory.held):
-            yield Finding(BAD_LEVEL, value.begin, f"The level's block, {self.raw(block)}, is over its memory, "
-                          f"{self.raw(memory)}. What is waited for can't be forgotten before: make the memory as long at "
-                          "least.")
+            yield Finding(BAD_LEVEL, value.begin,
+                          f"The level's block, {self.raw(block)}, is over its memory, {self.raw(memory)}. What is "
+                          "waited for can't be forgotten before: make the memory as long at least.")
 
     def level_meant(self, said: str) -> str:
         if said.lower() == "weak":
@@ -207,12 +213,13 @@ class Values:
         return f' Write "{near}".' if near else ""
 
     def bound(self, level: Value, name: str) -> Iterator[Finding]:
-        value, what = level.member(name), f"The level's `{name}`"
+        value = level.member(name)
         if value is None:
-            yield Finding(MISSING_PART, level.begin, f"The level has no `{name}`. It must have a `block` and a `memory`, "
-                          'each a number or "inf", as in {"block":0,"memory":60}.')
+            yield Finding(MISSING_PART, level.begin,
+                          f'The level has no `{name}`. It must have a `block` and a `memory`, each a number or "inf", '
+                          'as in {"block":0,"memory":60}.')
         elif value.held != "inf":
-            for found in self.number(what, value, 0, LONGEST, f'"{name}":60'):
+            for found in self.number(f"The level's `{name}`", value, 0, LONGEST, f'"{name}":60'):
                 yield found._replace(text=f'{found.text} "inf" says without limit.')
 
 
