@@ -190,7 +190,7 @@ class Zsh:
 
 def check_bash(folder: Path, differ: list) -> str:
     if not shutil.which("bash"):
-        return "there is no bash"
+        return "bash skipped, which isn't there"
     for words, wanted, *_ in TRIED:
         came = in_bash(words, folder)
         if came != wanted:
@@ -201,7 +201,7 @@ def check_bash(folder: Path, differ: list) -> str:
 def check_zsh(folder: Path, home: Path, differ: list) -> str:
     """A word that one offer completes stands whole in the line, with a blank behind it; else the line is as it was."""
     if not shutil.which("zsh"):
-        return "there is no zsh"
+        return "zsh skipped, which isn't there"
     zsh = Zsh(folder, home)
     for words, *offers in TRIED:
         wanted, typed = offers[-1], " ".join(words)

@@ -13,6 +13,8 @@ Status 0: all right. 1: something differs; the first differences are printed. 2:
 
 usage: checks/explained.py [PROGRAM]
 """
+from __future__ import annotations
+
 import os
 import random
 import re
@@ -58,6 +60,8 @@ STAND_INS = [
      ["  Standard output is a pipe, and whoever read it has ended."]),
     ("a fault that there is none of", 'echo "plan fault 99 node 1" >&2; exit 2', ["run", "plan.json"], 2,
      ["  The plan has a fault that this tool knows nothing of."]),
+    ("a fault of more digits than Python's int takes", 'printf "plan fault %05000d node 1\\n" 7 >&2; exit 2',
+     ["run", "plan.json"], 2, ["  The plan has a fault that this tool knows nothing of."]),
     ("a plan that is another one by now", 'echo "plan fault 3 node 1" >&2; exit 2', ["run", "plan.json"], 2,
      ["  The plan that is there now hasn't this fault: it is another one than the program read."]),
     ("a file that is another one by now", 'echo "events orders line 2 fault 3" >&2; exit 3', ["run", "plan.json"], 3,
@@ -67,7 +71,36 @@ STAND_INS = [
      ["  Each file can be opened now: plan.json. A read of one was refused, or it is there only since then."]),
     ("half of a file", "exec 3< orders.csv; head -c 55 <&3 > /dev/null; sleep 1",
      ["--progress=0.3", "run", "plan.json"], 0, ["orders 50 % of 110 bytes; payments isn't open; memory "]),
+    # from here on the files are others than the program read
+    ("a line before that has too few fields",
+     "printf '+,1,5\\n-,1,5\\n' > orders.csv; echo 'events orders line 2 fault 8 begin 5 end 6' >&2; exit 3",
+     ["run", "plan.json"], 3,
+     ["  orders.csv:2: Its new end isn't from the event's begin on and below its end. The file may be another one by "
+      "now: as it is, line 1, which stands before, has a fault.", "    1 | +,1,5", "  > 2 | -,1,5"]),
+    ("a plan that has a fault by now, where a read was refused",
+     """echo '{"version":1,"nodes":[{"name":"s","op":"source","file":"s.csv"}]}' > plan.json
+     echo "read fault" >&2; exit 4""", ["run", "plan.json"], 4, ["  Each file can be opened now: plan.json."]),
 ]
+
+# Each mistake of the tool has a name, what makes it, and how its line begins. The status must be the program's, and
+# what comes before the mistake is said.
+OWN_MISTAKES = [
+    ("in the sentences", "command.outside.read_fault = lambda *_: [1 / 0]", "No more can be said, by a mistake of "),
+    ("of the system, in the sentences", "command.outside.read_fault = lambda *_: os.stat('none')",
+     "No more can be said, by a mistake of "),
+    ("in a sentence that no bytes stand for", "command.outside.read_fault = lambda *_: ['first', chr(0xd800)]",
+     "first\n  No more can be said, by a mistake of "),
+    ("in the reading of the plan", "command.files_of = lambda *_: [1 / 0]", "No more can be said, by a mistake of "),
+    ("in how far it is", "command.Progress.told = lambda *_: [1 / 0]", "No more can be said, by a mistake of "),
+]
+WITH_MISTAKE = """import os, sys
+sys.dont_write_bytecode = True
+sys.path.insert(0, {tools!r})
+from cedr_explain import command
+{mistake}
+sys.exit(command.main(["--progress=0.2", "run", "plan.json"]))
+"""
+SLOW_FAULT = "sleep 0.5; echo 'read fault' >&2; exit 4"
 
 # The file of docs/faults.md that has a byte too many, and what is said of it.
 LARGE = ("=," + "0" * 65_533 + "\n") * 1_024 + "x"
@@ -102,7 +135,7 @@ class Folder:
         for name, data in files.items():
             (self.path / name).write_bytes(data)
 
-    def run(self, words: list, program: Path = None, given: bytes = b"", out=subprocess.PIPE) -> tuple:
+    def run(self, words: list, program: Path | None = None, given: bytes = b"", out=subprocess.PIPE) -> tuple:
         """The status, standard output and standard error of the tool with this program."""
         settings = {**os.environ, "CEDR": str(program or self.program)}
         done = subprocess.run([TOOL, *words], cwd=self.path, env=settings, input=given, stdout=out,
@@ -187,7 +220,30 @@ def check_stand_ins(folder: Folder, differences: Differences) -> int:
     differences.expect(came[0] == 126 and b"can't be started" in came[2], "no program", came)
     came = folder.run(["--progress=soon", "run", "plan.json"])
     differences.expect(came[0] == 2 and came[2].startswith(b"cedr-explain: `--progress=soon`"), "a wrong option", came)
-    return len(STAND_INS) + 4
+    came = folder.run(["--progress=0", "run", "plan.json"])
+    differences.expect(came[0] == 2 and came[2].startswith(b"cedr-explain: `--progress=0`"), "no seconds", came)
+    return len(STAND_INS) + 5
+
+
+def check_status_kept(folder: Folder, differences: Differences) -> int:
+    """The status is the program's where the reader of standard error has ended, and where the tool has a mistake."""
+    folder.fill({name: text.encode() for name, text in mistakes.FILES.items()})
+    settings = {**os.environ, "CEDR": str(stand_in(folder, SLOW_FAULT))}
+    for options in ([], ["--progress=0.2"]):
+        reader, writer = os.pipe()
+        os.close(reader)
+        done = subprocess.run([TOOL, *options, "run", "plan.json"], cwd=folder.path, env=settings, stderr=writer,
+                              stdout=subprocess.PIPE, timeout=SECONDS)
+        os.close(writer)
+        differences.expect((done.returncode, done.stdout) == (4, b""), f"no reader of errors, {options}", done)
+    for name, mistake, begin in OWN_MISTAKES:
+        text = WITH_MISTAKE.format(tools=str(ROOT / "tools"), mistake=mistake)
+        done = subprocess.run([sys.executable, "-c", text], cwd=folder.path, env=settings, capture_output=True,
+                              timeout=SECONDS)
+        is_said = f"  {begin}cedr-explain in ".encode() in done.stderr and b"Traceback" not in done.stderr
+        is_said = is_said and b"read fault\n" in done.stderr
+        differences.expect(done.returncode == 4 and is_said, f"a mistake of the tool {name}", done)
+    return 2 + len(OWN_MISTAKES)
 
 
 def stand_in(folder: Folder, script: str) -> Path:
@@ -255,7 +311,7 @@ def main() -> int:
         known = check_mistakes(folder, differences)
         good = check_good(folder, differences)
         shown = check_page(folder, differences)
-        stand_ins = check_stand_ins(folder, differences)
+        stand_ins = check_stand_ins(folder, differences) + check_status_kept(folder, differences)
         lines = check_lines(folder.path, differences)
     plans = check_plans(differences)
     print(f"explained: {known} mistakes, {good} commands without one, {shown} of docs/, {stand_ins} with a stand-in "

@@ -87,6 +87,8 @@ def check_installed(prefix: Prefix) -> int:
     if shutil.which("man"):
         shown = re.sub("\x1b\\[[0-9;]*m|.\b", "", prefix.call("man", "-M", f"{prefix.path}/share/man", "cedr")[1])
         prefix.expect("cedr - answers a plan" in shown and "cedr pool N PLAN" in shown, "man cedr", shown[:500])
+    else:
+        print("installed: the look at the man page is skipped: there is no man (Debian: apt-get install man-db)")
     return sum(one.is_file() for one in prefix.path.rglob("*"))
 
 

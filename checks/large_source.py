@@ -9,6 +9,8 @@ Status 0: all right. 1: something differs. 2: the program isn't there.
 
 usage: checks/large_source.py [PROGRAM]
 """
+from __future__ import annotations
+
 import os
 import random
 import re
@@ -66,7 +68,8 @@ class Source:
         """The lines that belong into a part. An empty line is no event's, and may stand in any."""
         return [line for line in self.lines if line.strip() and self.part_of(line) in (None, number)]
 
-    def part_of(self, line: bytes) -> int:
+    def part_of(self, line: bytes) -> int | None:
+        """The part that an event's line belongs into. A guarantee's line belongs into each."""
         kind, identity, *_ = (field.strip(b'"') for field in line.split(b","))
         return None if kind == b"=" else int(identity) % 1_000 % PARTS
 

@@ -196,7 +196,7 @@ def main() -> int:
     elif shutil.which("groff"):
         by_groff = "groff has no warning"
     else:
-        by_groff = "there is no groff to ask"
+        by_groff = "its warnings skipped: there is no groff"
     print(f"manual: docs/cedr.1 has {len(commands())} commands and {made.count('.TP')} entries as docs/ have them, "
           f"{by_groff}")
     return 1 if warned else 0

@@ -23,6 +23,7 @@ COMPARISONS = 'It must be one of "=", "!=", "<", "<=", ">", ">=".'
 KINDS = "It must be `+` for an insertion, `-` for a retraction, `~` for a revision or `=` for a guarantee."
 WHOLE = "It must be a whole number from 0 to 4,611,686,018,427,387,903, in digits alone"
 SPAN = "It must be a whole number from 1 to 1,099,511,627,776"
+MANY = "9" * 5_000
 USAGE = ("usage: cedr history FILE | check PLAN | serial PLAN | run PLAN | stream PLAN | audit PLAN | "
          "live PLAN SCRIPT | make N | pool N PLAN")
 
@@ -171,6 +172,10 @@ MEMBERS = [
     in_plan("a span with a unit", "86400", '"24h"', 3, 4, '"24h"',
             f'`scope` is "24h", a text. {SPAN}, without quotes and unit. 24h is 86400 where times are in seconds, and '
             "86400000 where in milliseconds."),
+    in_plan("a span of more digits than Python's int takes", '"every":3600', f'"every":"{MANY}"', 3, 5, '"999',
+            f'`every` is "{MANY[:59]} .., a text. {SPAN}, without quotes and unit.'),
+    in_plan("the same with a unit", "86400", f'"{MANY}h"', 3, 4, '"999',
+            f'`scope` is "{MANY[:59]} .., a text. {SPAN}, without quotes and unit.'),
     in_plan("a type of decimals", FIELDS, FIELDS.replace('"int"', '"float"'), 3, 1, '"float"',
             'Field 1 of `fields` is "float". It must be "int" or "text". There are no decimals: count in a smaller '
             'unit, as 1250 cents for 12.50, and write "int".'),
@@ -354,6 +359,9 @@ UNREAD = [
     accepted("a source's level", '"orders.csv",', '"orders.csv","level":"strong",', '"strong"',
              "note: The member `level` of node 1, the source `orders`, says nothing. A level is that of a node's "
              "ports, and a source has none: write it in the nodes that read the source."),
+    accepted("a name with a backtick, of which a part is another name", '"orders.csv",',
+             '"orders.csv","level`s":"strong",', '"strong"',
+             "note: The member `level`s` of node 1, the source `orders`, says nothing."),
     accepted("a least field in version 1", '"sum":[1]', '"sum":[1],"least":[1]', "[1]}",
              "note: The member `least` of node 6, the group `totals`, says nothing. In a plan of version 2 it does: "
              'write "version":2.'),

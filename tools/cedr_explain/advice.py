@@ -44,7 +44,11 @@ FLAGS = ("bool", "boolean", "flag")
 SECONDS = {"s": 1, "sec": 1, "second": 1, "m": 60, "min": 60, "minute": 60, "h": 3600, "hr": 3600, "hour": 3600,
            "d": 86_400, "day": 86_400, "w": 604_800, "week": 604_800}
 THOUSANDTHS = ("ms", "msec", "millisecond", "milliseconds")
-SPAN = re.compile(r"\s*([0-9]+)\s*([a-z]+)\s*", re.IGNORECASE)
+# Each number of a plan has fewer digits than these, and a longer one is no span. Python's int takes no text of over
+# 4,300 digits.
+DIGITS = 20
+SPAN = re.compile(rf"\s*0*([0-9]{{1,{DIGITS}}})\s*([a-z]+)\s*", re.IGNORECASE)
+PLAIN_SPAN = re.compile(rf"0*([0-9]{{1,{DIGITS}}})")
 DATE = re.compile(r"\s*[0-9]{4}-[0-9]{2}-[0-9]{2}([T ][0-9:.]+(Z|[+-][0-9:]+)?)?\s*")
 DECIMAL = re.compile(r"\s*-?[0-9]+[.][0-9]+\s*")
 GROUPED = re.compile(r"\s*-?[0-9]{1,3}([ ,._'][0-9]{3})+\s*")
@@ -86,8 +90,8 @@ def about_span(word: str) -> str:
     if unit in SECONDS or unit.removesuffix("s") in SECONDS:
         seconds = int(found[1]) * SECONDS.get(unit, SECONDS.get(unit.removesuffix("s")))
         return f"{word.strip()} is {seconds} where times are in seconds, and {seconds * 1000} where in milliseconds."
-    plain = word.strip().replace(",", "").replace("_", "")
-    return f"Write it without quotes: {int(plain)}." if plain.isascii() and plain.isdigit() else ""
+    plain = PLAIN_SPAN.fullmatch(word.strip().replace(",", "").replace("_", ""))
+    return f"Write it without quotes: {int(plain[1])}." if plain else ""
 
 
 def about_number(word: str) -> str:

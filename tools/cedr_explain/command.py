@@ -8,8 +8,9 @@ import signal
 import subprocess
 import sys
 import threading
+import traceback
 from pathlib import Path
-from typing import Iterator
+from typing import Callable, Iterator
 
 import cedr_explain.events as events
 import cedr_explain.language as language
@@ -45,10 +46,12 @@ program; 126 where it can't be started; 2 where the tool's own options aren't ri
 text that begins with `cedr-explain:`.
 """
 OPTION = re.compile(r"--progress(?:=([0-9]+(?:\.[0-9]+)?))?")
-PLAN_FAULT = re.compile(rb"plan fault ([0-9]+) node ([0-9]+)")
+# Python's int takes no text of over 4,300 digits, and no number of the program has over 20.
+NUMBER = rb"([0-9]{1,20})"
+PLAN_FAULT = re.compile(rb"plan fault %b node %b" % (NUMBER, NUMBER))
 # Two faults of a line carry times, which the sentences have from the file itself.
 CARRIED = rb"(?: begin \S+ end \S+| sync \S+ mark \S+)?"
-EVENTS_FAULT = re.compile(rb"events (.*) line ([0-9]+) fault ([0-9]+)" + CARRIED, re.DOTALL)
+EVENTS_FAULT = re.compile(rb"events (.*) line %b fault %b" % (NUMBER, NUMBER) + CARRIED, re.DOTALL)
 # So many letters of a plan's line are shown before and behind the place of a fault.
 SEEN_BEFORE, SEEN_BEHIND = 50, 50
 # Where standard error is closed there is nobody to tell, and the program is run all the same.
@@ -62,7 +65,8 @@ def main(words: list) -> int:
         sys.stdout.write(HELP)
         return 0
     option = OPTION.fullmatch(words[0]) if words else None
-    if words and words[0].startswith("--progress") and not option:
+    seconds = float(option[1] or 1) if option else None
+    if words and words[0].startswith("--progress") and not seconds:
         return own_fault(f"`{words[0]}` must be --progress or --progress=SECONDS, as in --progress=5", 2)
     if option and not is_possible():
         return own_fault("--progress needs Linux's /proc, which isn't here", 2)
@@ -75,9 +79,9 @@ def main(words: list) -> int:
         process = subprocess.Popen([program, *words], stderr=subprocess.PIPE)
     except OSError as error:
         return own_fault(f"{program} can't be started: {error.strerror}", 126)
-    told = followed(process, call, float(option[1] or 1) if option else None)
+    told = followed(process, call, seconds)
     status = process.returncode
-    tell(sentences(words, call, status, told))
+    guarded(lambda: tell(sentences(words, call, status, told)))
     return status if status >= 0 else 128 - status
 
 
@@ -87,13 +91,32 @@ def own_fault(text: str, status: int) -> int:
 
 
 def tell(lines, indent: str = "  ") -> None:
-    """Writes these lines to standard error. Where that takes none, there is nobody to tell."""
+    """Writes these lines to standard error, as far as it takes them."""
+    for line in lines:
+        if not written(f"{indent}{line}\n".encode("utf-8", "surrogateescape")):
+            return
+
+
+def written(data: bytes) -> bool:
+    """Whether standard error takes this. Where it doesn't, there is nobody to tell."""
     try:
-        for line in lines:
-            ERRORS.write(f"{indent}{line}\n".encode("utf-8", "surrogateescape"))
+        ERRORS.write(data)
         ERRORS.flush()
     except OSError:
-        pass
+        return False
+    return True
+
+
+def guarded(action: Callable):
+    """What this answers. A mistake of the tool in it is said, and answers nothing: the program's status isn't lost."""
+    try:
+        return action()
+    except Exception as error:
+        place = traceback.extract_tb(error.__traceback__)[-1]
+        why = " ".join(f"{type(error).__name__}: {error}".split()).encode("ascii", "backslashreplace").decode()
+        where = f"{Path(place.filename).name}:{place.lineno}"
+        tell([f"No more can be said, by a mistake of cedr-explain in {where}: {why}"])
+        return None
 
 
 def found_program() -> str:
@@ -109,7 +132,7 @@ def followed(process: subprocess.Popen, call: Call, seconds: float | None) -> by
     told = []
     signal.signal(signal.SIGINT, signal.SIG_IGN)  # the terminal sends it to the program too, whose end is waited for
     signal.signal(signal.SIGTERM, lambda *_: process.terminate())
-    progress = Progress(files_of(call), ERRORS) if seconds else None
+    progress = Progress(guarded(lambda: files_of(call)) or {}, ERRORS) if seconds else None
     copier = threading.Thread(target=handed_on, args=(process.stderr, told, progress))
     copier.start()
     while True:
@@ -117,7 +140,8 @@ def followed(process: subprocess.Popen, call: Call, seconds: float | None) -> by
             process.wait(seconds)
             break
         except subprocess.TimeoutExpired:
-            progress.tell(process.pid)
+            # after a mistake nothing is told any more, and the end is waited for
+            seconds = seconds if guarded(lambda: progress.tell(process.pid)) else None
     copier.join()
     if progress:
         progress.end()
@@ -131,13 +155,9 @@ def handed_on(stream, told: list, progress: Progress | None) -> None:
         if not piece:
             return
         told.append(piece)
-        try:
-            if progress:
-                progress.end()
-            ERRORS.write(piece)
-            ERRORS.flush()
-        except OSError:
-            pass
+        if progress:
+            progress.end()
+        written(piece)
 
 
 def files_of(call: Call) -> dict:
@@ -185,7 +205,8 @@ def placed(call: Call, plan: Plan, found: Finding, before: str = "") -> str:
 
 def of_plan(call: Call, plan: Plan | None, line: bytes) -> Iterator[str]:
     reported = PLAN_FAULT.fullmatch(line)
-    fault, node = (int(reported[1]), int(reported[2])) if reported else (0, 0)
+    # no plan has the fault -1, which stands for a line that isn't understood
+    fault, node = (int(reported[1]), int(reported[2])) if reported else (-1, 0)
     if not plan or (plan.fault, plan.node) != (fault, node):
         yield language.FAULTS.get(fault, "The plan has a fault that this tool knows nothing of.")
         if plan:

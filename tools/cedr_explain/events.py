@@ -59,8 +59,7 @@ def of_file(place: Place, number: int, fault: int) -> Iterator[str]:
     line = next((raw for raw in near if raw.number == number), Raw(number, b"", False))
     found = Judged(place, line)
     if found.fault != fault:
-        now = f"has the fault {found.fault}" if found.fault else "has no fault"
-        told = f"{named(fault)} The file may be another one by now: as it is, this line {now}."
+        told = f"{named(fault)} The file may be another one by now: as it is, {found.now()}."
         found.fault, found.sentences = fault, [told]
     source = f"{place.file}:{number}"
     yield from (f"{source}: {sentence}" for sentence in found.sentences)
@@ -98,16 +97,36 @@ def lines_of(file: str, first: int, last: int) -> Iterator[Raw]:
                 return
 
 
+class EarlierFault(Exception):
+    """A line before the faulty one has a fault, so the file is another one than the program read."""
+
+    def __init__(self, number: int) -> None:
+        super().__init__(number)
+        self.number = number
+
+
 class Judged:
-    """The fault of a line, 0 where it has none, with its sentences."""
+    """The fault of a line, 0 where it has none, with its sentences.
+
+    `earlier` is the number of a line before it that has a fault, so that nothing is known of this one; else 0.
+    """
 
     def __init__(self, place: Place, raw: Raw) -> None:
         self.place, self.raw = place, raw
         self.fault, self.sentences, self.source, self.types = 0, [], place.source, place.types
+        self.earlier = 0
         try:
             self.judge()
         except LineFault as fault:
             self.fault, self.sentences = fault.number, list(fault.sentences)
+        except EarlierFault as fault:
+            self.earlier = fault.number
+
+    def now(self) -> str:
+        """What is wrong in the file as it is."""
+        if self.earlier:
+            return f"line {self.earlier}, which stands before, has a fault"
+        return f"this line has the fault {self.fault}" if self.fault else "this line has no fault"
 
     def judge(self) -> None:
         if self.raw.is_cut and len(self.raw.data) <= LINE_BYTES:
@@ -223,6 +242,9 @@ class Trace:
             self.mark, self.marked = time, number
 
     def event(self, number: int, kind: bytes, times: list) -> None:
+        wanted = 1 if kind == b"-" else 2
+        if len(times) < wanted or -1 in times[:wanted]:
+            raise EarlierFault(number)
         if kind == b"-":
             self.end, self.ended = times[0], number
             return

@@ -1,7 +1,7 @@
 """What a plan says that means nothing: members that no operator looks at, and members that stand twice."""
 from __future__ import annotations
 
-from typing import Iterator
+from typing import Callable, Iterator
 
 import cedr_explain.advice as advice
 from cedr_explain.json_text import Value
@@ -38,8 +38,8 @@ def of_members(plan: Plan, node: Value, label: str) -> Iterator[Finding]:
     op = plan.op_of(node)
     operator = plan.operators[op]
     ports = ["from", "level"] if operator.most else []
-    for found in unread(node, ["name", "op", *ports, *operator.members], label):
-        yield found._replace(text=found.text + why_unread(found.text.split("`")[1], op))
+    known = ["name", "op", *ports, *operator.members]
+    yield from unread(node, known, label, lambda name: why_unread(name, op))
 
 
 def why_unread(name: str, op: str) -> str:
@@ -51,13 +51,13 @@ def why_unread(name: str, op: str) -> str:
     return " A source reads a file, and no node." if op == "source" and name == "from" else ""
 
 
-def unread(value: Value, known, label: str) -> Iterator[Finding]:
-    """The members that aren't among the known ones."""
+def unread(value: Value, known, label: str, why: Callable[[str], str] = lambda name: "") -> Iterator[Finding]:
+    """The members that aren't among the known ones, and why one of that name says nothing."""
     for name, one in value.held.items():
         if name not in known:
             near = advice.near(name, [other for other in known if other not in value.held])
             hint = f" Perhaps `{near}` is meant." if near else ""
-            yield Finding(0, one.begin, f"The member `{name}` of {label} says nothing.{hint}")
+            yield Finding(0, one.begin, f"The member `{name}` of {label} says nothing.{hint}{why(name)}")
 
 
 def twice(value: Value, label: str) -> Iterator[Finding]:

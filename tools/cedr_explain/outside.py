@@ -18,7 +18,9 @@ LIMITS = {resource.RLIMIT_AS: "ulimit -v", resource.RLIMIT_DATA: "ulimit -d"}
 def read_fault(call: Call, plan: Plan | None) -> Iterator[str]:
     """Which of the files that the command reads can't be opened, and why."""
     named = [(WORDS.get(kind, kind), name, False) for kind, name in call.words.items() if kind != "N"]
-    sources = {name: file for name, (file, _) in plan.sources().items()} if plan and call.reads_sources() else {}
+    # a plan that has a fault is another one than the program read
+    is_known = plan and not plan.fault and call.reads_sources()
+    sources = {name: file for name, (file, _) in plan.sources().items()} if is_known else {}
     named += [(f"file of the source `{source}`", file, True) for source, file in sources.items()]
     found = 0
     for what, name, is_source in named:

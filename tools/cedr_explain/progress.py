@@ -27,18 +27,23 @@ class Progress:
         self.seen = set()
         self.is_terminal = out.isatty()
 
-    def tell(self, process: int) -> None:
-        """Writes a line, over the last one at a terminal."""
+    def tell(self, process: int) -> bool:
+        """Writes a line, over the last one at a terminal, and answers whether it came to its end."""
         told = self.told(process)
         self.write(f"{CLEAR}{told}" if self.is_terminal else f"{told}\n")
+        return True
 
     def end(self) -> None:
         if self.is_terminal:
             self.write(CLEAR)
 
     def write(self, text: str) -> None:
-        self.out.write(text.encode("utf-8", "surrogateescape"))
-        self.out.flush()
+        """Where standard error takes nothing, there is nobody to tell."""
+        try:
+            self.out.write(text.encode("utf-8", "surrogateescape"))
+            self.out.flush()
+        except OSError:
+            pass
 
     def told(self, process: int) -> str:
         found = open_files(process)
@@ -82,11 +87,13 @@ def open_files(process: int) -> list:
         try:
             state = os.stat(f"/proc/{process}/fd/{number}")
             with open(f"/proc/{process}/fdinfo/{number}", encoding="ascii") as told:
-                place = int(PLACE.search(told.read())[1])
+                place = PLACE.search(told.read())
         except OSError:
             continue
+        if not place:
+            continue
         size = state.st_size if stat.S_ISREG(state.st_mode) else None
-        found.append(Open((state.st_dev, state.st_ino), place, size))
+        found.append(Open((state.st_dev, state.st_ino), int(place[1]), size))
     return found
 
 
