@@ -83,13 +83,13 @@ def seed_name(seed: int, odd: float) -> str:
 
 
 def check_plans(check: NetworkCheck, seeds: range, odd: float) -> Counter:
-    """Compares the four commands and pools on random plans, and answers how many had which answer of `serial`."""
+    """Compares the four commands and a pool on random plans, and answers how many had which answer of `serial`."""
     kinds = Counter()
     for seed in seeds:
         files = random_networks.random_network(random.Random(seed), odd)
         read = asked.read(["serial", "plan.json"], files.get)
-        pools = [("run", ["pool", threads, "plan.json"]) for threads in POOLS]
-        for command, words in [*((command, [command, "plan.json"]) for command in asked.ON_SOURCES), *pools]:
+        pooled = "run", ["pool", POOLS[seed % len(POOLS)], "plan.json"]
+        for command, words in [*((command, [command, "plan.json"]) for command in asked.ON_SOURCES), pooled]:
             out = check_asked(check, seed_name(seed, odd), files, words, read._replace(command=command))
             kinds["late"] += command == "serial" and b",late," in out
             kinds["orphans"] += command == "serial" and b",orphan," in out
@@ -200,9 +200,10 @@ def check_seeds(check: NetworkCheck, plans: range, scripts: range, odd_plans: ra
     kinds, _ = check_plans(check, plans, 0), check_scripts(check, scripts, 0)
     odd_kinds, refused = check_plans(check, odd_plans, ODD), check_scripts(check, odd_scripts, ODD)
     check_orders(check, histories)
-    return (f"{len(plans)} random plans by four commands and {len(POOLS)} pools ({kinds['late']} with late changes, {kinds['orphans']} with "
-            f"orphans), {len(scripts)} scripts, {len(odd_plans)} plans with odd lines ({odd_kinds['refused']} refused, "
-            f"{odd_kinds['several']} of them for several sources), {len(odd_scripts)} scripts with odd lines "
+    return (f"{len(plans)} random plans by four commands and a pool of {', '.join(POOLS)} threads in turn "
+            f"({kinds['late']} with late changes, {kinds['orphans']} with orphans), {len(scripts)} scripts, "
+            f"{len(odd_plans)} plans with odd lines ({odd_kinds['refused']} refused, {odd_kinds['several']} of them for "
+            f"several sources), {len(odd_scripts)} scripts with odd lines "
             f"({refused} refused), {len(histories)} histories in {ORDERS} orders")
 
 

@@ -4,7 +4,8 @@ the changes of `cedr stream` lead to them.
 
 Each thread asks for 8 MiB of addresses, and a plan's run for one thread a node, or a pool for as many as it has. The limit on
 addresses that the program is run under leaves room for none, for some, or for all of the seven threads of
-`examples/failed_restarts.json`, whose rows are those that README.md shows.
+`examples/failed_restarts.json`, whose rows are those that README.md shows. Each limit leaves some 4 MB beside the threads: where
+they leave next to nothing, memory may run out, as the program then says.
 """
 import os
 import resource
@@ -22,7 +23,7 @@ TOP = os.path.dirname(os.path.dirname(os.path.abspath(__file__)))
 PROGRAM = os.path.join(TOP, "crates", "cedr", "out", "cedr")
 ROWS = b"30300,30301,oven-1\n42300,42301,belt-1\n68300,68301,press-1\n"
 # kilobytes of addresses: no thread, one, two, three, and so on; and no limit
-LIMITS = [8_000, 12_000, 20_000, 30_000, 40_000, 50_000, 60_000, 70_000, None]
+LIMITS = [8_000, 16_000, 24_000, 32_000, 40_000, 48_000, 56_000, 64_000, None]
 TIMES = 20
 
 
