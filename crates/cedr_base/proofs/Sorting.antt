@@ -130,3 +130,8 @@ ascends_from_sort (x ∷ y ∷ ys) sorted =
 pub sorted_is_in_order : (xs ys : List Row) → IsPermutation xs ys → IsSorted row_cmp ys → ys ≡ in_order xs
 sorted_is_in_order xs ys moved sorted =
     one_order ys (in_order xs) (ascends_from_sort ys sorted) (in_order_ascends xs) (record { each = λ r. sum_by-IsPermutation (one_if_same r) xs ys moved ∙ in_order_count r xs })
+
+-- a bag has one canonical order
+pub same_in_order : (xs ys : List Row) → SameRows xs ys → in_order xs ≡ in_order ys
+same_in_order xs ys same =
+    one_order (in_order xs) (in_order ys) (in_order_ascends xs) (in_order_ascends ys) (record { each = λ r. sym (in_order_count r xs) ∙ (same.each r ∙ in_order_count r ys) })

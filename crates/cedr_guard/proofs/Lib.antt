@@ -1,9 +1,14 @@
 pub mod EventLemmas
 pub mod ApartLemmas
 pub mod IdLemmas
+pub mod IdOrder
 pub mod StandingLemmas
 pub mod GuardLemmas
 pub mod LivingLemmas
 pub mod MessageLemmas
 pub mod SourceLemmas
 pub mod LineMessages
+pub mod StateLemmas
+pub mod SpeltLemmas
+pub mod StateHistories
+pub mod RestoreLemmas

@@ -44,7 +44,7 @@ pub record AreOf (lines : List EventLine) (ms : List Message) : Type 0 where
   pub goes_on : IsOpen ms
   pub mark : mark_of ms ≡ guarantee_of lines
   pub table : (r : Row) → count_of r (living lines) + count_of r (all_takes (changes_of ms)) ≡ count_of r (all_puts (changes_of ms))
-  known : AreKnown lines
+  pub known : AreKnown lines
   rows : HaveRows lines
 
 -- a line's messages may come after those of the lines before it, and are with them those of the lines with it

@@ -5,3 +5,5 @@ pub mod Messages
 pub mod Sources
 pub mod Ids
 pub mod Standing
+pub mod States
+pub mod Spelt

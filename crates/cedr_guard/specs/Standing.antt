@@ -1,5 +1,5 @@
 -- What a judge keeps of the lines that it accepted.
-use Rattle.std.specs.Prelude.{ℕ, ◌≡◌, ◌==◌, suc, List, [], ◌∷◌, map, if◌then◌else◌, Option, None, Some, option_map, Result, Ok, Err}
+use Rattle.std.specs.Prelude.{ℕ, ◌≡◌, ◌==◌, suc, List, [], ◌∷◌, map, slice_index_or, if◌then◌else◌, Option, None, Some, option_map, Result, Ok, Err}
 use Rattle.std.specs.Option.{option_or}
 use Rattle.std.specs.Ordering.{nat_cmp}
 use Rattle.std.specs.BTreeMap.{get}
@@ -11,6 +11,8 @@ use Rattle.cedr_text.specs.declared.fault.LineFault.{LineFault}
 use Rattle.cedr_guard.specs.declared.fault.GuardFault.{GuardFault}
 use Rattle.cedr_guard.specs.declared.fault.GuardFault.TheVariants as guard_fault
 use Rattle.cedr_guard.specs.declared.ids.Ids.{Ids}
+use Rattle.cedr_guard.specs.declared.ids.IdPlace.{IdPlace}
+use Rattle.cedr_guard.specs.declared.state.EventState.{EventState}
 use Rattle.cedr_base.specs.declared.interval.Interval.{Interval}
 use Rattle.cedr_guard.specs.declared.judge.Judge.{Judge}
 use Rattle.cedr_guard.specs.declared.judge.FoundEvent.{FoundEvent}
@@ -18,6 +20,8 @@ use Rattle.cedr_guard.specs.declared.guard.Guard.{Guard}
 use Rattle.cedr_guard.specs.Judging.{guarantee_of, ends_of, event_with, AreAccepted}
 use Rattle.cedr_guard.specs.History.{rows_among}
 use Rattle.cedr_guard.specs.Ids.{place_among}
+use Rattle.cedr_guard.specs.Spelt.{state_with}
+use Rattle.cedr_guard.specs.States.{as_it_is}
 
 -- at which place among the insertions an id was inserted first
 abbrev pub place_of_event : ℕ → List EventLine → Option ℕ
@@ -66,6 +70,18 @@ pub record Guards (guard : Guard) (lines : List EventLine) : Type 0 where
   pub judge : StandsFor guard.judge lines
   pub payloads : guard.payloads.items ≡ map row_payload (rows_among lines)
   pub accepted : AreAccepted lines
+
+-- the row that a guard has at a place
+abbrev pub stored_row : Guard → ℕ → Row
+stored_row guard place = record {
+  end = (slice_index_or guard.judge.intervals.items place (record { begin = 0; end = 0 })).end;
+  begin = (slice_index_or guard.judge.intervals.items place (record { begin = 0; end = 0 })).begin;
+  payload = slice_index_or guard.payloads.items place [];
+}
+
+-- the event with an id and the row at its place, as it is
+abbrev pub stored_event : Guard → IdPlace → EventState
+stored_event guard entry = state_with entry.id (as_it_is (stored_row guard entry.place))
 
 -- the answer for a line whose least fault is known: that fault, unless memory ran out
 abbrev pub Judges : {X : Type 0} → Result X GuardFault → Option LineFault → Type 0

@@ -1,13 +1,17 @@
-ghost use Rattle.std.specs.Prelude.{◌≡◌, ◌≤◌, ◌<◌, ◌++◌, ◌∷◌, [], List, length, IfSome, IfNone, OnOk, OnErr, slice_index_or, slice_set};
+ghost use Rattle.std.specs.Prelude.{◌≡◌, ◌≤◌, ◌<◌, ◌++◌, ◌∷◌, [], List, length, map, IfOk, IfSome, IfNone, OnOk, OnErr, slice_index_or, slice_set};
+ghost use Rattle.cedr_guard.specs.declared.state.EventState.{EventState};
 ghost use Rattle.cedr_text.specs.declared.event_line.EventLine.{EventLine};
 ghost use Rattle.cedr_text.specs.declared.event_line.EventLine.TheVariants.{Insert, Retract, Revise, Promise};
 ghost use Rattle.cedr_guard.specs.Judging.{fault_behind, guarantee_of};
 ghost use Rattle.cedr_text.specs.Reading.{IsEvent};
 ghost use Rattle.cedr_guard.specs.Messages.{line_messages, Appended};
-ghost use Rattle.cedr_guard.specs.Standing.{Guards, Judges};
+ghost use Rattle.cedr_guard.specs.Spelt.{state_in, state_of, state_row, lines_of, IsFit};
+ghost use Rattle.cedr_guard.specs.Standing.{Guards, Judges, row_payload, stored_event};
 
 use crate::fault::GuardFault;
+use crate::ids::IdPlace;
 use crate::judge::{FoundEvent, Judge};
+use crate::state::{EventState, SourceState};
 use cedr_base::{Change, Interval, Message, OutOfMemory, Payload, Row, Time};
 use cedr_text::{EventLine, LineFault};
 use std::alloc::Global;
@@ -41,6 +45,50 @@ impl Guard {
             judge: Judge::new(alloc),
             payloads: Vec::new(alloc),
         }
+    }
+
+    /// A guard that judges as one whose earlier lines have come to this state. The payloads are shared, not copied.
+    /// O(n) in the events.
+    pub fn restore(alloc: Global, state: &SourceState) -> Result<Guard, OutOfMemory>
+        requires { IsFit (state_in state.now) }
+        ensures { IfOk result (λ guard. Guards guard (lines_of (state_in state.now))) }
+    {
+        let judge = Judge::restore(alloc, state)?;
+        let payloads = payloads_of(alloc, &state.events)?;
+        Ok(Guard { judge, payloads })
+    }
+
+    /// What the accepted lines have come to. The payloads are shared, not copied. O(n log n) in the insertions.
+    pub fn state(&self) -> Result<SourceState, OutOfMemory>
+        ensures { IfOk result (λ state. (lines : List EventLine) → Guards self.now lines → state_in state ≡ state_of lines) }
+    {
+        let places = self.judge.places()?;
+        let mut events = Vec::with_capacity(*self.payloads.allocator(), places.len())?;
+        for entry in &places {
+            events.push(self.stored_event(*entry)?)?;
+        }
+        Ok(SourceState {
+            mark: self.judge.mark(),
+            events,
+        })
+    }
+
+    /// The event with this id that stands at this place, as it is.
+    fn stored_event(&self, entry: IdPlace) -> Result<EventState, OutOfMemory>
+        ensures { IfOk result (λ event. event ≡ stored_event self.now entry) }
+    {
+        let alloc = *self.payloads.allocator();
+        let Interval { begin, end } = self.judge.interval(entry.place);
+        let payload = match self.payloads.get(entry.place) {
+            Some(payload) if begin < end => payload.copy(alloc)?,
+            _ => Payload::new(alloc),
+        };
+        Ok(EventState {
+            id: entry.id,
+            begin,
+            end,
+            payload,
+        })
     }
 
     /// Accepts the line and appends its messages, at most two, or answers its least fault, which changes neither the
@@ -165,6 +213,17 @@ impl Guard {
     {
         self.judge.mark()
     }
+}
+
+/// The payload of each of the events.
+fn payloads_of(alloc: Global, events: &[EventState]) -> Result<Vec<Payload>, OutOfMemory>
+    ensures { IfOk result (λ payloads. payloads.items ≡ map (λ (e : EventState). e.payload) events.now) }
+{
+    let mut payloads = Vec::with_capacity(alloc, events.len())?;
+    for event in events {
+        payloads.push(event.payload.copy(alloc)?)?;
+    }
+    Ok(payloads)
 }
 
 /// Puts a payload at a place, and answers the one that was there.

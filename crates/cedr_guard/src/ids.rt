@@ -1,10 +1,13 @@
-ghost use Rattle.std.specs.Prelude.{◌≡◌, ◌==◌, ℕ, None, Some, IfOk, OnErr, IsTrue, ◌↔◌, is_none, if◌then◌else◌};
+ghost use Rattle.std.specs.Prelude.{◌≡◌, ◌==◌, ◌<◌, ◌++◌, map, ℕ, None, Some, IfOk, OnErr, IsTrue, true, is_some, ◌↔◌, AllPairs, is_none, if◌then◌else◌};
 ghost use Rattle.std.specs.Option.{option_or};
 ghost use Rattle.std.specs.Ordering.{nat_cmp};
-ghost use Rattle.std.specs.BTreeMap.{get};
+ghost use Rattle.std.specs.BTreeMap.{get, IsOrdered};
 ghost use Rattle.std.proofs.Props.{props};
-ghost use Rattle.cedr_guard.specs.Ids.{place_among, AreRising, AreBelow};
+ghost use Rattle.std.specs.List.Sorted.{IsPermutation, IsNonDecreasingBy};
+ghost use Rattle.cedr_guard.specs.declared.state.EventState.{EventState};
+ghost use Rattle.cedr_guard.specs.Ids.{place_among, AreRising, AreBelow, entry_id, place_entry, placed_from, place_of_id};
 
+use crate::state::EventState;
 use cedr_base::OutOfMemory;
 use std::alloc::Global;
 use std::collections::BTreeMap;
@@ -13,8 +16,8 @@ use std::collections::btree_map::Entry;
 /// An id and its place.
 #[derive(Clone, Copy)]
 pub(crate) struct IdPlace {
-    id: u64,
-    place: usize,
+    pub(crate) id: u64,
+    pub(crate) place: usize,
 }
 
 /// Ids, each with a place: those that were above all before them in a list, the others in an ordered map.
@@ -26,6 +29,7 @@ pub(crate) struct Ids {
     others: BTreeMap<u64, usize>,
     ghost rises: { AreRising rising.items },
     ghost below: { (id : ℕ) → AreBelow id rising.items → get nat_cmp others id ≡ None } by { Prim.hlevel props },
+    ghost apart: { (id : ℕ) → is_some (place_among id rising.items) ≡ true → get nat_cmp others id ≡ None } by { Prim.hlevel props },
 }
 
 /// Where an id stands in a list whose ids have even gaps. In a list with other gaps another id may stand there.
@@ -60,6 +64,28 @@ fn place_among(rising: &[IdPlace], id: u64) -> Option<usize>
     }
 }
 
+/// The ids of events, each with its place among them. O(n).
+fn placed(alloc: Global, events: &[EventState]) -> Result<Vec<IdPlace>, OutOfMemory>
+    ensures { IfOk result (λ entries. entries.items ≡ placed_from 0 events.now) }
+{
+    let mut entries = Vec::with_capacity(alloc, events.len())?;
+    for (place, event) in events.iter().enumerate() {
+        entries.push(IdPlace {
+            id: event.id,
+            place,
+        })?;
+    }
+    Ok(entries)
+}
+
+/// Sorts ids with their places by the ids. It takes no memory.
+fn sort_by_id(entries: &mut Vec<IdPlace>)
+    ensures same { IsPermutation entries.old.items entries.new.items }
+    ensures sorted { IsNonDecreasingBy entry_id entries.new.items }
+{
+    entries.sort_unstable_by_key(|entry| entry.id);
+}
+
 impl Ids {
     ghost use Rattle.cedr_guard.specs.Standing.{place_in};
 
@@ -71,6 +97,41 @@ impl Ids {
             rising: Vec::new(alloc),
             others: BTreeMap::new(alloc),
         }
+    }
+
+    /// Ids of events that ascend, each with its place among them. O(n).
+    pub(crate) fn of_events(alloc: Global, events: &[EventState]) -> Result<Ids, OutOfMemory>
+        requires { AllPairs (λ (e : EventState) (later : EventState). e.id < later.id) events.now }
+        ensures { IfOk result (λ ids. (id : ℕ) → place_in ids id ≡ place_of_id id events.now) }
+    {
+        let rising = placed(alloc, events)?;
+        let others = BTreeMap::new(alloc);
+        Ok(Ids { rising, others })
+    }
+
+    /// Each id with its place, by ascending ids. O(n log n).
+    pub(crate) fn in_order(&self, alloc: Global) -> Result<Vec<IdPlace>, OutOfMemory>
+        ensures rising { IfOk result (λ entries. AreRising entries.items) }
+        ensures places { IfOk result (λ entries. (id : ℕ) → place_among id entries.items ≡ place_in self.now id) }
+    {
+        let mut entries = self.gathered(alloc)?;
+        sort_by_id(&mut entries);
+        Ok(entries)
+    }
+
+    /// Each id with its place: those in the list, and then the others.
+    fn gathered(&self, alloc: Global) -> Result<Vec<IdPlace>, OutOfMemory>
+        ensures all { IfOk result (λ entries. entries.items ≡ self.now.rising.items ++ map place_entry self.now.others.entries) }
+        ensures ordered { IfOk result (λ _. IsOrdered nat_cmp self.now.others) }
+    {
+        let mut entries = Vec::from_slice(alloc, &self.rising)?;
+        for (id, place) in &self.others {
+            entries.push(IdPlace {
+                id: *id,
+                place: *place,
+            })?;
+        }
+        Ok(entries)
     }
 
     /// Whether an id is above all in the list, and so above all others. O(1).

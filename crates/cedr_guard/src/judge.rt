@@ -1,13 +1,16 @@
-ghost use Rattle.std.specs.Prelude.{◌≡◌, ◌++◌, ◌∷◌, [], List, None, Some, IfOk, IfSome, IfNone, OnOk, OnErr, map, nat_lt, ℕ, ◌<◌, length};
+ghost use Rattle.std.specs.Prelude.{◌≡◌, ◌++◌, ◌∷◌, [], List, None, Some, IfOk, IfSome, IfNone, OnOk, OnErr, map, nat_lt, ℕ, ◌<◌, ◌≤◌, length, slice_index_or, All, AllPairs};
 ghost use Rattle.cedr_base.specs.declared.row.Row.{Row};
 ghost use Rattle.cedr_text.specs.declared.event_line.EventLine.{EventLine};
 ghost use Rattle.cedr_text.specs.declared.event_line.EventLine.TheVariants.{Insert, Retract, Revise, Promise};
 ghost use Rattle.cedr_guard.specs.Judging.{fault_behind, guarantee_fault, retraction_fault, revision_fault, guarantee_of, event_with};
 ghost use Rattle.cedr_guard.specs.History.{rows_among};
-ghost use Rattle.cedr_guard.specs.Standing.{StandsFor, Judges, IsEventOf, interval_of, place_of_event};
+ghost use Rattle.cedr_guard.specs.Ids.{place_among, AreRising};
+ghost use Rattle.cedr_guard.specs.Spelt.{state_in, event_interval, lines_of, IsFit};
+ghost use Rattle.cedr_guard.specs.Standing.{StandsFor, Judges, IsEventOf, interval_of, place_of_event, place_in};
 
 use crate::fault::GuardFault;
-use crate::ids::Ids;
+use crate::ids::{IdPlace, Ids};
+use crate::state::{EventState, SourceState};
 use cedr_base::{Interval, OutOfMemory, Time};
 use cedr_text::LineFault;
 use std::alloc::Global;
@@ -175,6 +178,38 @@ impl Judge {
         self.mark
     }
 
+    /// A judge of lines that have come to this state. O(n) in its events.
+    pub fn restore(alloc: Global, state: &SourceState) -> Result<Judge, OutOfMemory>
+        requires { IsFit (state_in state.now) }
+        ensures { IfOk result (λ judge. StandsFor judge (lines_of (state_in state.now))) }
+    {
+        let ids = Ids::of_events(alloc, &state.events)?;
+        let intervals = intervals_of(alloc, &state.events)?;
+        Ok(Judge {
+            ids,
+            intervals,
+            mark: state.mark,
+        })
+    }
+
+    /// Each known id with its place, by ascending ids. O(n log n).
+    pub(crate) fn places(&self) -> Result<Vec<IdPlace>, OutOfMemory>
+        ensures rising { IfOk result (λ entries. AreRising entries.items) }
+        ensures places { IfOk result (λ entries. (id : ℕ) → place_among id entries.items ≡ place_in self.now.ids id) }
+    {
+        self.ids.in_order(*self.intervals.allocator())
+    }
+
+    /// The valid interval at a place, and an empty one where there is none.
+    pub(crate) fn interval(&self, place: usize) -> Interval
+        ensures { result ≡ slice_index_or self.now.intervals.items place (record { begin = 0; end = 0 }) }
+    {
+        match self.intervals.get(place) {
+            Some(interval) => *interval,
+            None => Interval { begin: 0, end: 0 },
+        }
+    }
+
     /// The valid interval of each insertion's event as the accepted lines leave it, in the order of the
     /// insertions.
     pub fn into_intervals(self) -> Vec<Interval>
@@ -182,6 +217,20 @@ impl Judge {
     {
         self.intervals
     }
+}
+
+/// When each of the events is valid.
+fn intervals_of(alloc: Global, events: &[EventState]) -> Result<Vec<Interval>, OutOfMemory>
+    ensures { IfOk result (λ intervals. intervals.items ≡ map event_interval events.now) }
+{
+    let mut intervals = Vec::with_capacity(alloc, events.len())?;
+    for event in events {
+        intervals.push(Interval {
+            begin: event.begin,
+            end: event.end,
+        })?;
+    }
+    Ok(intervals)
 }
 
 /// The fault of a sync that is below the guarantee.

@@ -5,10 +5,12 @@ ghost use Rattle.cedr_text.specs.declared.event_line.Shape.{Shape};
 ghost use Rattle.cedr_text.specs.declared.fault.LineFault.TheVariants.{LineTooLong};
 ghost use Rattle.cedr_guard.specs.declared.guard.Guard.{Guard};
 ghost use Rattle.cedr_guard.specs.declared.refusal.TheConstants.{FILE_LIMIT};
-ghost use Rattle.cedr_guard.specs.Judging.{AreAccepted};
+ghost use Rattle.cedr_guard.specs.Judging.{fault_behind, AreAccepted, AreAcceptedBehind};
 ghost use Rattle.cedr_guard.specs.History.{history_of};
 ghost use Rattle.cedr_guard.specs.Messages.{line_messages, messages_behind, messages_in};
 ghost use Rattle.cedr_guard.specs.Standing.{Guards};
+ghost use Rattle.cedr_guard.specs.Spelt.{State, lines_of, state_of, IsFit, HasBare};
+ghost use Rattle.cedr_guard.specs.States.{SameState};
 ghost use Rattle.cedr_guard.specs.Sources.{line_reading, messages_of, messages_by_line, history_of_bytes};
 
 use cedr_text::{line_limit, reading_law};
@@ -36,3 +38,25 @@ pub fn source_limits()
 {
     line_limit();
 }
+
+/// The law of states: lines are judged by the state of the lines before them alone, and become the same messages.
+/// Accepted lines whose states are the same list of events with the same guarantee have the same state so.
+pub fn same_states()
+    ensures fault { (xs ys : List EventLine) → SameState xs ys → (line : EventLine) → fault_behind xs line ≡ fault_behind ys line }
+    ensures goes_on { (xs ys : List EventLine) → SameState xs ys → (lines : List EventLine) → AreAcceptedBehind xs lines
+        → AreAcceptedBehind ys lines × (messages_behind xs lines ≡ messages_behind ys lines) × SameState (xs ++ lines) (ys ++ lines) }
+    ensures states { (xs ys : List EventLine) → AreAccepted xs → AreAccepted ys → state_of xs ≡ state_of ys → SameState xs ys }
+{}
+
+/// The law of what a state spells: from the state of accepted lines, insertions, then retractions, then the guarantee
+/// are accepted lines of the same state and canonical history. What goes on from them has the history of what goes on
+/// from the others. The state of accepted lines is fit, and each that is fit is that of the lines that it spells.
+pub fn spelt_states()
+    ensures spelt { (lines : List EventLine) → AreAccepted lines → AreAccepted (lines_of (state_of lines)) × SameState lines (lines_of (state_of lines)) }
+    ensures history { (lines : List EventLine) → AreAccepted lines → history_of (lines_of (state_of lines)) ≡ history_of lines }
+    ensures later { (xs ys : List EventLine) → AreAccepted xs → AreAccepted ys → SameState xs ys → history_of xs ≡ history_of ys → (lines : List EventLine) → AreAcceptedBehind xs lines
+        → history_of (xs ++ lines) ≡ history_of (ys ++ lines) }
+    ensures state { (lines : List EventLine) → AreAccepted lines → IsFit (state_of lines) × HasBare (state_of lines) }
+    ensures fit { (state : State) → IsFit state → AreAccepted (lines_of state) }
+    ensures itself { (state : State) → IsFit state → HasBare state → state_of (lines_of state) ≡ state }
+{}

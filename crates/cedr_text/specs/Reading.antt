@@ -73,6 +73,15 @@ abbrev pub version_of : Shape → List (List ℕ) → Result (ℕ × Row) LineFa
 version_of shape (id ∷ begin ∷ end ∷ texts) = version_by (id_value id) (begin_value begin) (time_value end) (payload_of shape texts)
 version_of shape fields = Err BadForm
 
+-- the id and the row of fields that the quoting rule gives, or none where a line breaks it
+abbrev pub version_from : Shape → Option (List (List ℕ)) → Result (ℕ × Row) LineFault
+version_from shape None = Err BadForm
+version_from shape (Some fields) = version_of shape fields
+
+-- the id and the row that a line says which begins with the id
+abbrev pub version_reading : Shape → List ℕ → Result (ℕ × Row) LineFault
+version_reading shape line = if breaks_form line then Err BadForm else version_from shape (line_fields line)
+
 -- the insertion of an id and a row that were read
 abbrev pub inserted_by : Result (ℕ × Row) LineFault → Result EventLine LineFault
 inserted_by (Ok read) = Ok (Insert read.0 read.1)

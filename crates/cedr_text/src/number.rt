@@ -103,9 +103,10 @@ fn cut_digits(bytes: &[u8]) -> Option<(u64, Option<&[u8]>)>
     }
 }
 
-/// The number of the first field, where it is at most `last`, and what stands after its comma.
+/// The number of the first field, where that is a numeral of at most `last`, and what stands after its comma, if it
+/// has one. Leading zeros are accepted, and quotes have no meaning. It takes no memory. O(n) in the field.
 #[inline(always)]
-pub(crate) fn cut_number(bytes: &[u8], last: u64) -> (Option<u64>, Option<&[u8]>)
+pub fn cut_number(bytes: &[u8], last: u64) -> (Option<u64>, Option<&[u8]>)
     ensures { CutsField (parts_of comma bytes.now) (parts_left comma (option_map (λ rest. rest.now) result.1)) (λ field. result.0 ≡ whole_number last field) }
 {
     match cut_digits(bytes) {
@@ -117,9 +118,10 @@ pub(crate) fn cut_number(bytes: &[u8], last: u64) -> (Option<u64>, Option<&[u8]>
     }
 }
 
-/// The time of the first field, and what stands after its comma.
+/// The time of the first field, where that is a finite one or `inf`, and what stands after its comma, as
+/// `cut_number` cuts it.
 #[inline(always)]
-pub(crate) fn cut_time(bytes: &[u8]) -> (Option<Time>, Option<&[u8]>)
+pub fn cut_time(bytes: &[u8]) -> (Option<Time>, Option<&[u8]>)
     ensures { CutsField (parts_of comma bytes.now) (parts_left comma (option_map (λ rest. rest.now) result.1)) (λ field. result.0 ≡ time_value field) }
 {
     match cut_digits(bytes) {

@@ -5,7 +5,7 @@ ghost use Rattle.cedr_text.specs.declared.fault.LineFault.TheVariants.{LineTooLo
 ghost use Rattle.cedr_text.specs.declared.lines.TheConstants.{LINE_LIMIT};
 ghost use Rattle.cedr_text.specs.EventTexts.{ReadsText};
 ghost use Rattle.cedr_text.specs.Quoting.{has_quote, line_fields};
-ghost use Rattle.cedr_text.specs.Reading.{breaks_form, Reads, reading, event_of, event_from, inserted_by, revised_by, retraction, guarantee, retracted_by, promised_by, version_of, payload_of, typed_payload, field_value, items_in, pushed, IsEvent, SaysEvent};
+ghost use Rattle.cedr_text.specs.Reading.{breaks_form, Reads, reading, event_of, event_from, version_from, version_reading, inserted_by, revised_by, retraction, guarantee, retracted_by, promised_by, version_of, payload_of, typed_payload, field_value, items_in, pushed, IsEvent, SaysEvent};
 
 use crate::bare::read_bare;
 use crate::event_line::{EventLine, Shape};
@@ -124,6 +124,27 @@ fn read_fields(alloc: Global, line: &[u8], shape: &Shape) -> Result<EventLine, R
     }
     match join_fields(alloc, line)? {
         Some(joined) => read_event(alloc, Parts::new(&joined, b'\r'), shape),
+        None => Err(ReadLineFault::Line(LineFault::BadForm)),
+    }
+}
+
+/// The id and the row that a line says which begins with the id, as an insertion does behind its `+`. A line of any
+/// length is read. O(n), with memory for the payload, and for the line twice where it has a quote.
+pub fn read_version_line(
+    alloc: Global,
+    line: &[u8],
+    shape: &Shape,
+) -> Result<(u64, Row), ReadLineFault>
+    ensures { Reads result (version_reading shape.now line.now) }
+{
+    if is_broken(line) {
+        return Err(ReadLineFault::Line(LineFault::BadForm));
+    }
+    if !has_quote(line) {
+        return read_version(alloc, Parts::new(line, b','), shape);
+    }
+    match join_fields(alloc, line)? {
+        Some(joined) => read_version(alloc, Parts::new(&joined, b'\r'), shape),
         None => Err(ReadLineFault::Line(LineFault::BadForm)),
     }
 }

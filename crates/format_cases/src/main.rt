@@ -1,6 +1,6 @@
 //! Worked cases of what is read and written, as text: event lines and their faults, lines that are judged one after the
-//! other, sources in pieces, rows and changes as lines, plans. Each line of the input is written, and then what is
-//! answered for it, in lines that begin with two spaces. The file stdout says what all of that must be.
+//! other, sources in pieces, rows and changes as lines, plans, checkpoints. Each line of the input is written, and then what
+//! is answered for it, in lines that begin with two spaces. The file stdout says what all of that must be.
 //!
 //! A line that begins with `#` is a title, and an empty line parts cases. Each other line is a command and its words, with one
 //! space between two words:
@@ -25,6 +25,9 @@
 //!   document of a source `l` of a text and a number, a source `r` of a number, these nodes, and an output that reads `n`.
 //!   `newer NODES` has such a document of version 2.
 //! - `copied LEFT RIGHT DOCUMENT`: the same of a copy of each node, and then what these nodes do to two payloads.
+//! - `checkpoint TYPES BYTES`: the bytes are read as a checkpoint of a plan with one source `s`, whose fields have the types
+//!   that stand between quotes, and the states are written anew; or the line that is refused. `events TYPES BYTES` has bytes
+//!   that stand behind the lines `checkpoint,1` and `source,s,5`.
 //!
 //! A row is `BEGIN;END;FIELD..` with fields as `int:-7` or `text:a`. A change is `+;` and its row, or `-;TO;` and the row that it
 //! cuts. Before a row that is sorted stands `read;`, or it is `bare;BEGIN;END;TEXT` with its fields in one text.
@@ -34,6 +37,7 @@
 #![tactic(auto)]
 
 mod bytes;
+mod checkpoint;
 mod event;
 mod judging;
 mod lines;
@@ -43,6 +47,7 @@ mod source;
 mod written;
 
 use anyhow::{Result, bail};
+use checkpoint::{checkpoint, events};
 use event::read;
 use judging::{guard, judge};
 use lines::cut;
@@ -78,6 +83,8 @@ fn answer(rt: &impl Print, alloc: Global, line: &str) -> Result<()> {
         ["node", nodes] => node(rt, alloc, 1, nodes),
         ["newer", nodes] => node(rt, alloc, 2, nodes),
         ["copied", left, right, document] => copied(rt, alloc, left, right, document),
+        ["checkpoint", types, bytes] => checkpoint(rt, alloc, types, bytes),
+        ["events", types, bytes] => events(rt, alloc, types, bytes),
         [command, front, items @ ..] => write_items(rt, alloc, command, front, items),
         _ => bail!("no command: {line}"),
     }

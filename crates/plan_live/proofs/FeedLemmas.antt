@@ -1,11 +1,8 @@
 -- A network to which the messages of accepted lines are fed.
-use Rattle.std.proofs.Common.{◌≡◌, ◌≢◌, ◌⊎◌, inl, inr, ℕ, zero, suc, ◌<◌, List, [], ◌∷◌, ◌++◌, length, set, get_or, Result, Err, refl, ap, sym, ◌∙◌, subst, arith, get_or-set_same, get_or-set_other}
+use Rattle.std.proofs.Common.{◌≡◌, ◌≢◌, ◌⊎◌, inl, inr, ℕ, zero, suc, ◌<◌, List, [], ◌∷◌, ◌++◌, length, set, get_or, refl, ap, sym, ◌∙◌, subst, arith}
 use Rattle.std.specs.Prelude.{map, replicate}
-use Rattle.std.proofs.lemmas.List.{length-set}
 use Rattle.cedr_base.specs.declared.change.Message.{Message}
 use Rattle.cedr_base.specs.Messages.{IsLegal}
-use Rattle.cedr_guard.specs.declared.fault.GuardFault.{GuardFault}
-use Rattle.cedr_guard.specs.declared.fault.GuardFault.TheVariants as guard_fault
 use Rattle.cedr_guard.specs.declared.guard.Guard.{Guard}
 use Rattle.cedr_guard.specs.Messages.{messages_behind}
 use Rattle.cedr_guard.specs.Standing.{Guards}
@@ -20,13 +17,12 @@ use Rattle.node_laws.proofs.ListLemmas.{at_more_other, at_more}
 use Rattle.cedr_net.proofs.SettleLemmas.{grow_along, grow_more}
 use Rattle.cedr_plan.specs.declared.plan.PlanNode.{PlanNode}
 use Rattle.plan_runs.specs.Runs.{lists_at}
-use Rattle.cedr_source.specs.Steps.{JudgesLine}
 use Rattle.cedr_text.specs.declared.event_line.EventLine.{EventLine}
-use Rattle.cedr_text.specs.declared.fault.LineFault.{LineFault}
 use Rattle.plan_live.specs.declared.player.Player.{Player}
-use Rattle.plan_live.specs.Scripts.{Accepted, lines_at, no_lines, with_lines}
-use Rattle.plan_live.specs.Playing.{IsSettledNet, IsFedOn, PlaysStand, PlaysLine}
+use Rattle.plan_live.specs.Scripts.{Accepted, lines_at, no_lines}
+use Rattle.plan_live.specs.Playing.{IsSettledNet, IsFedOn, PlaysStand}
 use Rattle.cedr_net.proofs.NewLemmas.{no_list}
+use Rattle.plan_live.proofs.GuardLemmas.{no_line, none_stand, lines_here, lines_other, one_stands}
 
 -- ---- one source gave more
 
@@ -45,12 +41,6 @@ fed_settled nodes net taken given place ms count within s = record {
 
 -- ---- a line was accepted
 
--- a fault of the line
-pub fault_passes : (fault : GuardFault) (nodes : List PlanNode) (player : Player) (shown : Lists) (guard : Guard) (before : Accepted) (place : ℕ) (now : Result (List EventLine) LineFault)
-    → JudgesLine (Err fault) guard (lines_at before place) now [] [] → PlaysLine (Err fault) nodes player shown (with_lines before place now)
-fault_passes (guard_fault.Line fault) nodes player shown guard before place now h = ap (with_lines before place) h
-fault_passes guard_fault.OutOfMemory nodes player shown guard before place now h = tt
-
 -- the messages of lines that a guard stands for are legal
 pub legal_more : (given ms : List Message) (before lines : List EventLine) (guard : Guard) → given ≡ messages_behind [] before → Guards guard lines → messages_behind [] lines ≡ messages_behind [] before ++ ms → IsLegal (given ++ ms)
 legal_more given ms before lines guard gave stands more =
@@ -62,33 +52,18 @@ module _ (nodes : List PlanNode) (old new : Player) (before : Accepted) (shown :
   abbrev now : Accepted
   now = set before place lines
 
-  lines_here : lines_at now place ≡ lines
-  lines_here = get_or-set_same before place lines [] (omega (arith, p.lines_count, within))
-
-  lines_other : (k : ℕ) → k ≢ place → lines_at now k ≡ lines_at before k
-  lines_other k ne = get_or-set_other before place k lines [] ne
-
-  guards_now : (k : ℕ) (d : Guard) → k < length nodes → (k ≡ place) ⊎ (k ≢ place) → Guards (get_or (set old.guards.items place guard) k d) (lines_at now k)
-  guards_now k d inside (inl e) =
-      subst (λ (j : ℕ). Guards (get_or (set old.guards.items place guard) j d) (lines_at now j)) (sym e)
-      (subst (λ (g : Guard). Guards g (lines_at now place)) (sym (get_or-set_same old.guards.items place guard d (omega (arith, p.guards_count, within)))) (subst (Guards guard) (sym lines_here) stands))
-  guards_now k d inside (inr ne) =
-      subst (λ (g : Guard). Guards g (lines_at now k)) (sym (get_or-set_other old.guards.items place k guard d ne)) (subst (Guards (get_or old.guards.items k d)) (sym (lines_other k ne)) (p.guards k d inside))
-
   sources_now : (k : ℕ) → k < length nodes → IsSourceAt nodes k → (k ≡ place) ⊎ (k ≢ place) → list_at (with_more p.given place ms) k ≡ messages_behind [] (lines_at now k)
   sources_now k inside source (inl e) =
       ap (list_at (with_more p.given place ms)) e
       ∙ (at_more p.given place ms (omega (arith, given_count nodes old.net p.given p.settled, within))
       ∙ (ap (λ (xs : List Message). xs ++ ms) (p.sources place within (subst (IsSourceAt nodes) e source))
-      ∙ (sym more ∙ ap (messages_behind []) (sym (ap (lines_at now) e ∙ lines_here)))))
+      ∙ (sym more ∙ ap (messages_behind []) (sym (ap (lines_at now) e ∙ lines_here nodes old.guards.items before place p.judged within lines)))))
   sources_now k inside source (inr ne) =
-      at_more_other p.given place k ms ne ∙ (p.sources k inside source ∙ ap (messages_behind []) (sym (lines_other k ne)))
+      at_more_other p.given place k ms ne ∙ (p.sources k inside source ∙ ap (messages_behind []) (sym (lines_other nodes old.guards.items before place p.judged within lines k ne)))
 
   pub stands_on : PlaysStand nodes new now shown
   stands_on = record {
-    lines_count = length-set before place lines ∙ p.lines_count;
-    guards_count = ap (λ (gs : List Guard). length gs) set_to ∙ (length-set old.guards.items place guard ∙ p.guards_count);
-    guards = λ k d inside. subst (λ (gs : List Guard). Guards (get_or gs k d) (lines_at now k)) (sym set_to) (guards_now k d inside (same_or_not k place));
+    judged = one_stands nodes old.guards.items before place p.judged within lines guard stands new.guards.items set_to;
     given = fed.given';
     settled = fed.settled;
     sources = λ k inside source. fed.sources k source ∙ sources_now k inside source (same_or_not k place);
@@ -96,15 +71,6 @@ module _ (nodes : List PlanNode) (old new : Player) (before : Accepted) (shown :
   }
 
 -- ---- no line was accepted
-
-no_line : (nodes : List PlanNode) (k : ℕ) → lines_at (no_lines nodes) k ≡ []
-no_line [] k = refl
-no_line (n ∷ nodes) zero = refl
-no_line (n ∷ nodes) (suc k) = no_line nodes k
-
-no_lines_count : (nodes : List PlanNode) → length (no_lines nodes) ≡ length nodes
-no_lines_count [] = refl
-no_lines_count (n ∷ nodes) = ap (λ (k : ℕ). suc k) (no_lines_count nodes)
 
 append_none : (l q : List Message) → l ++ q ≡ [] → q ≡ []
 append_none [] q e = e
@@ -135,18 +101,9 @@ first_stands nodes player ports count guards stands =
     let given : Lists = replicate (length nodes) [] in
     let none : (k : ℕ) → list_at given k ≡ [] = no_list (length nodes) in
     record {
-      lines_count = no_lines_count nodes;
-      guards_count = count;
-      guards = λ k d within. subst (Guards (get_or player.guards.items k d)) (sym (no_line nodes k)) (guards k d (omega (arith, count, within)));
+      judged = none_stand nodes player.guards.items count guards;
       given = given;
       settled = record { ports = ports; stands = stands; empty = λ k within. nothing_waits nodes player.net ports given stands none k };
       sources = λ k within source. none k ∙ ap (messages_behind []) (sym (no_line nodes k));
       grow = record { grows = λ k. (list_at given k, refl) };
     }
-
--- one guard more that stands for no line, where the others stand for none
-pub guards_push : (guards : List Guard) (guard : Guard) → ((k : ℕ) (d : Guard) → k < length guards → Guards (get_or guards k d) []) → Guards guard [] → (k : ℕ) (d : Guard) → k < length (guards ++ guard ∷ []) → Guards (get_or (guards ++ guard ∷ []) k d) []
-guards_push [] guard all one zero d within = one
-guards_push [] guard all one (suc k) d within = absurd (omega arith)
-guards_push (g ∷ guards) guard all one zero d within = all 0 d (omega arith)
-guards_push (g ∷ guards) guard all one (suc k) d within = guards_push guards guard (λ j e inside. all (suc j) e (omega arith)) one k d (omega arith)

@@ -1,5 +1,14 @@
 pub mod LineLemmas
+pub mod StateLemmas
+pub mod GuardLemmas
 pub mod FeedLemmas
+pub mod RestoreLemmas
 pub mod ShownLemmas
 pub mod ScriptLemmas
+pub mod JudgeLemmas
 pub mod SoFarLemmas
+pub mod NowLemmas
+pub mod ResumeLemmas
+pub mod FollowLemmas
+pub mod SavedScripts
+pub mod ShapeLemmas

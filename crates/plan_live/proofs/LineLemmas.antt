@@ -1,6 +1,6 @@
 -- A line of a script by its first comma, the source that it names, and the shapes of a plan's nodes.
 use Rattle.std.proofs.Common.{◌≡◌, ◌==◌, ◌&&◌, inl, inr, ℕ, zero, suc, ◌+◌, ◌<◌, List, [], ◌∷◌, ◌++◌, Bool, true, false, cond, length, get_or, take, drop, Option, None, Some, refl, ap, sym, ◌∙◌, arith}
-use Rattle.std.specs.Prelude.{map}
+use Rattle.std.specs.Prelude.{map, option_and_then, unwrap_or, Result, Err}
 use Rattle.std.specs.List.{position, position_or_len}
 use Rattle.std.specs.Str.{bytes_eq}
 use Rattle.std.proofs.lemmas.Bool.{false_from_ne_true, cases_lt, lt-ltb, le-ltb}
@@ -15,9 +15,11 @@ use Rattle.cedr_text.specs.Shapes.{ShapeHasTypes}
 use Rattle.cedr_base.specs.Bytes.{comma}
 use Rattle.cedr_text.specs.Reading.{reading}
 use Rattle.cedr_text.specs.declared.event_line.Shape.{Shape}
+use Rattle.cedr_text.specs.declared.fault.LineFault.{LineFault}
+use Rattle.cedr_text.specs.declared.fault.LineFault.TheVariants.{BadForm}
 use Rattle.cedr_text.specs.declared.event_line.Shape.TheVariants.{AnyText, Fields}
 use Rattle.cedr_plan.specs.Places.{is_source}
-use Rattle.plan_live.specs.Scripts.{Accepted, ShapesHaveTypes, with_byte, cut_at_comma, named_from, lines_at, with_lines, with_event_line, with_cut, with_line}
+use Rattle.plan_live.specs.Scripts.{Accepted, ShapesHaveTypes, with_byte, cut_at_comma, named_from, event_at, source_event, lines_at, with_lines, with_event_line, with_named, with_cut, with_line}
 use Rattle.plan_live.specs.Playing.{is_source_named}
 
 -- ---- the first comma
@@ -111,15 +113,54 @@ pub own_types : (nodes : List PlanNode) → ShapesHaveTypes nodes (own_shapes no
 own_types [] = tt
 own_types (n ∷ nodes) = (refl, own_types nodes)
 
--- ---- a line with bytes
+-- ---- the event of a line
 
--- is one with a comma
-pub some_line : (nodes : List PlanNode) (shapes : List Shape) (before : Accepted) (line : List ℕ) → (length line == 0) ≡ false → with_line nodes shapes before line ≡ with_cut nodes shapes before (cut_at_comma line)
-some_line nodes shapes before [] some = absurd (let x = some in cc)
-some_line nodes shapes before (b ∷ bytes) some = refl
+-- an event that was found, or none, is judged after the earlier lines of its source
+abbrev pub with_source_event : List Shape → Accepted → Option (ℕ × List ℕ) → Result Accepted LineFault
+with_source_event shapes before None = Err BadForm
+with_source_event shapes before (Some event) = with_lines before event.0 (with_reading (lines_at before event.0) (reading (get_or shapes event.0 AnyText) event.1))
 
--- and so is its event line
-pub some_event : (shapes : List Shape) (before : Accepted) (place : ℕ) (bytes : List ℕ) → (length bytes == 0) ≡ false
-    → with_event_line shapes before place bytes ≡ with_lines before place (with_reading (lines_at before place) (reading (get_or shapes place AnyText) bytes))
-some_event shapes before place [] some = absurd (let x = some in cc)
-some_event shapes before place (b ∷ bytes) some = refl
+abbrev event_behind : List PlanNode → List ℕ × List ℕ → Option (ℕ × List ℕ)
+event_behind nodes cut = option_and_then (event_at cut.1) (named_from 0 nodes cut.0)
+
+event_said : (shapes : List Shape) (before : Accepted) (place : ℕ) (bytes : List ℕ) → with_event_line shapes before place bytes ≡ with_source_event shapes before (event_at bytes place)
+event_said shapes before place [] = refl
+event_said shapes before place (b ∷ bytes) = refl
+
+named_said : (shapes : List Shape) (before : Accepted) (place : Option ℕ) (bytes : List ℕ) → with_named shapes before place bytes ≡ with_source_event shapes before (option_and_then (event_at bytes) place)
+named_said shapes before None bytes = refl
+named_said shapes before (Some place) bytes = event_said shapes before place bytes
+
+cut_said : (nodes : List PlanNode) (shapes : List Shape) (before : Accepted) (cut : Option (List ℕ × List ℕ)) → with_cut nodes shapes before cut ≡ with_source_event shapes before (option_and_then (event_behind nodes) cut)
+cut_said nodes shapes before None = refl
+cut_said nodes shapes before (Some cut) = named_said shapes before (named_from 0 nodes cut.0) cut.1
+
+-- a line with bytes says what its event does
+pub some_line : (nodes : List PlanNode) (shapes : List Shape) (before : Accepted) (line : List ℕ) (event : Option (ℕ × List ℕ)) → (length line == 0) ≡ false → source_event nodes line ≡ event → with_line nodes shapes before line ≡ with_source_event shapes before event
+some_line nodes shapes before [] event some is = absurd (let x = some in cc)
+some_line nodes shapes before (b ∷ bytes) event some is = cut_said nodes shapes before (cut_at_comma (b ∷ bytes)) ∙ ap (with_source_event shapes before) is
+
+at_place : (bytes : List ℕ) (found place : ℕ) (event : List ℕ) → event_at bytes found ≡ Some (place, event) → found ≡ place
+at_place [] found place event is = absurd (let x = is in cc)
+at_place (b ∷ bytes) found place event is = ap (λ (e : Option (ℕ × List ℕ)). (unwrap_or e (0, [])).0) is
+
+named_place : (found : Option ℕ) (bytes : List ℕ) (place : ℕ) (event : List ℕ) → option_and_then (event_at bytes) found ≡ Some (place, event) → found ≡ Some place
+named_place None bytes place event is = absurd (let x = is in cc)
+named_place (Some found) bytes place event is = ap {B = Option ℕ} (λ (k : ℕ). Some k) (at_place bytes found place event is)
+
+cut_source : (nodes : List PlanNode) (cut : Option (List ℕ × List ℕ)) (place : ℕ) (event : List ℕ) → option_and_then (event_behind nodes) cut ≡ Some (place, event) → (place < length nodes) × IsSourceAt nodes place
+cut_source nodes None place event is = absurd (let x = is in cc)
+cut_source nodes (Some cut) place event is = named_source nodes cut.0 place (named_place (named_from 0 nodes cut.0) cut.1 place event is)
+
+-- the place of an event is that of a source of the plan
+pub event_source : (nodes : List PlanNode) (line : List ℕ) (place : ℕ) (event : List ℕ) → source_event nodes line ≡ Some (place, event) → (place < length nodes) × IsSourceAt nodes place
+event_source nodes line place event is = cut_source nodes (cut_at_comma line) place event is
+
+-- bytes behind the comma are the event
+pub some_event : (bytes : List ℕ) (place : ℕ) → (length bytes == 0) ≡ false → event_at bytes place ≡ Some (place, bytes)
+some_event [] place some = absurd (let x = some in cc)
+some_event (b ∷ bytes) place some = refl
+
+-- the event of a line that was cut at its comma, and whose source was found
+pub event_found : (nodes : List PlanNode) (line name bytes : List ℕ) (found : Option ℕ) → cut_at_comma line ≡ Some (name, bytes) → found ≡ position (names name) nodes → source_event nodes line ≡ option_and_then (event_at bytes) found
+event_found nodes line name bytes found cut is = ap (option_and_then (event_behind nodes)) cut ∙ ap (option_and_then (event_at bytes)) (sym (named_first nodes name) ∙ sym is)

@@ -19,9 +19,9 @@ use Rattle.cedr_text.specs.Lines.{raw_lines, without_return, without_empty_end}
 use Rattle.cedr_base.specs.Bytes.{line_feed}
 use Rattle.cedr_text.specs.Parts.{parts_of}
 use Rattle.plan_live.specs.declared.player.Player.{Player}
-use Rattle.plan_live.specs.Scripts.{Accepted, ShapesHaveTypes, no_lines, with_line, is_question, Played, asked, stopped, play_on, played_behind, played_lines, played_front, played}
+use Rattle.plan_live.specs.Scripts.{Accepted, ShapesHaveTypes, with_line, is_question, Played, asked, stopped, play_on, played_behind, front_after, played_after}
 use Rattle.plan_live.specs.Shown.{AreShown, AreShownFirst, IsShown}
-use Rattle.plan_live.specs.Plays.{Plays}
+use Rattle.plan_live.specs.Plays.{PlaysAfter}
 use Rattle.plan_live.specs.Playing.{PlaysStand, PlaysLine, accepting, step_of, TakesStep, parts_played, PlaysAs}
 use Rattle.plan_live.proofs.LineLemmas.{own_shapes, own_types}
 use Rattle.plan_live.proofs.ShownLemmas.{appends_none, appends_along, front_along, front_none, front_all}
@@ -29,13 +29,13 @@ use Rattle.plan_live.proofs.ShownLemmas.{appends_none, appends_along, front_alon
 -- ---- one line
 
 -- what a line of this number does, and then what the lines after it do
-abbrev stepped : ℕ → Accepted → Result (Option Accepted) LineFault → (Accepted → Played) → Played
+abbrev pub stepped : ℕ → Accepted → Result (Option Accepted) LineFault → (Accepted → Played) → Played
 stepped number before (Ok None) rest = asked before (rest before)
 stepped number before (Ok (Some now)) rest = rest now
-stepped number before (Err fault) rest = stopped number fault
+stepped number before (Err fault) rest = stopped number before fault
 
 one_step : (long question : Bool) (number : ℕ) (before : Accepted) (now : Result Accepted LineFault) (rest : Accepted → Played)
-    → cond long (stopped number LineTooLong) (cond question (asked before (rest before)) (play_on number now rest)) ≡ stepped number before (cond long (Err LineTooLong) (cond question (Ok None) (accepting now))) rest
+    → cond long (stopped number before LineTooLong) (cond question (asked before (rest before)) (play_on number before now rest)) ≡ stepped number before (cond long (Err LineTooLong) (cond question (Ok None) (accepting now))) rest
 one_step true question number before now rest = refl
 one_step false true number before now rest = refl
 one_step false false number before (Ok now) rest = refl
@@ -47,7 +47,8 @@ behind_line nodes shapes count before line lines step is =
     one_step (nat_lt LINE_LIMIT (length line)) (is_question (without_return line)) (count + 1) before (with_line nodes shapes before (without_return line)) (λ now. played_behind nodes shapes (count + 1) now lines)
     ∙ ap (λ s. stepped (count + 1) before s (λ now. played_behind nodes shapes (count + 1) now lines)) is
 
-step_short : (nodes : List PlanNode) (shapes : List Shape) (before : Accepted) (line : List ℕ) (question : Bool) → length line ≤ LINE_LIMIT → is_question (without_return line) ≡ question
+-- a line that isn't too long, which is `?` or isn't
+pub step_short : (nodes : List PlanNode) (shapes : List Shape) (before : Accepted) (line : List ℕ) (question : Bool) → length line ≤ LINE_LIMIT → is_question (without_return line) ≡ question
     → step_of nodes shapes before line ≡ cond question (Ok None) (accepting (with_line nodes shapes before (without_return line)))
 step_short nodes shapes before line question short is =
     ap (λ (test : Bool). cond test (Err LineTooLong) (cond (is_question (without_return line)) (Ok None) (accepting (with_line nodes shapes before (without_return line))))) (le-ltb LINE_LIMIT (length line) short)
@@ -70,7 +71,7 @@ line_fault fault nodes player before shown step now old is fails = (is ∙ ap ac
 -- ---- lines over the limit
 
 abbrev at_limit : Played → ℕ → LineFault → Played
-at_limit all line fault = record { asks = all.asks; fault = Some (first_refusal all.fault (record { line = line; fault = fault })) }
+at_limit all line fault = record all { fault = Some (first_refusal all.fault (record { line = line; fault = fault })) }
 
 limit_step : (number line : ℕ) (before : Accepted) (step : Result (Option Accepted) LineFault) (fault : LineFault) (rest : Accepted → Played) → at_limit (stepped number before step rest) line fault ≡ stepped number before step (λ now. at_limit (rest now) line fault)
 limit_step number line before (Ok None) fault rest = refl
@@ -83,7 +84,7 @@ step_alike number before (Ok (Some now)) f g same = same now
 step_alike number before (Err fault) f g same = refl
 
 -- a line and then the lines after it; over the limit it isn't the last part
-parts_step : (over : Bool) (nodes : List PlanNode) (shapes : List Shape) (count : ℕ) (before : Accepted) (line : List ℕ) (lines : List (List ℕ)) (step : Result (Option Accepted) LineFault) → (over ≡ true → lines ≢ []) → step_of nodes shapes before line ≡ step
+pub parts_step : (over : Bool) (nodes : List PlanNode) (shapes : List Shape) (count : ℕ) (before : Accepted) (line : List ℕ) (lines : List (List ℕ)) (step : Result (Option Accepted) LineFault) → (over ≡ true → lines ≢ []) → step_of nodes shapes before line ≡ step
     → parts_played over nodes shapes count before (line ∷ lines) ≡ stepped (count + 1) before step (λ now. parts_played over nodes shapes (count + 1) now lines)
 parts_step false nodes shapes count before line lines step more is = behind_line nodes shapes count before line lines step is
 parts_step true nodes shapes count before line [] step more is = absurd (more refl refl)
@@ -106,17 +107,17 @@ played_parts nodes shapes count before ((b ∷ bs) ∷ next ∷ lines) =
     ∙ sym (behind_line nodes shapes count before (b ∷ bs) (next ∷ lines) _ refl))
 
 -- a script up to the limit
-pub played_small : (nodes : List PlanNode) (shapes : List Shape) (bytes : List ℕ) → length bytes ≤ FILE_LIMIT → parts_played false nodes shapes 0 (no_lines nodes) (parts_of line_feed bytes) ≡ played nodes shapes bytes
-played_small nodes shapes bytes short =
-    sym (played_parts nodes shapes 0 (no_lines nodes) (parts_of line_feed bytes))
-    ∙ sym (ap (λ long. cond long (played_front nodes shapes (parts_of line_feed (take FILE_LIMIT bytes))) (played_lines nodes shapes (raw_lines bytes))) (le-ltb FILE_LIMIT (length bytes) short))
+pub played_small : (nodes : List PlanNode) (shapes : List Shape) (before : Accepted) (bytes : List ℕ) → length bytes ≤ FILE_LIMIT → parts_played false nodes shapes 0 before (parts_of line_feed bytes) ≡ played_after nodes shapes before bytes
+played_small nodes shapes before bytes short =
+    sym (played_parts nodes shapes 0 before (parts_of line_feed bytes))
+    ∙ sym (ap (λ long. cond long (front_after nodes shapes before (parts_of line_feed (take FILE_LIMIT bytes))) (played_behind nodes shapes 0 before (raw_lines bytes))) (le-ltb FILE_LIMIT (length bytes) short))
 
 -- a script over it
-pub played_large : (nodes : List PlanNode) (shapes : List Shape) (bytes : List ℕ) → FILE_LIMIT < length bytes → parts_played true nodes shapes 0 (no_lines nodes) (parts_of line_feed (take FILE_LIMIT bytes)) ≡ played nodes shapes bytes
-played_large nodes shapes bytes long =
+pub played_large : (nodes : List PlanNode) (shapes : List Shape) (before : Accepted) (bytes : List ℕ) → FILE_LIMIT < length bytes → parts_played true nodes shapes 0 before (parts_of line_feed (take FILE_LIMIT bytes)) ≡ played_after nodes shapes before bytes
+played_large nodes shapes before bytes long =
     let parts = parts_of line_feed (take FILE_LIMIT bytes) in
-    ap (λ n. at_limit (played_lines nodes shapes (whole_lines parts)) n (limit_fault (unfinished_line parts))) (omega arith)
-    ∙ sym (ap (λ over. cond over (played_front nodes shapes (parts_of line_feed (take FILE_LIMIT bytes))) (played_lines nodes shapes (raw_lines bytes))) (lt-ltb FILE_LIMIT (length bytes) long))
+    ap (λ n. at_limit (played_behind nodes shapes 0 before (whole_lines parts)) n (limit_fault (unfinished_line parts))) (omega arith)
+    ∙ sym (ap (λ over. cond over (front_after nodes shapes before (parts_of line_feed (take FILE_LIMIT bytes))) (played_behind nodes shapes 0 before (raw_lines bytes))) (lt-ltb FILE_LIMIT (length bytes) long))
 
 -- ---- so many lines were played
 
@@ -133,9 +134,9 @@ pub record IsPlayedTo (over : Bool) (nodes : List PlanNode) (shapes : List Shape
   pub written : Appends old new text
 
 -- before the first line nothing was written, and all parts are left
-pub first_played : (over : Bool) (nodes : List PlanNode) (shapes : List Shape) (parts : List (List ℕ)) (player : Player) (old : Option (List ℕ)) → PlaysStand nodes player (no_lines nodes) [] → IsPlayedTo over nodes shapes 0 parts player (parts_played over nodes shapes 0 (no_lines nodes) parts) old old
-first_played over nodes shapes parts player old p = record {
-  before = no_lines nodes;
+pub first_played : (over : Bool) (nodes : List PlanNode) (shapes : List Shape) (before : Accepted) (parts : List (List ℕ)) (player : Player) (old : Option (List ℕ)) → PlaysStand nodes player before [] → IsPlayedTo over nodes shapes 0 parts player (parts_played over nodes shapes 0 before parts) old old
+first_played over nodes shapes before parts player old p = record {
+  before = before;
   given = [];
   done = [];
   text = [];
@@ -264,8 +265,9 @@ played_none nodes all old outside = ([], record { count = 0; shown = refl }, fro
 -- ---- the whole script
 
 -- playing a script comes to what playing its lines came to
-pub plays_as : (result : Result (Option Refusal) OutsideFault) (nodes : List PlanNode) (shapes : List Shape) (bytes : List ℕ) (all : Played) (old new : Option (List ℕ)) → ShapesHaveTypes nodes shapes → all ≡ played nodes shapes bytes → PlaysAs result nodes all old new → Plays result nodes bytes old new
-plays_as (Ok fault) nodes shapes bytes all old new types is h = (
+pub plays_as : (result : Result (Option Refusal) OutsideFault) (nodes : List PlanNode) (shapes : List Shape) (before : Accepted) (bytes : List ℕ) (all : Played) (old new : Option (List ℕ)) → ShapesHaveTypes nodes shapes → all ≡ played_after nodes shapes before bytes → PlaysAs result nodes all old new
+    → PlaysAfter result nodes before bytes old new
+plays_as (Ok fault) nodes shapes before bytes all old new types is h = (
   h.0,
   record {
     shapes = shapes;
@@ -275,12 +277,13 @@ plays_as (Ok fault) nodes shapes bytes all old new types is h = (
   },
   h.3,
 )
-plays_as (Err outside) nodes shapes bytes all old new types is h = (
+plays_as (Err outside) nodes shapes before bytes all old new types is h = (
   h.0,
   record { shapes = shapes; types = types; shown = subst (λ (some : Played). AreShownFirst nodes some.asks h.0) is h.1 },
   h.2,
 )
 
 -- nothing was written of it
-pub plays_none : (nodes : List PlanNode) (bytes : List ℕ) (old : Option (List ℕ)) (outside : OutsideFault) → Plays (Err outside) nodes bytes old old
-plays_none nodes bytes old outside = plays_as (Err outside) nodes (own_shapes nodes) bytes (played nodes (own_shapes nodes) bytes) old old (own_types nodes) refl (played_none nodes (played nodes (own_shapes nodes) bytes) old outside)
+pub plays_none : (nodes : List PlanNode) (before : Accepted) (bytes : List ℕ) (old : Option (List ℕ)) (outside : OutsideFault) → PlaysAfter (Err outside) nodes before bytes old old
+plays_none nodes before bytes old outside =
+    plays_as (Err outside) nodes (own_shapes nodes) before bytes (played_after nodes (own_shapes nodes) before bytes) old old (own_types nodes) refl (played_none nodes (played_after nodes (own_shapes nodes) before bytes) old outside)

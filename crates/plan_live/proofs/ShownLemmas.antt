@@ -85,9 +85,7 @@ shows_some nodes player before shown p =
 -- after it the lists go on from what was shown
 pub shown_on : (nodes : List PlanNode) (player : Player) (before : Accepted) (shown : Lists) (p : PlaysStand nodes player before shown) → PlaysStand nodes player before p.given
 shown_on nodes player before shown p = record {
-  lines_count = p.lines_count;
-  guards_count = p.guards_count;
-  guards = p.guards;
+  judged = p.judged;
   given = p.given;
   settled = p.settled;
   sources = p.sources;

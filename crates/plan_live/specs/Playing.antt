@@ -72,14 +72,23 @@ pub record JudgesAt (answer : Result (Vec Message Global) GuardFault) (old new :
   pub set_to : new ≡ slice_set old place now
   pub judged : (d : Guard) (before : List EventLine) → Guards (slice_index_or old place d) before → GivesMessages answer now before (with_reading before said)
 
+-- a line that isn't accepted after others: its fault, unless memory ran out
+abbrev pub IsLineFault : GuardFault → Result Accepted LineFault → Type 0
+IsLineFault (guard_fault.Line fault) now = now ≡ Err fault
+IsLineFault guard_fault.OutOfMemory now = Unit {0}
+
+-- each guard stands for the accepted lines of its node
+pub record GuardsStand (nodes : List PlanNode) (guards : List Guard) (before : Accepted) : Type 0 where
+  pub lines_count : length before ≡ length nodes
+  pub guards_count : length guards ≡ length nodes
+  pub each : (k : ℕ) (d : Guard) → k < length nodes → Guards (slice_index_or guards k d) (lines_at before k)
+
 -- ---- what is played
 
 -- The lines that were accepted so far: each guard stands for those of its node, and each source gave their messages. The
 -- lists go on from those that were shown last.
 pub record PlaysStand (nodes : List PlanNode) (player : Player) (before : Accepted) (shown : Lists) : Type 0 where
-  pub lines_count : length before ≡ length nodes
-  pub guards_count : length player.guards.items ≡ length nodes
-  pub guards : (k : ℕ) (d : Guard) → k < length nodes → Guards (slice_index_or player.guards.items k d) (lines_at before k)
+  pub judged : GuardsStand nodes player.guards.items before
   pub given : Lists
   pub settled : IsSettledNet nodes player.net given
   pub sources : (k : ℕ) → k < length nodes → IsSourceAt nodes k → list_at given k ≡ messages_behind [] (lines_at before k)
@@ -90,8 +99,7 @@ pub record PlaysStand (nodes : List PlanNode) (player : Player) (before : Accept
 -- a line that isn't `?`
 abbrev pub PlaysLine : Result (Unit {0}) GuardFault → List PlanNode → Player → Lists → Result Accepted LineFault → Type 0
 PlaysLine (Ok done) nodes player shown now = (lines : Accepted) × (now ≡ Ok lines) × PlaysStand nodes player lines shown
-PlaysLine (Err (guard_fault.Line fault)) nodes player shown now = now ≡ Err fault
-PlaysLine (Err guard_fault.OutOfMemory) nodes player shown now = Unit {0}
+PlaysLine (Err fault) nodes player shown now = IsLineFault fault now
 
 -- the rows and the reach are written, or a front of them
 abbrev pub Shows : Result (Unit {0}) OutsideFault → List PlanNode → Player → Accepted → Lists → Option (List ℕ) → Option (List ℕ) → Type 0
@@ -127,8 +135,7 @@ TakesStep (Err outside) nodes player before shown (Err fault) old new = new ≡ 
 -- a script over the limit
 abbrev pub parts_played : Bool → List PlanNode → List Shape → ℕ → Accepted → List (List ℕ) → Played
 parts_played false nodes shapes count before parts = played_behind nodes shapes count before parts
-parts_played true nodes shapes count before parts = record {
-  asks = (played_behind nodes shapes count before (whole_lines parts)).asks;
+parts_played true nodes shapes count before parts = record (played_behind nodes shapes count before (whole_lines parts)) {
   fault = Some (first_refusal (played_behind nodes shapes count before (whole_lines parts)).fault (record { line = count + length (whole_lines parts) + 1; fault = limit_fault (unfinished_line parts) }));
 }
 

@@ -6,23 +6,33 @@ use Rattle.cedr_io.specs.Asked.{AppendsFront}
 use Rattle.cedr_io.specs.declared.fault.OutsideFault.{OutsideFault}
 use Rattle.cedr_plan.specs.declared.plan.PlanNode.{PlanNode}
 use Rattle.cedr_text.specs.declared.event_line.Shape.{Shape}
-use Rattle.plan_live.specs.Scripts.{ShapesHaveTypes, played}
+use Rattle.plan_live.specs.Scripts.{Accepted, ShapesHaveTypes, no_lines, played_after}
 use Rattle.plan_live.specs.Shown.{AreShown, AreShownFirst}
 
--- what all `?` of a script show, and its fault
-pub record IsPlayed (nodes : List PlanNode) (bytes : List ℕ) (text : List ℕ) (fault : Option Refusal) : Type 0 where
+-- what all `?` of a script show after accepted lines, and its fault
+pub record IsPlayedAfter (nodes : List PlanNode) (before : Accepted) (bytes : List ℕ) (text : List ℕ) (fault : Option Refusal) : Type 0 where
   pub shapes : List Shape
   pub types : ShapesHaveTypes nodes shapes
-  pub shown : AreShown nodes [] (played nodes shapes bytes).asks text
-  pub fault_is : fault ≡ (played nodes shapes bytes).fault
+  pub shown : AreShown nodes [] (played_after nodes shapes before bytes).asks text
+  pub fault_is : fault ≡ (played_after nodes shapes before bytes).fault
 
 -- what the first `?` of it show
-pub record IsPlayedSoFar (nodes : List PlanNode) (bytes : List ℕ) (text : List ℕ) : Type 0 where
+pub record IsPlayedFirst (nodes : List PlanNode) (before : Accepted) (bytes : List ℕ) (text : List ℕ) : Type 0 where
   pub shapes : List Shape
   pub types : ShapesHaveTypes nodes shapes
-  pub shown : AreShownFirst nodes (played nodes shapes bytes).asks text
+  pub shown : AreShownFirst nodes (played_after nodes shapes before bytes).asks text
 
 -- the script's fault, where all was written; or else a front was written of what its first `?` show
+abbrev pub PlaysAfter : Result (Option Refusal) OutsideFault → List PlanNode → Accepted → List ℕ → Option (List ℕ) → Option (List ℕ) → Type 0
+PlaysAfter (Ok fault) nodes before bytes old new = (text : List ℕ) × IsPlayedAfter nodes before bytes text fault × Appends old new text
+PlaysAfter (Err outside) nodes before bytes old new = (text : List ℕ) × IsPlayedFirst nodes before bytes text × AppendsFront old new text
+
+-- the same where no line was accepted before
+abbrev pub IsPlayed : List PlanNode → List ℕ → List ℕ → Option Refusal → Type 0
+IsPlayed nodes bytes text fault = IsPlayedAfter nodes (no_lines nodes) bytes text fault
+
+abbrev pub IsPlayedSoFar : List PlanNode → List ℕ → List ℕ → Type 0
+IsPlayedSoFar nodes bytes text = IsPlayedFirst nodes (no_lines nodes) bytes text
+
 abbrev pub Plays : Result (Option Refusal) OutsideFault → List PlanNode → List ℕ → Option (List ℕ) → Option (List ℕ) → Type 0
-Plays (Ok fault) nodes bytes old new = (text : List ℕ) × IsPlayed nodes bytes text fault × Appends old new text
-Plays (Err outside) nodes bytes old new = (text : List ℕ) × IsPlayedSoFar nodes bytes text × AppendsFront old new text
+Plays result nodes bytes old new = PlaysAfter result nodes (no_lines nodes) bytes old new

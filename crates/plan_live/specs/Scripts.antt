@@ -1,6 +1,6 @@
 -- The lines of a script, judged one after the other: each is `?`, or the name of a source, a comma and an event line,
 -- which is judged after the earlier lines of that source.
-use Rattle.std.specs.Prelude.{ℕ, ◌+◌, ◌==◌, ◌&&◌, Bool, List, [], ◌∷◌, length, map, slice_index_or, slice_set, take, codes, nat_lt, if◌then◌else◌, Option, None, Some, Result, Ok, Err}
+use Rattle.std.specs.Prelude.{ℕ, ◌+◌, ◌==◌, ◌&&◌, Bool, List, [], ◌∷◌, length, map, slice_index_or, slice_set, take, codes, nat_lt, if◌then◌else◌, Option, None, Some, option_and_then, Result, Ok, Err}
 use Rattle.std.specs.Str.{bytes_eq}
 use Rattle.cedr_text.specs.declared.event_line.EventLine.{EventLine}
 use Rattle.cedr_text.specs.declared.event_line.Shape.{Shape}
@@ -37,6 +37,15 @@ cut_at_comma (b ∷ bytes) = if b == comma then Some ([], bytes) else with_byte 
 abbrev pub named_from : ℕ → List PlanNode → List ℕ → Option ℕ
 named_from place [] name = None
 named_from place (n ∷ nodes) name = if is_source n.kind && bytes_eq n.name name then Some place else named_from (place + 1) nodes name
+
+-- what stands behind the comma, where something does, and the place of its source
+abbrev pub event_at : List ℕ → ℕ → Option (ℕ × List ℕ)
+event_at [] place = None
+event_at (b ∷ bytes) place = Some (place, b ∷ bytes)
+
+-- the place of the source whose event line this is, and what stands behind its name and comma, where there are such ones
+abbrev pub source_event : List PlanNode → List ℕ → Option (ℕ × List ℕ)
+source_event nodes line = option_and_then (λ (cut : List ℕ × List ℕ). option_and_then (event_at cut.1) (named_from 0 nodes cut.0)) (cut_at_comma line)
 
 -- ---- the accepted lines
 
@@ -86,24 +95,25 @@ with_line nodes shapes before (b ∷ bytes) = with_cut nodes shapes before (cut_
 
 -- ---- one line after the other
 
--- a script: at each `?` before the first line that has a fault the lines that were accepted until then, and that line's
--- number and fault
+-- a script: at each `?` before the first line that has a fault the lines that were accepted until then, that line's
+-- number and fault, and the lines that were accepted before it, or in all
 pub record Played : Type 0 where
   pub asks : List Accepted
   pub fault : Option Refusal
+  pub lines : Accepted
 
 -- a `?` and then the rest: these lines were accepted until then
 abbrev pub asked : Accepted → Played → Played
-asked before rest = record { asks = before ∷ rest.asks; fault = rest.fault }
+asked before rest = record { asks = before ∷ rest.asks; fault = rest.fault; lines = rest.lines }
 
 -- a line with a fault: nothing after it counts
-abbrev pub stopped : ℕ → LineFault → Played
-stopped number fault = record { asks = []; fault = Some (record { line = number; fault = fault }) }
+abbrev pub stopped : ℕ → Accepted → LineFault → Played
+stopped number before fault = record { asks = []; fault = Some (record { line = number; fault = fault }); lines = before }
 
 -- a line that is accepted, and then the rest; or one with a fault
-abbrev pub play_on : ℕ → Result Accepted LineFault → (Accepted → Played) → Played
-play_on number (Ok now) rest = rest now
-play_on number (Err fault) rest = stopped number fault
+abbrev pub play_on : ℕ → Accepted → Result Accepted LineFault → (Accepted → Played) → Played
+play_on number before (Ok now) rest = rest now
+play_on number before (Err fault) rest = stopped number before fault
 
 -- the line is `?`
 abbrev pub is_question : List ℕ → Bool
@@ -111,26 +121,31 @@ is_question line = bytes_eq line (codes "?")
 
 -- each line is judged after those before it, of which there were so many
 abbrev pub played_behind : List PlanNode → List Shape → ℕ → Accepted → List (List ℕ) → Played
-played_behind nodes shapes count before [] = record { asks = []; fault = None }
+played_behind nodes shapes count before [] = record { asks = []; fault = None; lines = before }
 played_behind nodes shapes count before (line ∷ lines) =
-    if nat_lt LINE_LIMIT (length line) then stopped (count + 1) LineTooLong
+    if nat_lt LINE_LIMIT (length line) then stopped (count + 1) before LineTooLong
     else if is_question (without_return line) then asked before (played_behind nodes shapes (count + 1) before lines)
-    else play_on (count + 1) (with_line nodes shapes before (without_return line)) (λ now. played_behind nodes shapes (count + 1) now lines)
+    else play_on (count + 1) before (with_line nodes shapes before (without_return line)) (λ now. played_behind nodes shapes (count + 1) now lines)
 
--- the lines of a script from the first one on, before which none was accepted
+-- a script over the limit, after accepted lines: its whole lines are judged, and then the line that follows them
+abbrev pub front_after : List PlanNode → List Shape → Accepted → List (List ℕ) → Played
+front_after nodes shapes before parts = record (played_behind nodes shapes 0 before (whole_lines parts)) {
+  fault = Some (first_refusal (played_behind nodes shapes 0 before (whole_lines parts)).fault (record { line = length (whole_lines parts) + 1; fault = limit_fault (unfinished_line parts) }));
+}
+
+-- the lines of a script from the first one on, after accepted lines. Over the limit only the first bytes count
+abbrev pub played_after : List PlanNode → List Shape → Accepted → List ℕ → Played
+played_after nodes shapes before bytes = if nat_lt FILE_LIMIT (length bytes) then front_after nodes shapes before (parts_of line_feed (take FILE_LIMIT bytes)) else played_behind nodes shapes 0 before (raw_lines bytes)
+
+-- the same where no line was accepted before
 abbrev pub played_lines : List PlanNode → List Shape → List (List ℕ) → Played
 played_lines nodes shapes lines = played_behind nodes shapes 0 (no_lines nodes) lines
 
--- a script over the limit: its whole lines are judged, and then the line that follows them
 abbrev pub played_front : List PlanNode → List Shape → List (List ℕ) → Played
-played_front nodes shapes parts = record {
-  asks = (played_lines nodes shapes (whole_lines parts)).asks;
-  fault = Some (first_refusal (played_lines nodes shapes (whole_lines parts)).fault (record { line = length (whole_lines parts) + 1; fault = limit_fault (unfinished_line parts) }));
-}
+played_front nodes shapes parts = front_after nodes shapes (no_lines nodes) parts
 
--- the lines of a script, of which over the limit only the first bytes count
 abbrev pub played : List PlanNode → List Shape → List ℕ → Played
-played nodes shapes bytes = if nat_lt FILE_LIMIT (length bytes) then played_front nodes shapes (parts_of line_feed (take FILE_LIMIT bytes)) else played_lines nodes shapes (raw_lines bytes)
+played nodes shapes bytes = played_after nodes shapes (no_lines nodes) bytes
 
 -- ---- messages
 

@@ -11,6 +11,7 @@ use Rattle.cedr_table.specs.Operators.{Tables, table_at, mark_at}
 use Rattle.cedr_text.specs.Texts.{rows_text}
 use Rattle.plan_live.specs.Scripts.{Accepted, lines_at}
 use Rattle.plan_live.specs.Shown.{reach_text}
+use Rattle.plan_runs.specs.Now.{Standing, now}
 
 -- the lines of each node are accepted, one after the other
 abbrev pub AreLines : Accepted → Type 0
@@ -50,3 +51,16 @@ text_so_far rows reach = rows_text (in_order rows) ++ reach_text reach
 -- the rows that end before a time
 abbrev pub ending_before : ℕ → List Row → List Row
 ending_before time rows = filter (λ (r : Row). nat_lt r.end time) rows
+
+-- the plan as it stands, over these histories and these guarantees
+abbrev pub now_so_far : List PlanNode → Accepted → Standing
+now_so_far nodes lines = now (histories_so_far nodes lines) (guarantees_so_far nodes lines) nodes
+
+-- what it shows, as text
+abbrev pub text_now : List PlanNode → Accepted → List ℕ
+text_now nodes lines = text_so_far (now_so_far nodes lines).table (now_so_far nodes lines).mark
+
+-- the same at each `?`, one after the other
+abbrev pub texts_now : List PlanNode → List Accepted → List ℕ
+texts_now nodes [] = []
+texts_now nodes (lines ∷ asks) = text_now nodes lines ++ texts_now nodes asks

@@ -1,7 +1,7 @@
 ghost use Rattle.std.specs.Prelude.{◌≡◌, MatchOption, None, Some};
 ghost use Rattle.std.specs.List.{position};
 ghost use Rattle.cedr_plan.specs.declared.plan.PlanNode.{PlanNode};
-ghost use Rattle.plan_live.specs.Scripts.{cut_at_comma, is_question};
+ghost use Rattle.plan_live.specs.Scripts.{cut_at_comma, is_question, source_event};
 ghost use Rattle.plan_live.specs.Playing.{is_source_named};
 
 use cedr_plan::{PlanNode, is_source};
@@ -15,7 +15,7 @@ pub(crate) fn is_question(line: &[u8]) -> bool
 }
 
 /// What stands before the first comma of a line, and what stands after it.
-pub(crate) fn cut_at_comma(line: &[u8]) -> Option<(&[u8], &[u8])>
+fn cut_at_comma(line: &[u8]) -> Option<(&[u8], &[u8])>
     ensures { MatchOption result (cut_at_comma line.now ≡ None) (λ cut. cut_at_comma line.now ≡ Some (cut.0.now, cut.1.now)) }
 {
     match memchr(b',', line) {
@@ -31,8 +31,21 @@ fn is_named(node: &PlanNode, name: &[u8]) -> bool
 }
 
 /// The place of the first source of a name.
-pub(crate) fn find_source(nodes: &[PlanNode], name: &[u8]) -> Option<usize>
+fn find_source(nodes: &[PlanNode], name: &[u8]) -> Option<usize>
     ensures { result ≡ position (λ (node : PlanNode). is_source_named node name.now) nodes.now }
 {
     nodes.iter().position(|node| is_named(node, name))
+}
+
+/// The place of the source whose event line this is, and what stands behind its name and comma. There is none where the
+/// line has no comma, the plan has no source of that name, or nothing stands behind the comma.
+pub(crate) fn event_of<'a>(nodes: &[PlanNode], line: &'a [u8]) -> Option<(usize, &'a [u8])>
+    ensures { MatchOption result (source_event nodes.now line.now ≡ None) (λ event. source_event nodes.now line.now ≡ Some (event.0, event.1.now)) }
+{
+    let (name, event) = cut_at_comma(line)?;
+    let place = find_source(nodes, name)?;
+    if event.is_empty() {
+        return None;
+    }
+    Some((place, event))
 }

@@ -1,6 +1,7 @@
-ghost use Rattle.std.specs.Prelude.{ℕ, ◌≡◌, ◌<◌, ◌++◌, [], List, IfOk, OnOk, length, slice_index_or};
+ghost use Rattle.std.specs.Prelude.{ℕ, ◌≡◌, ◌<◌, ◌++◌, [], List, IfOk, OnOk, length, slice_index_or, slice_set};
 ghost use Rattle.cedr_base.specs.Messages.{IsLegal};
 ghost use Rattle.cedr_guard.specs.Sources.{with_reading};
+ghost use Rattle.cedr_guard.specs.Spelt.{state_in, lines_of, IsFit};
 ghost use Rattle.cedr_guard.specs.Standing.{Guards};
 ghost use Rattle.cedr_io.specs.Counts.{Counts};
 ghost use Rattle.node_laws.specs.Lists.{Lists, list_at};
@@ -12,57 +13,20 @@ ghost use Rattle.cedr_text.specs.Reading.{reading};
 ghost use Rattle.cedr_text.specs.declared.event_line.EventLine.{EventLine};
 ghost use Rattle.cedr_text.specs.declared.event_line.Shape.TheVariants.{AnyText};
 ghost use Rattle.plan_live.specs.Scripts.{Accepted, ShapesHaveTypes, lines_at, no_lines, with_lines, with_line};
+ghost use Rattle.plan_live.specs.Resumed.{lines_from, states_in, AreStates};
 ghost use Rattle.plan_live.specs.Shown.{reach_text};
 ghost use Rattle.plan_live.specs.Playing.{PlaysStand, JudgesAt, IsSettledNet, IsFedOn, IsShownText, PlaysLine, Shows, TakesStep, step_of};
 
-use crate::line::{cut_at_comma, find_source, is_question};
+use crate::guards::{guards_of, judge_at};
+use crate::line::{event_of, is_question};
+use crate::state::state_messages;
 use cedr_base::{Message, OutOfMemory, Time};
-use cedr_guard::{Guard, GuardFault};
+use cedr_guard::{Guard, GuardFault, SourceState};
 use cedr_io::{OutsideFault, Sink, write_all};
 use cedr_net::SerialNet;
-use cedr_plan::{Plan, PlanNode};
-use cedr_source::judge_line;
+use cedr_plan::{Plan, PlanNode, is_source};
 use cedr_text::{LINE_LIMIT, LineFault, Shape, without_return, write_rows, write_time};
 use std::alloc::Global;
-
-/// The shape of each node of a plan. That of a source has its types.
-pub(crate) fn shapes_of(alloc: Global, nodes: &[PlanNode]) -> Result<Vec<Shape>, OutOfMemory>
-    ensures { IfOk result (λ shapes. ShapesHaveTypes nodes.now shapes.items) }
-{
-    let mut shapes = Vec::new(alloc);
-    for node in nodes {
-        let types = Vec::from_slice(alloc, node.types.as_slice())?;
-        shapes.push(Shape::Fields(types))?;
-    }
-    Ok(shapes)
-}
-
-fn guards_of(alloc: Global, count: usize) -> Result<Vec<Guard>, OutOfMemory>
-    ensures count { IfOk result (λ guards. length guards.items ≡ count) }
-    ensures none { IfOk result (λ guards. (k : ℕ) (d : Guard) → k < length guards.items → Guards (slice_index_or guards.items k d) []) }
-{
-    let mut guards = Vec::new(alloc);
-    for _ in 0..count {
-        guards.push(Guard::new(alloc))?;
-    }
-    Ok(guards)
-}
-
-/// The messages of an event line of the source at a place, which is judged.
-fn judge_at(
-    alloc: Global,
-    guards: &mut Vec<Guard>,
-    place: usize,
-    shape: &Shape,
-    line: &[u8],
-) -> Result<Vec<Message>, GuardFault>
-    requires { place < length guards.old.items }
-    ensures { JudgesAt result guards.old.items guards.new.items place (reading shape.now line.now) }
-{
-    let mut messages = Vec::new(alloc);
-    judge_line(alloc, &mut guards[place], shape, line, &mut messages)?;
-    Ok(messages)
-}
 
 fn settle(alloc: Global, net: &mut SerialNet) -> Result<(), OutOfMemory>
     requires { (nodes : List PlanNode) × (ports : List Lists) × (given : Lists) × NetStands nodes net.old ports given }
@@ -129,6 +93,45 @@ impl Player {
         Ok(Player { guards, net })
     }
 
+    /// Each source has come to its state.
+    pub(crate) fn restored(
+        alloc: Global,
+        plan: &Plan,
+        states: &[SourceState],
+    ) -> Result<Player, OutOfMemory>
+        requires plan { IsPlan plan.now }
+        requires states { AreStates plan.now.nodes.items states.now }
+        ensures { IfOk result (λ player. PlaysStand plan.now.nodes.items player (lines_from plan.now.nodes.items (states_in states.now)) []) }
+    {
+        let mut player = Player::new(alloc, plan)?;
+        let mut number = 0usize;
+        for (place, node) in plan.nodes.iter().enumerate() {
+            if is_source(&node.kind) {
+                player.restore_source(alloc, place, &states[number])?;
+                number += 1;
+            }
+        }
+        Ok(player)
+    }
+
+    /// The source at a place, of which no line was accepted, comes to a state: its guard is restored, and the messages of
+    /// the state's lines go over the network.
+    fn restore_source(
+        &mut self,
+        alloc: Global,
+        place: usize,
+        state: &SourceState,
+    ) -> Result<(), OutOfMemory>
+        requires fit { IsFit (state_in state.now) }
+        requires stands { (nodes : List PlanNode) × (before : Accepted) × (shown : Lists) × PlaysStand nodes self.old before shown × (place < length nodes) × IsSourceAt nodes place × (lines_at before place ≡ []) }
+        ensures { OnOk result ((nodes : List PlanNode) (before : Accepted) (shown : Lists) → PlaysStand nodes self.old before shown → place < length nodes → IsSourceAt nodes place → lines_at before place ≡ [] → PlaysStand nodes self.new (slice_set before place (lines_of (state_in state.now))) shown) }
+    {
+        let guard = Guard::restore(alloc, state)?;
+        let messages = state_messages(alloc, state)?;
+        self.guards[place] = guard;
+        feed_on(alloc, &mut self.net, place, messages)
+    }
+
     /// An event line of the source at a place: its messages go over the network.
     fn take_event(
         &mut self,
@@ -161,15 +164,9 @@ impl Player {
         if line.is_empty() {
             return Ok(());
         }
-        let Some((name, event)) = cut_at_comma(line) else {
+        let Some((place, event)) = event_of(nodes, line) else {
             return Err(GuardFault::Line(LineFault::BadForm));
         };
-        let Some(place) = find_source(nodes, name) else {
-            return Err(GuardFault::Line(LineFault::BadForm));
-        };
-        if event.is_empty() {
-            return Err(GuardFault::Line(LineFault::BadForm));
-        }
         self.take_event(alloc, shapes, place, event)
     }
 

@@ -1,14 +1,16 @@
-ghost use Rattle.std.specs.Prelude.{◌≡◌, ◌≤◌, Some, length};
+ghost use Rattle.std.specs.Prelude.{◌≡◌, ◌≤◌, [], Some, length};
 ghost use Rattle.cedr_io.specs.Counts.{Counts};
 ghost use Rattle.cedr_plan.specs.Rules.{IsPlan};
 ghost use Rattle.cedr_base.specs.Bytes.{line_feed};
 ghost use Rattle.cedr_text.specs.Parts.{parts_of};
-ghost use Rattle.plan_live.specs.Scripts.{ShapesHaveTypes, no_lines};
-ghost use Rattle.plan_live.specs.Playing.{PlaysAs, parts_played};
-ghost use Rattle.plan_live.specs.Plays.{Plays};
+ghost use Rattle.plan_live.specs.Scripts.{Accepted, ShapesHaveTypes};
+ghost use Rattle.plan_live.specs.Playing.{PlaysStand, PlaysAs, parts_played};
+ghost use Rattle.plan_live.specs.Plays.{Plays, PlaysAfter};
+ghost use Rattle.plan_live.specs.Resumed.{lines_from, states_in, AreStates};
 
-use crate::player::{Player, shapes_of};
-use cedr_guard::{FILE_LIMIT, Refusal, limit_fault};
+use crate::guards::shapes_of;
+use crate::player::Player;
+use cedr_guard::{FILE_LIMIT, Refusal, SourceState, limit_fault};
 use cedr_io::{OutsideFault, Sink};
 use cedr_plan::Plan;
 use cedr_text::{LineFault, Parts, Shape};
@@ -34,18 +36,57 @@ pub fn play<K: Sink>(
     ensures played { Plays result plan.now.nodes.items script.now (K.written out.old) (K.written out.new) }
     ensures counted { Counts result (K.faults out.old) (K.faults out.new) }
 {
+    let player = Player::new(alloc, plan)?;
+    play_script(alloc, plan, player, script, out)
+}
+
+/// Plays a script over a plan as [`play`] does, but from states of its sources, one for each in plan order: each guard is
+/// restored, and the network takes the insertions, the retractions and the guarantee of each state and settles before the
+/// first line. So it shows what the script shows behind any lines that came to these states.
+///
+/// Before the first line it takes the time of these messages, which is that of playing as many lines without their reading
+/// and judging, and of a settling for each source.
+pub fn play_from<K: Sink>(
+    alloc: Global,
+    plan: &Plan,
+    states: &[SourceState],
+    script: &[u8],
+    out: &mut K,
+) -> Result<Option<Refusal>, OutsideFault>
+    requires plan { IsPlan plan.now }
+    requires states { AreStates plan.now.nodes.items states.now }
+    ensures played { PlaysAfter result plan.now.nodes.items (lines_from plan.now.nodes.items (states_in states.now)) script.now (K.written out.old) (K.written out.new) }
+    ensures counted { Counts result (K.faults out.old) (K.faults out.new) }
+{
+    let player = Player::restored(alloc, plan, states)?;
+    play_script(alloc, plan, player, script, out)
+}
+
+/// Plays a script from where a player stands.
+fn play_script<K: Sink>(
+    alloc: Global,
+    plan: &Plan,
+    player: Player,
+    script: &[u8],
+    out: &mut K,
+) -> Result<Option<Refusal>, OutsideFault>
+    requires stands { (before : Accepted) × PlaysStand plan.now.nodes.items player before [] }
+    ensures played { (before : Accepted) → PlaysStand plan.now.nodes.items player before [] → PlaysAfter result plan.now.nodes.items before script.now (K.written out.old) (K.written out.new) }
+    ensures counted { Counts result (K.faults out.old) (K.faults out.new) }
+{
     let shapes = shapes_of(alloc, plan.nodes.as_slice())?;
     if script.len() > FILE_LIMIT {
         play_lines(
             alloc,
             plan,
+            player,
             shapes.as_slice(),
             &script[..FILE_LIMIT],
             true,
             out,
         )
     } else {
-        play_lines(alloc, plan, shapes.as_slice(), script, false, out)
+        play_lines(alloc, plan, player, shapes.as_slice(), script, false, out)
     }
 }
 
@@ -54,18 +95,18 @@ pub fn play<K: Sink>(
 fn play_lines<K: Sink>(
     alloc: Global,
     plan: &Plan,
+    mut player: Player,
     shapes: &[Shape],
     bytes: &[u8],
     over_limit: bool,
     out: &mut K,
 ) -> Result<Option<Refusal>, OutsideFault>
-    requires plan { IsPlan plan.now }
+    requires stands { (before : Accepted) × PlaysStand plan.now.nodes.items player before [] }
     requires types { ShapesHaveTypes plan.now.nodes.items shapes.now }
     requires limit { length bytes.now ≤ FILE_LIMIT }
-    ensures played { PlaysAs result plan.now.nodes.items (parts_played over_limit plan.now.nodes.items shapes.now 0 (no_lines plan.now.nodes.items) (parts_of line_feed bytes.now)) (K.written out.old) (K.written out.new) }
+    ensures played { (before : Accepted) → PlaysStand plan.now.nodes.items player before [] → PlaysAs result plan.now.nodes.items (parts_played over_limit plan.now.nodes.items shapes.now 0 before (parts_of line_feed bytes.now)) (K.written out.old) (K.written out.new) }
     ensures counted { Counts result (K.faults out.old) (K.faults out.new) }
 {
-    let mut player = Player::new(alloc, plan)?;
     let mut number = 0u64;
     let mut lines = Parts::new(bytes, b'\n');
     while let Some(line) = lines.next() {

@@ -5,8 +5,12 @@ pub mod First
 pub mod NodeFits
 pub mod Closed
 pub mod Remembered
-pub mod Going
+pub mod NowPort
+pub mod NowRuns
 pub mod Output
+pub mod NowOutput
+pub mod NowCases
+pub mod Going
 pub mod Partial
 pub mod SourceLists
 pub mod PartialApproach

@@ -1,25 +1,21 @@
--- What the output reads and gives, and what is made of it where all nodes before it are middle.
+-- What the output reads and gives, and its query.
 use Rattle.std.proofs.Common.{◌≡◌, ℕ, zero, suc, ◌+◌, ◌<◌, List, [], ◌∷◌, ◌++◌, Bool, true, false, cond, length, replicate, get_or, refl, ap, subst, sym, ◌∙◌, arith, append_assoc}
-use Rattle.std.specs.Prelude.{map, All, None, nat_lt}
-use Rattle.std.specs.List.{filter}
+use Rattle.std.specs.Prelude.{map, All}
 use Rattle.std.proofs.lemmas.List.{append-nil, length-append, get_or_append_left}
 use Rattle.std.proofs.lemmas.List.Elements.{All-head}
-use Rattle.cedr_base.specs.declared.row.Row.{Row}
 use Rattle.cedr_base.specs.declared.level.Level.{Level}
 use Rattle.cedr_base.specs.declared.change.Message.{Message}
-use Rattle.cedr_base.specs.Messages.{IsTableOf, IsLegal, mark_of}
-use Rattle.change_laws.proofs.BagSums.{same_back}
+use Rattle.cedr_base.specs.Messages.{IsLegal}
 use Rattle.cedr_table.specs.Operators.{Tables, Meaning, table_at, mark_at}
 use Rattle.cedr_plan.specs.declared.plan.NodeKind.{NodeKind}
 use Rattle.cedr_plan.specs.declared.plan.NodeKind.TheVariants as kind
 use Rattle.cedr_plan.specs.declared.plan.PlanNode.{PlanNode}
 use Rattle.cedr_plan.specs.Drawn.{node_of}
 use Rattle.cedr_plan.specs.Rules.{AreNodes}
-use Rattle.node_laws.specs.Lists.{Lists, list_at, AreTables}
-use Rattle.node_laws.specs.Pass.{pass, passed_table}
-use Rattle.node_laws.specs.Lawful.{tables_of, IsLawful}
+use Rattle.node_laws.specs.Lists.{Lists, list_at}
+use Rattle.node_laws.specs.Pass.{pass}
+use Rattle.node_laws.specs.Lawful.{IsLawful}
 use Rattle.node_laws.proofs.Giving.{lawful_echo}
-use Rattle.node_laws.proofs.Passes.{table_alike}
 use Rattle.cedr_query.specs.Queries.{each_node, node_table, node_mark, query, reaches}
 use Rattle.cedr_plan.specs.Places.{is_output, is_source, source_count}
 use Rattle.cedr_plan.proofs.PlaceLemmas.{inputs_are}
@@ -27,11 +23,7 @@ use Rattle.op_node.specs.Meanings.{node_meaning, meaning_of, port_levels}
 use Rattle.op_node.specs.Outputs.{handed_on}
 use Rattle.op_node.specs.Ready.{IsReady}
 use Rattle.op_node.specs.ReadyLaws.{node_ready}
-use Rattle.plan_runs.specs.Middle.{IsGoing, AllGoing, AreMiddle, AreMarks}
-use Rattle.plan_runs.specs.Runs.{input_lists, IsRun}
 use Rattle.plan_runs.proofs.EachNode.{get_or-last}
-use Rattle.plan_runs.proofs.Going.{going_table, going_list, going_mark, strong_passed}
-use Rattle.plan_runs.proofs.NodeFits.{all_unbroken, node_fits}
 use Rattle.plan_runs.proofs.PlanNodes.{node_stands, place_within}
 
 -- a kind that is that of an output is `Output`
@@ -77,7 +69,8 @@ one_input [] h = absurd (omega arith)
 one_input (x ∷ []) h = (x, refl)
 one_input (x ∷ (y ∷ xs)) h = absurd (omega arith)
 
-not_source : {X : Type 0} (b : Bool) (x y : X) → b ≡ false → cond b x y ≡ y
+-- a choice by a test that fails
+pub not_source : {X : Type 0} (b : Bool) (x y : X) → b ≡ false → cond b x y ≡ y
 not_source true x y e = cc
 not_source false x y e = refl
 
@@ -93,7 +86,7 @@ module _ (nodes : List PlanNode) (are : AreNodes [] (map node_of nodes)) (before
   pub isnt : is_source n.kind ≡ false
   isnt = ap is_source out
 
-  meaning_is : meaning_of n ≡ handed_on
+  pub meaning_is : meaning_of n ≡ handed_on
   meaning_is = ap (λ (k : NodeKind). node_meaning k (length n.inputs.items)) out
 
   -- it reads one node
@@ -116,6 +109,16 @@ module _ (nodes : List PlanNode) (are : AreNodes [] (map node_of nodes)) (before
       ∙ (ap (λ (xs : List ℕ). table_at (map (table_at (query tables before)) xs) 0) input.1
       ∙ sym (each_before (node_table tables) [] nodes before after n input.0 whole earlier))))
 
+  -- and so is its reach
+  pub reach_same : (tables : Tables) (marks : List ℕ) → mark_at (reaches tables marks nodes) (length before) ≡ mark_at (reaches tables marks nodes) input.0
+  reach_same tables marks =
+      let make = node_mark (query tables nodes) marks in
+      each_at make 0 nodes before after n whole
+      ∙ (not_source (is_source n.kind) (mark_at marks (source_count before)) ((meaning_of n).bound (map (table_at (query tables nodes)) n.inputs.items) (map (mark_at (each_node make [] [] before)) n.inputs.items)) isnt
+      ∙ (ap (λ (m : Meaning). m.bound (map (table_at (query tables nodes)) n.inputs.items) (map (mark_at (each_node make [] [] before)) n.inputs.items)) meaning_is
+      ∙ (ap (λ (xs : List ℕ). mark_at (map (mark_at (each_node make [] [] before)) xs) 0) input.1
+      ∙ sym (each_before make 0 nodes before after n input.0 whole earlier))))
+
   -- what it gave is what its port passed on of the list there
   pub passed_on : (lists : Lists) (l given : List Message) → lists ≡ l ∷ [] → IsLegal l → IsLawful (meaning_of n) (port_levels n) lists given → pass n.level l ≡ given
   passed_on lists l given alone legal lawful =
@@ -124,46 +127,3 @@ module _ (nodes : List PlanNode) (are : AreNodes [] (map node_of nodes)) (before
       first_is (pass n.level l) given
       (lawful_echo (meaning_of n) echoes (n.level ∷ []) (l ∷ []) given
       (subst (λ (vs : List Level). IsLawful (meaning_of n) vs (l ∷ []) given) levels (subst (λ (ls : Lists). IsLawful (meaning_of n) (port_levels n) ls given) alone lawful)) (each_legal l legal) refl)
-
-module _ (nodes : List PlanNode) (sources : Lists) (tables : Tables) (marks : List ℕ) (ports : List Lists) (given : Lists) (are : AreNodes [] (map node_of nodes)) (run : IsRun nodes sources ports given)
-    (all_going : AllGoing (source_count nodes) sources) (are_tables : AreTables sources tables) (are_marks : AreMarks (source_count nodes) sources marks)
-    (before after : List PlanNode) (n : PlanNode) (whole : nodes ≡ before ++ n ∷ after) (middle : AreMiddle (length before) nodes) (out : n.kind ≡ kind.Output) where
-  abbrev read : ℕ
-  read = (input nodes are before after n whole out).0
-
-  within : read < length nodes
-  within = inside nodes are before after n whole out
-
-  before_it : read < length before
-  before_it = earlier nodes are before after n whole out
-
-  -- the output's reach is that of the node that it reads
-  reach_same : mark_at (reaches tables marks nodes) (length before) ≡ mark_at (reaches tables marks nodes) read
-  reach_same =
-      let make = node_mark (query tables nodes) marks in
-      each_at make 0 nodes before after n whole
-      ∙ (not_source (is_source n.kind) (mark_at marks (source_count before)) ((meaning_of n).bound (map (table_at (query tables nodes)) n.inputs.items) (map (mark_at (each_node make [] [] before)) n.inputs.items)) (isnt nodes are before after n whole out)
-      ∙ (ap (λ (m : Meaning). m.bound (map (table_at (query tables nodes)) n.inputs.items) (map (mark_at (each_node make [] [] before)) n.inputs.items)) (meaning_is nodes are before after n whole out)
-      ∙ (ap (λ (xs : List ℕ). mark_at (map (mark_at (each_node make [] [] before)) xs) 0) (input nodes are before after n whole out).1
-      ∙ sym (each_before make 0 nodes before after n read whole before_it))))
-
-  going : IsGoing (list_at given read)
-  going = going_list nodes (length before) sources tables marks ports given are run all_going are_tables are_marks middle read within before_it
-
-  -- the mark that came on its port is its reach
-  pub output_mark : mark_of (list_at given read) ≡ mark_at (reaches tables marks nodes) (length before)
-  output_mark = going_mark nodes (length before) sources tables marks ports given are run all_going are_tables are_marks middle read within before_it ∙ sym reach_same
-
-  -- and where its port is strong, what it gave has the rows of its query that end before that
-  pub output_table : n.level.block ≡ None → n.level.memory ≡ None → IsTableOf (list_at given (length before)) (filter (λ (r : Row). nat_lt r.end (mark_at (reaches tables marks nodes) (length before))) (table_at (query tables nodes) (length before)))
-  output_table block memory =
-      let is = node_stands nodes before after n are whole in
-      let fits = node_fits nodes sources ports given run before after n whole is (isnt nodes are before after n whole out) (all_unbroken (length before) given (λ k h. (going_list nodes (length before) sources tables marks ports given are run all_going are_tables are_marks middle k (let w = place_within nodes before after n whole in omega arith) h).unbroken) n.inputs.items (inputs_are before n is)) in
-      let l = list_at given read in
-      let made : (meaning_of n).result (tables_of (port_levels n) (input_lists given n)) ≡ passed_table n.level (list_at given read) =
-      ap (λ (m : Meaning). m.result (tables_of (port_levels n) (input_lists given n))) (meaning_is nodes are before after n whole out) ∙ ap (λ (xs : List ℕ). table_at (tables_of (replicate (length xs) n.level) (map (list_at given) xs)) 0) (input nodes are before after n whole out).1 in
-      let table = going_table nodes (length before) sources tables marks ports given are run all_going are_tables are_marks middle read within before_it in
-      let strong = strong_passed n.level l (table_at (query tables nodes) read) block memory going table in
-      subst (λ (t : ℕ). IsTableOf (list_at given (length before)) (filter (λ (r : Row). nat_lt r.end t) (table_at (query tables nodes) (length before)))) output_mark
-      (subst (λ (rows : List Row). IsTableOf (list_at given (length before)) (filter (λ (r : Row). nat_lt r.end (mark_of (list_at given read))) rows)) (sym (query_same nodes are before after n whole out tables))
-      (table_alike (list_at given (length before)) (passed_table n.level l) _ (same_back _ _ strong) (subst (λ (rows : List Row). IsTableOf (list_at given (length before)) rows) made fits.table)))

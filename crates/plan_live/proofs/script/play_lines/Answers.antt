@@ -10,19 +10,11 @@ use Rattle.cedr_base.specs.Bytes.{line_feed}
 use Rattle.cedr_text.specs.Parts.{parts_of}
 use Rattle.cedr_text.specs.declared.fault.LineFault.{LineFault}
 use Rattle.cedr_text.proofs.Cuts.{some_part}
-use Rattle.plan_live.specs.Scripts.{Accepted, no_lines}
+use Rattle.plan_live.specs.Scripts.{Accepted}
 use Rattle.plan_live.specs.Playing.{PlaysStand, TakesStep, step_of, parts_played, PlaysAs}
-use Rattle.plan_live.proofs.ScriptLemmas.{IsPlayedTo, first_played, played_on, played_fault, played_so_far, played_unfinished, played_all, played_none}
+use Rattle.plan_live.proofs.ScriptLemmas.{IsPlayedTo, first_played, played_on, played_fault, played_so_far, played_unfinished, played_all}
 use Rattle.plan_live.proofs.script.play_lines.Goals as goal
 use Rattle.plan_live.proofs.script.play_lines.Goals.{else-over_limit-via-then-over_limit+else-is_empty, else-over_limit-via-else-over_limit}
-
-pub returns-in_err-player-clause-played : goal.returns-in_err-player-clause-played
-returns-in_err-player-clause-played g c =
-    let nodes = c.args.plan.now.nodes.items in
-    let old = g.K.Sink.written c.args.out.now in
-    let all = parts_played c.args.over_limit nodes c.args.shapes.now 0 (no_lines nodes) (parts_of line_feed c.args.bytes.now) in
-    let q = err_from_is_err_and c.from_residual.result c.from_residual.ensures.1 in
-    subst (λ (r : Result (Option Refusal) OutsideFault). PlaysAs r nodes all old old) (sym q.1) (played_none nodes all old q.0)
 
 pub loop-line-init : goal.loop-line-init
 loop-line-init g c =
@@ -30,18 +22,18 @@ loop-line-init g c =
     let shapes = c.args.shapes.now in
     let bytes = c.args.bytes.now in
     let over = c.args.over_limit in
-    let player = c.in_ok-player.player in
+    let player = c.args.player in
     let old = g.K.Sink.written c.args.out.now in
     let parts = parts_of line_feed bytes in
     record {
-      played = subst (λ (left : List (List ℕ)). IsPlayedTo over nodes shapes 0 left player (parts_played over nodes shapes 0 (no_lines nodes) parts) old old) (sym c.new-lines.ensures) (first_played over nodes shapes parts player old c.in_ok-player.ensures);
+      played = λ start stands. subst (λ (left : List (List ℕ)). IsPlayedTo over nodes shapes 0 left player (parts_played over nodes shapes 0 start parts) old old) (sym c.new-lines.ensures) (first_played over nodes shapes start parts player old stands);
       counted = omega (arith, ap length c.new-lines.ensures, length-slice_split (λ b. b == line_feed) bytes, count_by-le-length (λ b. b == line_feed) bytes, c.requires.limit);
       last = λ is_over none. some_part (λ b. b == line_feed) bytes (sym c.new-lines.ensures ∙ none);
       faults = refl;
     }
 
 pub returns-then-is_empty-clause-played : goal.returns-then-is_empty-clause-played
-returns-then-is_empty-clause-played g c =
+returns-then-is_empty-clause-played g c = λ start stands.
     let nodes = c.args.plan.now.nodes.items in
     let shapes = c.args.shapes.now in
     let over = c.args.over_limit in
@@ -50,19 +42,20 @@ returns-then-is_empty-clause-played g c =
     let player = c.loop-line.player in
     let old = g.K.Sink.written c.args.out.now in
     let new = g.K.Sink.written c.loop-line.out in
-    let all = parts_played over nodes shapes 0 (no_lines nodes) (parts_of line_feed c.args.bytes.now) in
+    let all = parts_played over nodes shapes 0 start (parts_of line_feed c.args.bytes.now) in
     let last = c.in-Some.ensures.steps ∙ ap (λ (rest : List (List ℕ)). line ∷ rest) c.if-is_empty.ensures in
-    let here = subst (λ (left : List (List ℕ)). IsPlayedTo over nodes shapes number left player all old new) last c.loop-line.invariant.played in
+    let here = subst (λ (left : List (List ℕ)). IsPlayedTo over nodes shapes number left player all old new) last (c.loop-line.invariant.played start stands) in
     subst (λ (f : Option Refusal). PlaysAs (Ok f) nodes all old new) (sym (c.refused.ensures ∙ ap {B = Option Refusal} (λ (f : LineFault). Some (record { line = number + 1; fault = f })) c.limit_fault.ensures))
     (played_unfinished nodes shapes number line player all old new (subst (λ (b : Bool). IsPlayedTo b nodes shapes number (line ∷ []) player all old new) c.if-over_limit.true here))
 
 pub take-requires-clause-stands : goal.take-requires-clause-stands
 take-requires-clause-stands g c =
-    let p = c.loop-line.invariant.played in
+    let first = c.requires.stands in
+    let p = c.loop-line.invariant.played first.0 first.1 in
     subst (λ (ns : List PlanNode). (before : Accepted) × (given : Lists) × PlaysStand ns c.loop-line.player before given) (sym c.as_slice.ensures.value) (p.before, p.given, p.stands)
 
 pub returns-in_err-fault-clause-played : goal.returns-in_err-fault-clause-played
-returns-in_err-fault-clause-played g c =
+returns-in_err-fault-clause-played g c = λ start stands.
     let nodes = c.args.plan.now.nodes.items in
     let shapes = c.args.shapes.now in
     let over = c.args.over_limit in
@@ -74,19 +67,19 @@ returns-in_err-fault-clause-played g c =
     let first = g.K.Sink.written c.args.out.now in
     let before = g.K.Sink.written c.loop-line.out in
     let now = g.K.Sink.written c.take.new.out in
-    let all = parts_played over nodes shapes 0 (no_lines nodes) (parts_of line_feed c.args.bytes.now) in
+    let all = parts_played over nodes shapes 0 start (parts_of line_feed c.args.bytes.now) in
     let outside = c.in_err-fault.field-0.0 in
-    let q = err_from_is_err_and c.from_residual-in_err-fault.result c.from_residual-in_err-fault.ensures.1 in
+    let q = err_from_is_err_and c.from_residual.result c.from_residual.ensures.1 in
     let more : over ≡ true → next ≢ [] =
     λ is. elim c.else-over_limit.branch [ else-over_limit-via-then-over_limit+else-is_empty w ↦ w.if-is_empty.ensures | else-over_limit-via-else-over_limit w ↦ let not_over = w.if-over_limit.false in cc ] in
-    let p = subst (λ (left : List (List ℕ)). IsPlayedTo over nodes shapes number left player all first before) c.in-Some.ensures.steps c.loop-line.invariant.played in
+    let p = subst (λ (left : List (List ℕ)). IsPlayedTo over nodes shapes number left player all first before) c.in-Some.ensures.steps (c.loop-line.invariant.played start stands) in
     let slice = c.as_slice.ensures.value in
     let taken = subst (λ (ns : List PlanNode). (lines : Accepted) (given : Lists) → PlaysStand ns player lines given → TakesStep (Err outside) ns after lines given (step_of ns shapes lines line) before now) slice c.in_err-fault.ensures.taken in
     subst (λ (r : Result (Option Refusal) OutsideFault). PlaysAs r nodes all first now) (sym (q.1 ∙ ap (λ f. Err f) q.2))
     (played_so_far over nodes shapes number line next player after all first before now p more outside (taken p.before p.given p.stands))
 
 pub returns-in-Some-2-clause-played : goal.returns-in-Some-2-clause-played
-returns-in-Some-2-clause-played g c =
+returns-in-Some-2-clause-played g c = λ start stands.
     let nodes = c.args.plan.now.nodes.items in
     let shapes = c.args.shapes.now in
     let over = c.args.over_limit in
@@ -98,11 +91,11 @@ returns-in-Some-2-clause-played g c =
     let first = g.K.Sink.written c.args.out.now in
     let before = g.K.Sink.written c.loop-line.out in
     let now = g.K.Sink.written c.take.new.out in
-    let all = parts_played over nodes shapes 0 (no_lines nodes) (parts_of line_feed c.args.bytes.now) in
+    let all = parts_played over nodes shapes 0 start (parts_of line_feed c.args.bytes.now) in
     let fault = c.in-Some-2.fault in
     let more : over ≡ true → next ≢ [] =
     λ is. elim c.else-over_limit.branch [ else-over_limit-via-then-over_limit+else-is_empty w ↦ w.if-is_empty.ensures | else-over_limit-via-else-over_limit w ↦ let not_over = w.if-over_limit.false in cc ] in
-    let p = subst (λ (left : List (List ℕ)). IsPlayedTo over nodes shapes number left player all first before) c.in-Some.ensures.steps c.loop-line.invariant.played in
+    let p = subst (λ (left : List (List ℕ)). IsPlayedTo over nodes shapes number left player all first before) c.in-Some.ensures.steps (c.loop-line.invariant.played start stands) in
     let taken = subst (λ (ns : List PlanNode). (lines : Accepted) (given : Lists) → PlaysStand ns player lines given → TakesStep (Ok c.in_ok-fault.field-0) ns after lines given (step_of ns shapes lines line) before now) c.as_slice.ensures.value c.in_ok-fault.ensures.taken in
     subst (λ (f : Option Refusal). PlaysAs (Ok f) nodes all first now) (sym c.refused-in-Some-2.ensures)
     (played_fault over nodes shapes number line next player after all first before now p more fault
@@ -121,14 +114,15 @@ loop-line-preserved g c =
     let first = g.K.Sink.written c.args.out.now in
     let before = g.K.Sink.written c.loop-line.out in
     let now = g.K.Sink.written c.take.new.out in
-    let all = parts_played over nodes shapes 0 (no_lines nodes) (parts_of line_feed c.args.bytes.now) in
     let inv = c.loop-line.invariant in
     let more : over ≡ true → next ≢ [] =
     λ is. elim c.else-over_limit.branch [ else-over_limit-via-then-over_limit+else-is_empty w ↦ w.if-is_empty.ensures | else-over_limit-via-else-over_limit w ↦ let not_over = w.if-over_limit.false in cc ] in
-    let p = subst (λ (left : List (List ℕ)). IsPlayedTo over nodes shapes number left player all first before) c.in-Some.ensures.steps inv.played in
     let taken = subst (λ (ns : List PlanNode). (lines : Accepted) (given : Lists) → PlaysStand ns player lines given → TakesStep (Ok c.in_ok-fault.field-0) ns after lines given (step_of ns shapes lines line) before now) c.as_slice.ensures.value c.in_ok-fault.ensures.taken in
     record {
-      played = played_on over nodes shapes number line next player after all first before now p more
+      played = λ start stands.
+          let all = parts_played over nodes shapes 0 start (parts_of line_feed c.args.bytes.now) in
+          let p = subst (λ (left : List (List ℕ)). IsPlayedTo over nodes shapes number left player all first before) c.in-Some.ensures.steps (inv.played start stands) in
+          played_on over nodes shapes number line next player after all first before now p more
           (subst (λ (f : Option LineFault). TakesStep (Ok f) nodes after p.before p.given (step_of nodes shapes p.before line) before now) c.in_default-2.is (taken p.before p.given p.stands));
       counted = omega (arith, inv.counted, ap length c.in-Some.ensures.steps);
       last = more;
@@ -136,7 +130,7 @@ loop-line-preserved g c =
     }
 
 pub returns-clause-played : goal.returns-clause-played
-returns-clause-played g c =
+returns-clause-played g c = λ start stands.
     let nodes = c.args.plan.now.nodes.items in
     let shapes = c.args.shapes.now in
     let over = c.args.over_limit in
@@ -144,7 +138,7 @@ returns-clause-played g c =
     let player = c.loop-line.player in
     let old = g.K.Sink.written c.args.out.now in
     let new = g.K.Sink.written c.loop-line.out in
-    let all = parts_played over nodes shapes 0 (no_lines nodes) (parts_of line_feed c.args.bytes.now) in
+    let all = parts_played over nodes shapes 0 start (parts_of line_feed c.args.bytes.now) in
     let none = c.in_default.ensures.steps.0 in
     let last : over ≡ true → ◌≡◌ {A = List (List ℕ)} [] [] → ⊥ = λ is same. c.loop-line.invariant.last is none in
-    played_all over nodes shapes number player all old new last (subst (λ (left : List (List ℕ)). IsPlayedTo over nodes shapes number left player all old new) none c.loop-line.invariant.played)
+    played_all over nodes shapes number player all old new last (subst (λ (left : List (List ℕ)). IsPlayedTo over nodes shapes number left player all old new) none (c.loop-line.invariant.played start stands))

@@ -1,5 +1,5 @@
-use Rattle.plan_runs.proofs.Going.{going_table, going_mark, strong_passed}
-use Rattle.plan_runs.proofs.Output.{output_table}
+use Rattle.plan_runs.proofs.Going.{going_table, going_mark, going_output}
+use Rattle.plan_runs.proofs.NowPort.{strong_passed}
 use Rattle.plan_runs.proofs.laws.going_runs.Goals as goal
 
 pub returns-clause-tables : goal.returns-clause-tables
@@ -12,4 +12,4 @@ pub returns-clause-strong : goal.returns-clause-strong
 returns-clause-strong c = strong_passed
 
 pub returns-clause-output : goal.returns-clause-output
-returns-clause-output c = output_table
+returns-clause-output c = going_output
