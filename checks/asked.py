@@ -2,16 +2,19 @@
 import re
 from typing import NamedTuple
 
+import checkpoint_reference
 import made
 import nodes
 import plan_reference
 import reference
+from messages import Add, Mark
 from program import USAGE
 
 READ_FAULT = b"read fault\n"
 EMPTY = object()
 ON_SOURCES = ("serial", "run", "audit", "stream")
 ON_THREADS = ("run", "stream")
+ON_SCRIPTS = ("live", "save", "resume")
 THREADS = re.compile("[0-9]{1,2}")
 MOST_THREADS = 16
 
@@ -20,7 +23,8 @@ class Asked(NamedTuple):
     """The status and standard error, and where the plan is accepted its nodes and what is fed to them.
 
     What is fed is for each source the list of its lines, each as the list of its messages; an empty line isn't in it.
-    For `live` it is the list of the script's steps, each `?` or a source with the messages of its line.
+    For `live` it is the list of the script's steps, each `?` or a source with the messages of its line. For `save` nothing is fed,
+    and the text is the checkpoint.
     """
 
     command: str
@@ -28,6 +32,7 @@ class Asked(NamedTuple):
     err: bytes
     plan: list = []
     fed: list = []
+    text: bytes = b""
 
 
 def is_pool(word: str) -> bool:
@@ -36,13 +41,13 @@ def is_pool(word: str) -> bool:
 
 def read(words: list, find) -> Asked:
     """What these words ask for. `find` answers the bytes of a file, or none where it can't be read. A pool is asked what `run`
-    is."""
+    is, and a script that goes on from a checkpoint what `live` is, behind the messages of the states."""
     command, *operands = words or [""]
     if command == "pool" and len(operands) == 2 and is_pool(operands[0]):
         return read(["run", operands[1]], find)
     if command == "make" and len(operands) == 1 and made.is_size(operands[0]):
         return Asked(command, 0, b"", made.plan(), [made.lines(int(operands[0]), source) for source in (0, 1)])
-    if len(operands) != {"live": 2, **dict.fromkeys(ON_SOURCES, 1)}.get(command):
+    if len(operands) != {"live": 2, "save": 2, "resume": 3, **dict.fromkeys(ON_SOURCES, 1)}.get(command):
         return Asked(command, 1, USAGE)
     data = find(operands[0])
     if data is None:
@@ -51,7 +56,12 @@ def read(words: list, find) -> Asked:
     if status:
         return Asked(command, status, err)
     plan = nodes.read_nodes(data)
-    return read_script(plan, operands[1], find) if command == "live" else read_sources(command, plan, find)
+    if command not in ON_SCRIPTS:
+        return read_sources(command, plan, find)
+    unsaved = 0 if command == "live" else checkpoint_reference.first_unsaved(plan)
+    if unsaved:
+        return Asked(command, 2, f"plan fault 15 node {unsaved}\n".encode())
+    return READERS[command](plan, *operands[1:], find)
 
 
 def sources_of(plan: list) -> list:
@@ -73,14 +83,45 @@ def source_line(types: list):
     return lambda line: judge.take(line) if reference.without_return(line) else EMPTY
 
 
-def read_script(plan: list, name: str, find) -> Asked:
+def read_live(plan: list, name: str, find) -> Asked:
+    return read_script(plan, name, find, [reference.Judge(node.types) for node in sources_of(plan)])
+
+
+def read_script(plan: list, name: str, find, judges: list) -> Asked:
+    """A script whose lines are judged by these judges of the sources."""
     data = find(name)
     if data is None:
         return Asked("live", 4, READ_FAULT, plan)
-    judges = {node.name.encode(): (place, reference.Judge(node.types)) for place, node in enumerate(sources_of(plan))}
-    steps, told = reference.judged(data, lambda line: script_step(line, judges))
+    by_name = {node.name.encode(): (place, judge) for place, (node, judge) in enumerate(zip(sources_of(plan), judges))}
+    steps, told = reference.judged(data, lambda line: script_step(line, by_name))
     steps = [step for step in steps if step]
     return Asked("live", 3 if told else 0, f"events {name} {told}\n".encode() if told else b"", plan, steps)
+
+
+def read_saved(plan: list, name: str, find) -> Asked:
+    """The checkpoint to which a script comes."""
+    judges = [reference.Judge(node.types) for node in sources_of(plan)]
+    read_so = read_script(plan, name, find, judges)
+    text = b"" if read_so.status else checkpoint_reference.text(checkpoint_reference.sources_of(plan), judges)
+    return Asked("save", read_so.status, read_so.err, plan, [], text)
+
+
+def read_resumed(plan: list, checkpoint: str, name: str, find) -> Asked:
+    """A script behind what the states of a checkpoint are fed as."""
+    data = find(checkpoint)
+    if data is None:
+        return Asked("resume", 4, READ_FAULT)
+    line, judges = checkpoint_reference.read(checkpoint_reference.sources_of(plan), data)
+    if line is not None:
+        return Asked("resume", 7, f"checkpoint line {line}\n".encode())
+    before = [(place, restored(judge)) for place, judge in enumerate(judges)]
+    read_so = read_script(plan, name, find, judges)
+    return read_so._replace(fed=before + read_so.fed)
+
+
+def restored(judge: reference.Judge) -> list:
+    """The messages that lead to the state of a judge."""
+    return [Add(row) for row in judge.rows_left()] + ([Mark(judge.mark)] if judge.mark else [])
 
 
 def script_step(line: bytes, judges: dict):
@@ -93,3 +134,6 @@ def script_step(line: bytes, judges: dict):
         raise reference.Fault(2)
     source, judge = judges[name]
     return source, judge.take_event(event)
+
+
+READERS = {"live": read_live, "save": read_saved, "resume": read_resumed}

@@ -106,6 +106,7 @@ _cedr "$@"
 FILES = ["plan.json", "plan.txt", "second plan.json", "events.csv"]
 TRIED = [
     (["cedr", "st"], ["stream"]),
+    (["cedr", "sa"], ["save"]),
     (["cedr", "--v"], ["--version"]),
     (["cedr", "h"], ["history"]),
     (["cedr", "run", "pl"], ["plan.json"]),
@@ -113,6 +114,10 @@ TRIED = [
     (["cedr", "run", "sec"], ["second plan.json"]),
     (["cedr", "history", "ev"], ["events.csv"]),
     (["cedr", "live", "plan.json", "ev"], ["events.csv"]),
+    (["cedr", "resume", "sec"], ["second plan.json"]),
+    (["cedr", "resume", "plan.json", "plan.t"], ["plan.txt"]),
+    (["cedr", "resume", "plan.json", "plan.txt", "ev"], ["events.csv"]),
+    (["cedr", "resume", "plan.json", "plan.txt", "events.csv", "ev"], []),
     (["cedr", "pool", "16"], ["16"]),
     (["cedr", "pool", "4", "pl"], ["plan.json"]),
     (["cedr", "make", "1"], []),

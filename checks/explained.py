@@ -1,10 +1,10 @@
 #!/usr/bin/env python3
 """Runs tools/cedr-explain over the ordinary mistakes of mistakes.py, and holds it to the cases of the other checks.
 
-- For each mistake the tool hands on what the program writes, byte by byte, and its status, and says the lines that are
+- For each mistake (those about checkpoints are in checkpoint_mistakes.py) the tool hands on what the program writes, byte by byte, and its status, and says the lines that are
   written by hand.
-- It finds the fault of each plan and of each line that the other checks have, with its place, and says of each more
-  than the fault's name. For random files the faults are those of reference.py.
+- It finds the fault of each plan, of each line and of each checkpoint that the other checks have, with its place, and says of
+  each more than the fault's name. For random files the faults are those of reference.py.
 - Its commands are those of the table in docs/program.md, and what docs/faults.md shows of it is what it says.
 - A stand-in for the program shows what it says of memory, of signals and of how far a file is read, and that it hands
   on standard input and many bytes as they are.
@@ -26,6 +26,8 @@ from pathlib import Path
 sys.dont_write_bytecode = True
 
 import cases
+import checkpoint_cases
+import checkpoint_mistakes
 import doc_tables
 import mistakes
 import plan_cases
@@ -35,7 +37,7 @@ from program import ROOT, built_program
 
 sys.path.insert(0, str(ROOT / "tools"))
 
-from cedr_explain import command, commands, event_line, events, language
+from cedr_explain import checkpoint, command, commands, event_line, events, language
 from cedr_explain.plan import Plan
 
 TOOL = ROOT / "tools/cedr-explain"
@@ -108,6 +110,8 @@ TOO_LARGE = ["events orders.csv line 1025 fault 10",
              "  orders.csv:1025: The file has 67,108,865 bytes, and a source has at most 67,108,864. docs/program.md "
              'says in "A source of more than 64 MiB" how to divide a file.',
              "  > 1025 | "]
+LARGEST_SAVED = 67_174_400
+LARGE_SAVED = "  saved.txt: It has 67,174,401 bytes, and a checkpoint has at most 67,174,400."
 
 
 class Differences:
@@ -155,7 +159,8 @@ def has_in_order(lines: list, wanted: list) -> bool:
 
 
 def check_mistakes(folder: Folder, differences: Differences) -> int:
-    for one in mistakes.ALL:
+    every = [*mistakes.ALL, *checkpoint_mistakes.ALL]
+    for one in every:
         folder.fill(one.files())
         words = one.words.split()
         plain, came = folder.plain(words), folder.run(words)
@@ -166,14 +171,15 @@ def check_mistakes(folder: Folder, differences: Differences) -> int:
         wanted = [f"  {line}" for line in one.wanted()]
         is_whole = all(line in said for line in wanted) and has_in_order(said, wanted)
         differences.expect(is_whole, one.name, "\n".join(["wanted:", *wanted, "came:", *said]))
-    return len(mistakes.ALL)
+    return len(every)
 
 
 def check_good(folder: Folder, differences: Differences) -> int:
     """Where nothing is wrong nothing is said: the plan without a mistake, and each command over it."""
     folder.fill({name: text.encode() for name, text in mistakes.FILES.items()})
     lines = ["run plan.json", "stream plan.json", "pool 2 plan.json", "serial plan.json", "audit plan.json",
-             "check plan.json", "live plan.json script.txt", "history orders.csv", "make 3", "--version"]
+             "check plan.json", "live plan.json script.txt", "save plan.json script.txt",
+             "resume plan.json saved.txt next.txt", "history orders.csv", "make 3", "--version"]
     for words in map(str.split, lines):
         plain, came = folder.plain(words), folder.run(words)
         differences.expect(came == plain and plain[0] == 0 and not plain[2], f"the words {words}", (plain, came))
@@ -212,6 +218,12 @@ def check_stand_ins(folder: Folder, differences: Differences) -> int:
     came = folder.run(["history", "orders.csv"], stand_in(folder, f'echo "{TOO_LARGE[0]}" >&2; exit 3'))
     is_right = came[0] == 3 and has_in_order(came[2].decode().splitlines(), TOO_LARGE)
     differences.expect(is_right, "a file that is too large", came)
+    folder.fill({name: text.encode() for name, text in mistakes.FILES.items()})
+    with open(folder.path / "saved.txt", "wb") as saved:
+        saved.truncate(LARGEST_SAVED + 1)
+    came = folder.run(["resume", "plan.json", "saved.txt", "next.txt"], stand_in(folder, 'echo "checkpoint line 0" >&2; exit 7'))
+    is_right = came[0] == 7 and came[2].decode().splitlines() == ["checkpoint line 0", LARGE_SAVED]
+    differences.expect(is_right, "a checkpoint that is too large", came)
     many = random.Random(0).randbytes(3_000_000)
     came = folder.run(["any"], stand_in(folder, "cat; head -c 70000 /dev/zero >&2; exit 99"), many)
     sizes = came[0], len(came[1]), len(came[2])
@@ -222,7 +234,7 @@ def check_stand_ins(folder: Folder, differences: Differences) -> int:
     differences.expect(came[0] == 2 and came[2].startswith(b"cedr-explain: `--progress=soon`"), "a wrong option", came)
     came = folder.run(["--progress=0", "run", "plan.json"])
     differences.expect(came[0] == 2 and came[2].startswith(b"cedr-explain: `--progress=0`"), "no seconds", came)
-    return len(STAND_INS) + 5
+    return len(STAND_INS) + 6
 
 
 def check_status_kept(folder: Folder, differences: Differences) -> int:
@@ -296,6 +308,21 @@ def check_lines(folder: Path, differences: Differences) -> int:
     return len(found)
 
 
+def check_checkpoints(folder: Path, differences: Differences) -> int:
+    """The same of each line at which bytes of checkpoint_cases.py aren't a checkpoint."""
+    count = 0
+    for name, plan, data, number in checkpoint_cases.all_cases():
+        if number is None:
+            continue
+        (folder / "c.txt").write_bytes(data)
+        sources = {one: types for one, (_, types) in Plan(plan).sources().items()}
+        said = list(checkpoint.explained(str(folder / "c.txt"), sources, number, str(folder / "none.txt")))
+        is_said = said[0].startswith(f"{folder / 'c.txt'}:") and checkpoint.BARE not in said[0]
+        differences.expect(is_said, f"{name}, as it is told", said)
+        count += 1
+    return count
+
+
 def check_commands(differences: Differences) -> None:
     wanted = {one.name: one.words for one in doc_tables.commands() if one.words}
     differences.expect(wanted == commands.COMMANDS, "the commands of docs/program.md", wanted)
@@ -313,9 +340,10 @@ def main() -> int:
         shown = check_page(folder, differences)
         stand_ins = check_stand_ins(folder, differences) + check_status_kept(folder, differences)
         lines = check_lines(folder.path, differences)
+        checkpoints = check_checkpoints(folder.path, differences)
     plans = check_plans(differences)
     print(f"explained: {known} mistakes, {good} commands without one, {shown} of docs/, {stand_ins} with a stand-in "
-          f"for the program, {plans} plans and {lines} faulty lines of the other checks: "
+          f"for the program, {plans} plans, {lines} faulty lines and {checkpoints} checkpoints of the other checks: "
           f"{differences.count} differences")
     return 1 if differences.count else 0
 

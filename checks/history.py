@@ -76,7 +76,7 @@ def check_texts(check: Check) -> int:
         expected = [["cedr", words.split()[0]]]
         check.compare(f"the help on {words}", b"", (0, str(expected).encode(), b""), (status, str(starts).encode(), err))
     numbers = [line.split()[0] for line in lines if line.startswith("    ") and line.split()[0].isdigit()]
-    expected = [str(number) for last in (10, 14) for number in range(1, last + 1)]
+    expected = [str(number) for last in (10, 15) for number in range(1, last + 1)]
     check.compare("the faults in the help", b"", (0, str(expected).encode(), b""), (status, str(numbers).encode(), err))
     return 2 + len(commands)
 

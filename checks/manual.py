@@ -115,14 +115,22 @@ def line_faults() -> str:
     every = sorted([(int(number), text) for number, text in [*rows, *odd]])
     if [number for number, _ in every] != list(range(1, 11)):
         raise ValueError("docs/faults.md doesn't tell ten faults of a line")
-    return entries((str(number), text[0].upper() + text[1:] + ".") for number, text in every)
+    return entries((str(number), sentence(text)) for number, text in every)
 
 
 def plan_faults() -> str:
+    """The faults of the table, and that of a plan which is accepted and can't be saved."""
     rows = table("docs/plans.md", "## Faults")
-    if [cells[0].split()[0] for cells in rows] != [str(number) for number in range(1, 15)]:
-        raise ValueError("docs/plans.md doesn't tell fourteen faults of a plan")
-    return entries((cells[0], cells[1][0].upper() + cells[1][1:] + ".") for cells in rows)
+    told_ones = [(cells[0], sentence(cells[1])) for cells in rows]
+    told_ones += [(number, sentence(text)) for number, text in
+                  ODD_FAULT.findall("\n".join(paragraphs("docs/faults.md", "## A plan")))]
+    if [name.split()[0] for name, _ in told_ones] != [str(number) for number in range(1, 16)]:
+        raise ValueError("docs/plans.md and docs/faults.md don't tell fifteen faults of a plan")
+    return entries(told_ones)
+
+
+def sentence(text: str) -> str:
+    return f"{text[0].upper()}{text[1:]}."
 
 
 def statuses() -> str:
@@ -163,6 +171,9 @@ def page() -> str:
         titled("LEVELS", told(paragraphs(plans, "## Levels")[:1]), levels()),
         titled("LIMITS", entries((what, f"{limit}; beyond it {fault}.")
                                  for what, limit, fault in table(plans, "## Limits"))),
+        titled("CHECKPOINTS",
+               told(paragraphs(program, "## Checkpoints")[:2]), entries(table(program, "## Checkpoints")),
+               told(paragraphs(program, "## Checkpoints")[4:])),
         titled("THE ORDER OF ROWS", told(paragraphs(program, "## The order of rows"))),
         titled("EXIT STATUS", statuses()),
         titled("FAULTS OF A LINE", line_faults()),

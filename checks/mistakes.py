@@ -17,6 +17,9 @@ FILES = {
     "orders.csv": "+,1,1000,1001,A1,250\n+,2,2000,2001,A2,40\n+,3,3000,3001,A3,700\n-,2,2000\n=,3000\n",
     "payments.csv": "+,1,5000,5001,A1,250\n=,5000\n",
     "script.txt": "orders,+,1,1000,1001,A1,250\npayments,+,1,5000,5001,A1,250\n?\n",
+    "saved.txt": "checkpoint,1\nsource,orders,1000\n1,1000,1001,A1,250\n2,2000,2000\nsource,payments,0\n1,5000,5001,A1,250\n"
+                 "end\n",
+    "next.txt": "orders,+,3,3000,3001,A3,700\norders,-,3,3000\n?\n",
 }
 COLUMNS = "Its columns are 0 (text), 1 (int) of `large`; 2 (text), 3 (int) of `payments`."
 COMPARISONS = 'It must be one of "=", "!=", "<", "<=", ">", ">=".'
@@ -25,7 +28,7 @@ WHOLE = "It must be a whole number from 0 to 4,611,686,018,427,387,903, in digit
 SPAN = "It must be a whole number from 1 to 1,099,511,627,776"
 MANY = "9" * 5_000
 USAGE = ("usage: cedr history FILE | check PLAN | serial PLAN | run PLAN | stream PLAN | audit PLAN | "
-         "live PLAN SCRIPT | make N | pool N PLAN")
+         "live PLAN SCRIPT | make N | pool N PLAN | save PLAN SCRIPT | resume PLAN CHECKPOINT SCRIPT")
 
 
 class Mistake(NamedTuple):

@@ -8,6 +8,8 @@ from reference import change_text, row_text, time_text
 def answer(words: list, find) -> tuple[int, bytes, bytes]:
     """The exit status, standard output and standard error of a command."""
     read = asked.read(words, find)
+    if read.command == "save":
+        return read.status, read.text, read.err
     if read.command == "live":
         return read.status, live(read.plan, read.fed), read.err
     if read.status:

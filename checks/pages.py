@@ -15,12 +15,16 @@ CALL = re.compile(r"^(?:\(cd \S+ && )?\S*/cedr [^|\n]*$", re.MULTILINE)
 TABLE_ROW = re.compile(r"^\| (\d+|the end) \|(.*)\|$", re.MULTILINE)
 TEXT = re.compile("`([^`]*)`")
 NODE = re.compile(r"```json\n([^`]*)```\n\n```sh\n[^`]*/cedr run ([^\n]*)\)\n")
+SHOWN_FILE = re.compile(r"`(\w+\.txt)`:\n\n```text\n(.*?)```", re.DOTALL)
 FILE = re.compile(r"## A file\n.*?```text\n(.*?)```", re.DOTALL)
 SIDE_BY_SIDE = re.compile(r"```text\n((?:\S+\.csv *)+)\n(.*?)```", re.DOTALL)
 PLAN = re.compile(r"`(\S+\.json)`:\n\n```json\n(.*?)```", re.DOTALL)
 AFTER = re.compile(r"refused as it says, (after the two lines [^:]*):")
 FAULT = re.compile(r"^\| (\d), [^|]*\| `([^`]*)`(?: and ([\d,]*) letters)? \| `([^`]*)` \|$", re.MULTILINE)
 TYPED = re.compile(r"With the plan\n\n```json\n(.*?)```\n\n`run` refuses the line `(.*?)` of `e.csv` as `(.*?)`", re.DOTALL)
+UNSAVED = re.compile(r"```json\n([^`]*)```\n\n`save` and `resume` end with `(.*?)`")
+CHECKPOINT = re.compile(r"this is a checkpoint:\n\n```text\n(.*?)```", re.DOTALL)
+SPOILT = re.compile(r"^\| [^|]* \| `([^`]*)` becomes (?:`([^`]*)`|nothing) \| `(checkpoint line \d+)` \|$", re.MULTILINE)
 LARGE = re.compile(r"A file of ([\d,]*) lines of `=,` and ([\d,]*) zeros, and a letter more, is refused as `(.*?)`")
 LINK = re.compile(r"\]\(([^)#]*)(?:#([^)]*))?\)")
 HEADING = re.compile(r"^#+ (.*)$", re.MULTILINE)
@@ -88,13 +92,31 @@ def faults(page: str):
         yield refused(number, {"e.csv": data.encode()}, ["history", "e.csv"], told)
     plan, line, told = TYPED.search(page).groups()
     yield refused("5", {"plan.json": plan.encode(), "e.csv": line.encode()}, ["run", "plan.json"], told)
+    yield from checkpoint_faults(page, {"plan.json": plan.encode()})
     lines, zeros, told = LARGE.search(page).groups()
     data = ("=," + "0" * number_of(zeros) + "\n") * number_of(lines) + "x"
     yield refused("10", {"e.csv": data.encode()}, ["history", "e.csv"], told)
 
 
-def refused(number: str, files: dict, words: list, told: str) -> NetworkCase:
-    return NetworkCase(f"fault {number} of docs/faults.md", files, words, 3, b"", told.encode() + b"\n")
+def checkpoint_faults(page: str, files: dict):
+    """A plan that can't be saved, and each row of the table of checkpoints, in which slashes stand for line feeds."""
+    plan, told = UNSAVED.search(page).groups()
+    for words in (["save", "plan.json", "x.txt"], ["resume", "plan.json", "c.txt", "x.txt"]):
+        yield refused("15", {"plan.json": plan.encode()}, words, told, 2)
+    text, changes = CHECKPOINT.search(page)[1], SPOILT.findall(page)
+    if len(changes) != len(re.findall(r"`checkpoint line \d+` \|$", page, re.MULTILINE)):
+        raise PageError("a row of the table of checkpoints isn't in form")
+    words = ["resume", "plan.json", "c.txt", "x.txt"]
+    yield NetworkCase("the checkpoint of docs/faults.md", {**files, "c.txt": text.encode(), "x.txt": b""}, words, 0, b"", b"")
+    for old, new, told in changes:
+        old, new = old.replace("/", "\n"), new.replace("/", "\n")
+        if text.count(old) != 1:
+            raise PageError(f"{old} doesn't stand once in the checkpoint of the page")
+        yield refused(f"{told} for {new}", {**files, "c.txt": text.replace(old, new).encode()}, words, told, 7)
+
+
+def refused(number: str, files: dict, words: list, told: str, status: int = 3) -> NetworkCase:
+    return NetworkCase(f"fault {number} of docs/faults.md", files, words, status, b"", told.encode() + b"\n")
 
 
 def number_of(text: str) -> int:
@@ -146,6 +168,12 @@ def check_guide(root: Path) -> None:
             raise PageError(f"what stands above {name} isn't in it")
     if FILE.search(guide)[1] != (folder / "reports.csv").read_text():
         raise PageError("the file isn't as the guide shows it")
+    for name, text in SHOWN_FILE.findall(guide):
+        if text != (folder / name).read_text():
+            raise PageError(f"{name} isn't as the guide shows it")
+    shown = {words: out for _, words, out in SHOWN.findall(guide)}
+    if shown["save select.json evening.txt"] != (folder / "saved.txt").read_text():
+        raise PageError("saved.txt isn't what the guide saves")
 
 
 def check_levels(root: Path) -> None:

@@ -83,6 +83,14 @@ class Maker(random_plans.Maker):
         return [left, self.rng.choice([comparison, "!=", "<=", ">=", "="]), side]
 
 
+class SavedMaker(Maker):
+    """Makes plans whose ports are strong or middle, in any mix: those that can be saved."""
+
+    def level(self) -> object:
+        unlimited = {"block": "inf", "memory": "inf"}
+        return self.rng.choice(["strong", "middle", unlimited, {"block": 0, "memory": "inf"}])
+
+
 class SourceFile(random_files.RandomFile):
     """Makes the lines of a source of these types, whose times are from a base on."""
 
@@ -123,10 +131,10 @@ class SourceFile(random_files.RandomFile):
         return super().odd_line()
 
 
-def random_network(rng: random.Random, odd: float = 0) -> dict:
+def random_network(rng: random.Random, odd: float = 0, maker: type = Maker) -> dict:
     """A plan and the files of its sources, with this chance of odd lines. Tables are small, few answers are empty."""
     while True:
-        document = Maker(rng).document()
+        document = maker(rng).document()
         document["edge"] = rng.choice([1, 1, 2, 64])
         data = random_plans.json_text(document).encode()
         plan = nodes.read_nodes(data)
@@ -173,9 +181,9 @@ def small_answer(plan: list, contents: list):
     return tables[output_place(plan)]
 
 
-def random_script(rng: random.Random, odd: float = 0) -> dict:
+def random_script(rng: random.Random, odd: float = 0, maker: type = Maker) -> dict:
     """A plan, and a script whose sources' lines come in any order, with a `?` here and there."""
-    data = random_network(rng)["plan.json"]
+    data = random_network(rng, maker=maker)["plan.json"]
     sources = [node for node in nodes.read_nodes(data) if node.op == "source"]
     makers = source_makers(rng, sources)
     text = b"".join(script_line(rng, sources, makers, odd) for _ in range(rng.choice(LENGTHS)))

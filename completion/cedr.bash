@@ -8,6 +8,8 @@ _cedr_words() {
     stream) echo 'PLAN' ;;
     pool) echo 'N:16 PLAN' ;;
     live) echo 'PLAN SCRIPT' ;;
+    save) echo 'PLAN SCRIPT' ;;
+    resume) echo 'PLAN CHECKPOINT SCRIPT' ;;
     serial) echo 'PLAN' ;;
     audit) echo 'PLAN' ;;
     check) echo 'PLAN' ;;
@@ -26,7 +28,7 @@ _cedr() {
     if kinds=$(_cedr_words "${COMP_WORDS[at]}"); then break; fi
   done
   if ((at == COMP_CWORD)); then
-    offered='run stream pool live serial audit check history make --help --version'
+    offered='run stream pool live save resume serial audit check history make --help --version'
     if [[ ${COMP_WORDS[0]##*/} == cedr-explain ]]; then offered+=' --progress'; fi
   else
     read -ra kinds <<< "$kinds"

@@ -92,17 +92,24 @@ def plan(first: str, inner: str) -> bytes:
 A = b'+,1,1,9,x,1\n+,2,4,6,y,-2\n~,2,4,7,"y,",-1\n=,4\n-,1,5\n'
 B = b'+,1,2,8,x,3\n+,2,5,inf,"y,",4\n+,3,1,3,x,5\n~,3,2,4,x,6\n'
 SCRIPT = b"a,+,1,1,9,x,1\nb,+,1,2,8,x,3\n?\na,~,1,1,7,x,2\na,-,1,5\nb,=,7\n?\n"
+SAVED = b'checkpoint,1\nsource,a,0\n1,1,9,x,1\n2,4,4\nsource,b,0\n1,2,8,x,3\n2,5,inf,"y,",4\nend\n'
+NEXT = b"?\na,~,1,1,7,x,2\na,-,1,5\nb,=,7\n?\n"
 FILES = {
     "strong.json": plan(STRONG, STRONG), "middle.json": plan(MIDDLE, MIDDLE), "weak.json": plan(WEAK, MIDDLE),
     "faulty.json": plan('"odd"', MIDDLE), "a.csv": A, "b.csv": B, "script.txt": SCRIPT, "faulty.txt": SCRIPT + b"a\n",
     "e.csv": A + b"+,3,7,inf,\"z,\"\n", "faulty.csv": A + b"+,1,1,2\n",
+    "saved.txt": SAVED, "spoilt.txt": SAVED[:-4], "next.txt": NEXT, "faulty_next.txt": NEXT + b"a\n",
     "refused.json": plan(MIDDLE, MIDDLE).replace(b"b.csv", b"faulty.csv"),
 }
 PLANS = ["strong.json", "middle.json", "weak.json"]
 COMMANDS = [["history", "e.csv"], ["history", "faulty.csv"], ["check", "strong.json"], ["check", "faulty.json"], ["make", "3"],
             *[[command, name] for command in asked.ON_SOURCES for name in [*PLANS, "refused.json"]],
             *[["pool", "3", name] for name in [*PLANS, "refused.json"]],
-            *[["live", name, "script.txt"] for name in PLANS], ["live", "middle.json", "faulty.txt"], ["run"]]
+            *[["live", name, "script.txt"] for name in PLANS], ["live", "middle.json", "faulty.txt"],
+            *[["save", name, "script.txt"] for name in PLANS], ["save", "middle.json", "faulty.txt"],
+            *[["resume", name, "saved.txt", "next.txt"] for name in PLANS],
+            *[["resume", "middle.json", *names] for names in (["saved.txt", "faulty_next.txt"], ["spoilt.txt", "next.txt"])],
+            ["run"]]
 
 
 class Came(NamedTuple):
@@ -130,7 +137,7 @@ class Wanted:
         else:
             self.read = asked.read(words, FILES.get)
             self.status, self.err, self.answer = self.read.status, self.read.err, b""
-            if not self.status or words[0] == "live":
+            if not self.status or words[0] in ("live", "resume"):
                 self.answer = answer_reference.expected(self.read, out)
         # how much is written then depends on the schedule
         self.is_cut = words[0] == "stream" and self.status == 3

@@ -12,6 +12,7 @@ import traceback
 from pathlib import Path
 from typing import Callable, Iterator
 
+import cedr_explain.checkpoint as checkpoint
 import cedr_explain.events as events
 import cedr_explain.language as language
 import cedr_explain.notes as notes
@@ -52,6 +53,7 @@ PLAN_FAULT = re.compile(rb"plan fault %b node %b" % (NUMBER, NUMBER))
 # Two faults of a line carry times, which the sentences have from the file itself.
 CARRIED = rb"(?: begin \S+ end \S+| sync \S+ mark \S+)?"
 EVENTS_FAULT = re.compile(rb"events (.*) line %b fault %b" % (NUMBER, NUMBER) + CARRIED, re.DOTALL)
+CHECKPOINT_FAULT = re.compile(rb"checkpoint line %b" % NUMBER)
 # So many letters of a plan's line are shown before and behind the place of a fault.
 SEEN_BEFORE, SEEN_BEHIND = 50, 50
 # Where standard error is closed there is nobody to tell, and the program is run all the same.
@@ -165,7 +167,7 @@ def files_of(call: Call) -> dict:
     plan = read_plan(call) if call.reads_sources() else None
     if plan:
         return {name: file for name, (file, _) in plan.sources().items()} if not plan.fault else {}
-    return {call.events(): call.events()} if call.events() else {}
+    return {name: name for name in (call.checkpoint(), call.events()) if name}
 
 
 def read_plan(call: Call) -> Plan | None:
@@ -176,7 +178,7 @@ def read_plan(call: Call) -> Plan | None:
 def sentences(words: list, call: Call, status: int, told: bytes) -> Iterator[str]:
     """What the program's status and its lines on standard error mean."""
     plan = read_plan(call)
-    # the name of the file that `history` or `live` was given may have a line break
+    # the name of the file or of the script that was given may have a line break
     lines = [told.rstrip(b"\n")] if call.events() else told.split(b"\n")[:-1]
     if status < 0:
         yield from outside.killed(-status)
@@ -193,6 +195,8 @@ def sentences(words: list, call: Call, status: int, told: bytes) -> Iterator[str
         yield from outside.write_fault()
     elif status == 6:
         yield from outside.out_of_memory()
+    elif status == 7:
+        yield from of_checkpoint(call, plan, lines[-1] if lines else b"")
     if plan and not plan.fault and status != 2:
         yield from (placed(call, plan, one, "note: ") for one in notes.of_plan(plan))
 
@@ -207,7 +211,10 @@ def of_plan(call: Call, plan: Plan | None, line: bytes) -> Iterator[str]:
     reported = PLAN_FAULT.fullmatch(line)
     # no plan has the fault -1, which stands for a line that isn't understood
     fault, node = (int(reported[1]), int(reported[2])) if reported else (-1, 0)
-    if not plan or (plan.fault, plan.node) != (fault, node):
+    found_node, findings = 0, []
+    if plan:
+        found_node, findings = notes.unsaved(plan) if fault == language.UNSAVED else (plan.node, plan.findings)
+    if not findings or (min(one.fault for one in findings), found_node) != (fault, node):
         yield language.FAULTS.get(fault, "The plan has a fault that this tool knows nothing of.")
         if plan:
             yield "The plan that is there now hasn't this fault: it is another one than the program read."
@@ -216,7 +223,7 @@ def of_plan(call: Call, plan: Plan | None, line: bytes) -> Iterator[str]:
         return
     if node:
         yield f"Node {node} of {call.plan()} is {plan.label(node)}."
-    for found in sorted(plan.findings, key=lambda one: one.fault):
+    for found in sorted(findings, key=lambda one: one.fault):
         yield placed(call, plan, found, "" if found.fault == fault else f"besides, as fault {found.fault}: ")
         if fault != language.TOO_LONG:
             yield from excerpt(plan.text, found.place)
@@ -252,6 +259,18 @@ def of_events(call: Call, plan: Plan | None, line: bytes) -> Iterator[str]:
     yield from events.explained(place, number, fault)
 
 
+def of_checkpoint(call: Call, plan: Plan | None, line: bytes) -> Iterator[str]:
+    """Sentences about the line at which the bytes aren't a checkpoint."""
+    reported = CHECKPOINT_FAULT.fullmatch(line)
+    if not reported:
+        return
+    if not plan or plan.fault:
+        yield f"{checkpoint.BARE} The plan can't be read again, so no more can be said."
+        return
+    sources = {name: types for name, (_, types) in plan.sources().items()}
+    yield from checkpoint.explained(call.checkpoint(), sources, int(reported[1]), call.events())
+
+
 def place_of(call: Call, plan: Plan | None, name: str) -> events.Place | None:
     """Where the line of a source, of the file of `history` or of the script is."""
     if call.command == "history":
@@ -259,7 +278,8 @@ def place_of(call: Call, plan: Plan | None, name: str) -> events.Place | None:
     if not plan or plan.fault:
         return None
     sources = plan.sources()
-    if call.command == "live":
-        return events.Place(call.events(), script={one: types for one, (_, types) in sources.items()})
+    if call.has_script():
+        return events.Place(call.events(), script={one: types for one, (_, types) in sources.items()},
+                            checkpoint=call.checkpoint() or "")
     file, types = sources.get(name, (None, None))
     return None if file is None else events.Place(file, name, types)

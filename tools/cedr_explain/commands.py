@@ -9,6 +9,8 @@ COMMANDS = {
     "stream": ("PLAN",),
     "pool": ("N", "PLAN"),
     "live": ("PLAN", "SCRIPT"),
+    "save": ("PLAN", "SCRIPT"),
+    "resume": ("PLAN", "CHECKPOINT", "SCRIPT"),
     "serial": ("PLAN",),
     "audit": ("PLAN",),
     "check": ("PLAN",),
@@ -18,7 +20,7 @@ COMMANDS = {
 ALONE = ("--help", "--version")
 MOST = {"pool": 16, "make": 100_000}
 # These read a plan, and none of its sources' files.
-WITHOUT_SOURCES = ("check", "live")
+WITHOUT_SOURCES = ("check", "live", "save", "resume")
 
 
 class Call:
@@ -35,6 +37,12 @@ class Call:
     def events(self) -> str | None:
         """The file that the command names besides the plan."""
         return self.words.get("FILE", self.words.get("SCRIPT"))
+
+    def checkpoint(self) -> str | None:
+        return self.words.get("CHECKPOINT")
+
+    def has_script(self) -> bool:
+        return "SCRIPT" in self.words
 
     def plan_bytes(self) -> bytes | None:
         """The plan once more, where it is a file that can be read again."""

@@ -20,12 +20,14 @@ class Place(NamedTuple):
     """Where a line is: the file, and the types of its fields.
 
     `source` is the name of the source, where one file is read for it; `types` are None for a file without a plan. Where
-    the file is a script of `live`, `script` has the types of the plan's sources by their names.
+    the file is a script, `script` has the types of the plan's sources by their names, and `checkpoint` is the file of the
+    checkpoint that it goes on from, if there is one.
     """
     file: str
     source: str = ""
     types: list | None = None
     script: dict | None = None
+    checkpoint: str = ""
 
 
 class Raw(NamedTuple):
@@ -169,14 +171,15 @@ class Judged:
         identity = line.identity
         if line.kind == b"+" and trace.inserted:
             raise LineFault(KNOWN_ID,
-                            f"Its ID, {identity}, was inserted before, by line {trace.inserted}. Each insertion has an "
+                            f"Its ID, {identity}, was inserted before, by {trace.inserted}. Each insertion has an "
                             "ID of its own, even where that event was withdrawn. A line "
                             f"`~,{identity},BEGIN,END,FIELD..` gives that event another begin, end and other fields.")
         if line.kind != b"+" and not trace.inserted:
             later = f" Line {trace.inserted_later} does: it must stand before." if trace.inserted_later else ""
+            also = " or that the checkpoint has" if self.place.checkpoint else ""
             raise LineFault(UNKNOWN_ID,
                             f"Its ID, {identity}, was inserted by no line before.{later} A line `-` or `~` names an "
-                            "event that a line `+` of the same file inserted.")
+                            f"event that a line `+` of the same file inserted{also}.")
         if line.kind == b"-" and not trace.begin <= line.end < trace.end:
             raise LineFault(BAD_END, self.bad_end(line, trace))
         if trace.sync_of(line) < trace.mark:
@@ -185,9 +188,9 @@ class Judged:
     def bad_end(self, line: Line, trace: Trace) -> str:
         identity, begin, end = line.identity, trace.begin, time_text(trace.end)
         if trace.begin == trace.end:
-            return (f"The event {identity} was withdrawn before, by line {trace.ended}. A line "
+            return (f"The event {identity} was withdrawn before, by {trace.ended}. A line "
                     f"`~,{identity},BEGIN,END,FIELD..` alone can bring it back.")
-        by = f"line {trace.version}" if trace.ended == trace.version else f"the lines {trace.version} and {trace.ended}"
+        by = trace.version if trace.ended == trace.version else f"{trace.version} and {trace.ended}"
         last = "any time" if end == "inf" else trace.end - 1
         told = (f"The event {identity} is valid from {begin} on and before {end} by {by}. A retraction makes an end "
                 f"earlier: its END must be from {begin}, which withdraws the event, to {last}.")
@@ -203,20 +206,22 @@ class Judged:
         elif line.kind == b"+" or sync == line.begin:
             why = "its BEGIN"
         else:
-            why = f"the begin that the event had by line {trace.version}"
+            why = f"the begin that the event had by {trace.version}"
         mark = time_text(trace.mark)
-        return (f"It changes something from {time_text(sync)} on, {why}, and line {trace.marked}, `=,{mark}`, "
+        return (f"It changes something from {time_text(sync)} on, {why}, and {trace.marked}, "
                 f"guarantees that no later line does so before {mark}. Such a line is best left out, or the guarantee "
                 f"comes later. {CORRECTING}")
 
 
 class Trace:
-    """What the lines before one say of its event and of the guarantee. Numbers of lines are 0 where there is none."""
+    """What the lines before one say of its event and of the guarantee, and which lines do. These are empty where none does."""
 
     def __init__(self, place: Place, source: str, before: int, identity: int) -> None:
         self.identity = identity
-        self.inserted = self.inserted_later = self.version = self.ended = self.marked = 0
-        self.begin = self.end = self.mark = 0
+        self.inserted = self.version = self.ended = self.marked = ""
+        self.begin = self.end = self.mark = self.inserted_later = 0
+        if place.checkpoint:
+            self.go_on(place.checkpoint, source.encode())
         name = source.encode() + b"," if place.script is not None else b""
         digits = b"%d" % identity
         for raw in lines_of(place.file, 1, FILE_BYTES):
@@ -237,20 +242,36 @@ class Trace:
             elif kind == b"+" and not self.inserted:
                 self.inserted_later = number
 
+    def go_on(self, file: str, source: bytes) -> None:
+        """Takes what a checkpoint says of the event and of the guarantee of its source."""
+        lines, is_its_own = [], False
+        if is_regular(file):
+            with open(file, "rb") as events:
+                lines = [line.rstrip(b"\n") for line in events]
+        for number, line in enumerate(lines, 1):
+            first, *fields = line.split(b",", 3)
+            if first == b"source":
+                is_its_own = fields[:1] == [source]
+                if is_its_own:
+                    self.mark, self.marked = number_of(fields[-1]), f"line {number} of `{file}`, `{shown(line, '')}`"
+            elif is_its_own and first == b"%d" % self.identity and len(fields) > 1:
+                self.begin, self.end = map(number_of, fields[:2])
+                self.inserted = self.version = self.ended = f"line {number} of `{file}`"
+
     def guarantee(self, number: int, time: int) -> None:
         if time > self.mark:
-            self.mark, self.marked = time, number
+            self.mark, self.marked = time, f"line {number}, `=,{time_text(time)}`"
 
     def event(self, number: int, kind: bytes, times: list) -> None:
         wanted = 1 if kind == b"-" else 2
         if len(times) < wanted or -1 in times[:wanted]:
             raise EarlierFault(number)
         if kind == b"-":
-            self.end, self.ended = times[0], number
+            self.end, self.ended = times[0], f"line {number}"
             return
-        self.inserted = self.inserted or number
+        self.inserted = self.inserted or f"line {number}"
         self.begin, self.end = times
-        self.version = self.ended = number
+        self.version = self.ended = f"line {number}"
 
     def sync_of(self, line: Line) -> int:
         """From which time on the line changes something."""

@@ -16,6 +16,8 @@ VERSIONS = (1, 2)
 # The faults of a plan by number.
 TOO_LONG, BAD_JSON, MISSING_PART, UNKNOWN_OP, TOO_MANY, BAD_NUMBER, BAD_LEVEL = range(1, 8)
 TWICE_NAMED, UNKNOWN_NODE, TOO_WIDE, BAD_COLUMN, TYPE_DIFFERS, NOT_ONE_OUTPUT, UNUSED = range(8, 15)
+# An accepted plan has this one for `save` and `resume`.
+UNSAVED = 15
 
 # What a fault is where more can't be said, since the plan can't be read again.
 FAULTS = {
@@ -33,6 +35,7 @@ FAULTS = {
     TYPE_DIFFERS: "Two types differ that must be the same, or a sum is over a text.",
     NOT_ONE_OUTPUT: "There is no output, or more than one.",
     UNUSED: "No node reads this one.",
+    UNSAVED: "A memory is finite, or a block is neither 0 nor without limit, so the plan can't be saved.",
 }
 
 

@@ -5,12 +5,16 @@ from typing import Callable, Iterator
 
 import cedr_explain.advice as advice
 from cedr_explain.json_text import Value
-from cedr_explain.language import operators_of
+from cedr_explain.language import UNSAVED, operators_of
 from cedr_explain.plan import Plan
 from cedr_explain.values import SIDES, Finding, right_side
 
 OF_DOCUMENT = ("version", "nodes", "edge")
 OF_LEVEL = ("block", "memory")
+# What a block and a memory must be so that a plan can be saved.
+UNSAVED_BOUNDS = [("memory", 'In a plan that is saved each memory is "inf".', ("inf",)),
+                  ("block", 'In a plan that is saved each block is 0 or "inf".', (0, "inf"))]
+WHY_UNSAVED = 'So it is for "middle" and "strong". docs/levels.md says in "What can be saved" why.'
 
 
 def of_plan(plan: Plan) -> Iterator[Finding]:
@@ -58,6 +62,19 @@ def unread(value: Value, known, label: str, why: Callable[[str], str] = lambda n
             near = advice.near(name, [other for other in known if other not in value.held])
             hint = f" Perhaps `{near}` is meant." if near else ""
             yield Finding(0, one.begin, f"The member `{name}` of {label} says nothing.{hint}{why(name)}")
+
+
+def unsaved(plan: Plan) -> tuple[int, list]:
+    """The number of the first node whose level keeps an accepted plan from being saved, and what of it does; or 0 and nothing."""
+    for number, node in enumerate([] if plan.fault else plan.nodes, 1):
+        level = node.member("level")
+        if plan.op_of(node) == "source" or level is None or type(level.held) is not dict:
+            continue
+        found = [Finding(UNSAVED, level.member(name).begin, f"The level's `{name}` is {level.member(name).held}. {right} {WHY_UNSAVED}")
+                 for name, right, may_be in UNSAVED_BOUNDS if level.member(name).held not in may_be]
+        if found:
+            return number, found
+    return 0, []
 
 
 def twice(value: Value, label: str) -> Iterator[Finding]:

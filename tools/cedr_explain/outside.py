@@ -11,7 +11,7 @@ import cedr_explain.advice as advice
 from cedr_explain.commands import Call
 from cedr_explain.plan import Plan
 
-WORDS = {"PLAN": "plan", "FILE": "event file", "SCRIPT": "script"}
+WORDS = {"PLAN": "plan", "FILE": "event file", "CHECKPOINT": "checkpoint", "SCRIPT": "script"}
 LIMITS = {resource.RLIMIT_AS: "ulimit -v", resource.RLIMIT_DATA: "ulimit -d"}
 
 

@@ -10,6 +10,7 @@ SAID_FOR_COMMANDS = {
     "help": "--help", "-h": "--help", "-help": "--help", "-?": "--help", "version": "--version", "-v": "--version",
     "-V": "--version", "exec": "run", "answer": "run", "execute": "run", "query": "run", "validate": "check",
     "test": "check", "lint": "check", "show": "history", "cat": "history", "watch": "stream", "tail": "stream",
+    "checkpoint": "save", "snapshot": "save", "store": "save", "restore": "resume", "continue": "resume", "load": "resume",
     "parallel": "pool", "threads": "pool", "bench": "make",
 }
 

@@ -21,11 +21,17 @@ cedr stream PLAN          cedr stream plan.json
     row that ends earlier, with its new end in front.
 cedr pool N PLAN          cedr pool 4 plan.json
     writes what run writes, with N threads for all nodes, N from 1 to 16, where run has one
-    for each node: for a plan of more nodes than the machine has processors.
+    for each node. It is no quicker than run, and takes no more threads than it is told.
 cedr live PLAN SCRIPT     cedr live plan.json script.txt
     reads no event file. Each line of the script is an event line after the name of its
     source and a comma, or ? alone, at which the rows so far are written, and then up to
     which time nothing changes any more.
+cedr save PLAN SCRIPT     cedr save plan.json day.txt > saved.txt
+    judges the script as live does, and writes the checkpoint to which it comes: for each
+    source its greatest guarantee, and each event as it is. A ? writes nothing.
+cedr resume PLAN CHECKPOINT SCRIPT  cedr resume plan.json saved.txt next_day.txt
+    writes what live writes for the script, behind all that the checkpoint was saved of.
+    A plan with a finite memory, or with a finite block other than 0, can't be saved.
 cedr serial PLAN          cedr serial plan.json
     writes what run writes, on one thread.
 cedr audit PLAN           cedr audit plan.json
@@ -50,7 +56,8 @@ An event file has lines of four kinds:
     =,TIME                    no later line changes anything before TIME
 
 Exit status: 0 done, 1 the command line matches no command, 2 the plan has a fault,
-3 the events have a fault, 4 a read fault, 5 a write fault, 6 out of memory.
+3 the events have a fault, 4 a read fault, 5 a write fault, 6 out of memory, 7 what resume
+was given is no checkpoint of the plan.
 
 The faults of a line, of which the least is reported:
      1 the line is too long
@@ -79,6 +86,7 @@ The faults of a plan, of which the first is reported:
     12 types differ
     13 there isn't exactly one output
     14 a node is never used
+    15 a level can't be saved, for save and resume alone
 ";
 
 const VERSION: &str = "cedr 0.1.0\n";

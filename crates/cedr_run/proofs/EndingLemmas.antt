@@ -1,5 +1,5 @@
 -- How a command ends, from how its steps went.
-use Rattle.std.proofs.Common.{◌≡◌, ◌≢◌, ℕ, suc, Bool, ◌<◌, ◌⊎◌, inl, inr, List, [], ◌∷◌, ◌++◌, take, Option, None, Some, Result, Ok, Err, refl, sym, ap, ◌∙◌, subst, rules, tests, false}
+use Rattle.std.proofs.Common.{◌≡◌, ◌≢◌, ℕ, zero, suc, Bool, ◌<◌, ◌⊎◌, inl, inr, List, [], ◌∷◌, ◌++◌, take, Option, None, Some, Result, Ok, Err, refl, sym, ap, ◌∙◌, subst, rules, tests, false}
 use Rattle.std.specs.Prelude.{IfSome, OnOk, OnErr}
 use Rattle.std.specs.Io.KnownBytes.{Appends, Keeps}
 use Rattle.std.proofs.lemmas.List.{append-nil, append_assoc}
@@ -16,7 +16,7 @@ use Rattle.plan_serial.specs.Rounds.{ByLine, all_messages}
 use Rattle.plan_serial.specs.Feeding.{AnswersInRounds}
 use Rattle.plan_serial.specs.Sources.{AreReadByLine}
 use Rattle.cedr_run.specs.declared.command.Job.{Job}
-use Rattle.cedr_run.specs.declared.command.Job.TheVariants.{History, Check, Serial, Run, Pool, Stream, Audit, Live, Make}
+use Rattle.cedr_run.specs.declared.command.Job.TheVariants.{History, Check, Serial, Run, Pool, Stream, Audit, Live, Make, Save, Resume}
 use Rattle.cedr_run.specs.declared.outcome.Outcome.{Outcome}
 use Rattle.cedr_run.specs.declared.outcome.Outcome.TheVariants as outcome
 use Rattle.cedr_run.specs.declared.status.Status.{Status}
@@ -63,6 +63,8 @@ ends_written command files files' out out' outcome.OutOfMemory text h same gives
 ends_written command files files' out out' outcome.Usage text h same gives begins = absurd h
 ends_written command files files' out out' (outcome.Events said) text h same gives begins = absurd h
 ends_written command files files' out out' (outcome.BadPlan kind node) text h same gives begins = absurd h
+ends_written command files files' out out' (outcome.Unsaved node) text h same gives begins = absurd h
+ends_written command files files' out out' (outcome.BadCheckpoint line) text h same gives begins = absurd h
 ends_written command files files' out out' outcome.Read text h same gives begins = absurd h
 
 -- ---- something isn't accepted, and nothing was written
@@ -72,11 +74,13 @@ pub ends_said : (command : Command) (files files' : FilesSeen) (out : SinkSeen) 
     → ((told : List ℕ → List ℕ) (said : List ℕ) → said ≡ text → AreTold files.content told (named_files command) → Refuses files.content told command [] said)
     → CommandEnds command files files' out out o
 ends_said command files files' out (outcome.Events said) text h same refuses =
-    (record { files_count = same; out_count = refl }, (λ live stream. kept_itself out.written), λ told is. ([], refuses told said.items h is, nothing_appends out.written))
+    (record { files_count = same; out_count = refl }, (λ live stream resume. kept_itself out.written), λ told is. ([], refuses told said.items h is, nothing_appends out.written))
 ends_said command files files' out outcome.OutOfMemory text h same refuses = inl (kept_itself out.written)
 ends_said command files files' out outcome.Done text h same refuses = absurd h
 ends_said command files files' out outcome.Usage text h same refuses = absurd h
 ends_said command files files' out (outcome.BadPlan kind node) text h same refuses = absurd h
+ends_said command files files' out (outcome.Unsaved node) text h same refuses = absurd h
+ends_said command files files' out (outcome.BadCheckpoint line) text h same refuses = absurd h
 ends_said command files files' out outcome.Read text h same refuses = absurd h
 ends_said command files files' out outcome.Write text h same refuses = absurd h
 
@@ -101,6 +105,8 @@ ends_no_plan command files files' out (outcome.BadPlan kind node) h same refuses
 ends_no_plan command files files' out outcome.Read h rose refuses = (rose, refl, inl (kept_itself out.written))
 ends_no_plan command files files' out outcome.OutOfMemory h same refuses = inl (kept_itself out.written)
 ends_no_plan command files files' out (outcome.Events said) h same refuses = absurd h
+ends_no_plan command files files' out (outcome.Unsaved node) h same refuses = absurd h
+ends_no_plan command files files' out (outcome.BadCheckpoint line) h same refuses = absurd h
 ends_no_plan command files files' out outcome.Done h same refuses = absurd h
 ends_no_plan command files files' out outcome.Usage h same refuses = absurd h
 ends_no_plan command files files' out outcome.Write h same refuses = absurd h
@@ -114,6 +120,17 @@ asks_none asked = record { count = 0; added = sym (append-nil asked) }
 -- of some names the first one was asked for
 pub asks_one : (old new : List (List ℕ)) (name : List ℕ) (names : List (List ℕ)) → new ≡ old ++ name ∷ [] → AsksFirst old new (name ∷ names)
 asks_one old new name names is = record { count = 1; added = is }
+
+none_taken : (count : ℕ) → ◌≡◌ {A = List (List ℕ)} (take count []) []
+none_taken zero = refl
+none_taken (suc count) = refl
+
+-- of some names the first one was asked for at most
+pub asks_few : (old new : List (List ℕ)) (name : List ℕ) (names : List (List ℕ)) → AsksFirst old new (name ∷ []) → AsksFirst old new (name ∷ names)
+asks_few old new name names asks = by_count asks.count asks.added where
+  by_count : (count : ℕ) → new ≡ old ++ take count (name ∷ []) → AsksFirst old new (name ∷ names)
+  by_count zero added = record { count = 0; added = added }
+  by_count (suc count) added = record { count = 1; added = added ∙ ap (λ (more : List (List ℕ)). old ++ name ∷ more) (none_taken count) }
 
 -- of some names the first one was asked for, and then first ones of the others
 pub asks_more : (old now new : List (List ℕ)) (name : List ℕ) (names : List (List ℕ)) → now ≡ old ++ name ∷ [] → AsksFirst now new names → AsksFirst old new (name ∷ names)
@@ -140,40 +157,42 @@ by_job P History reads serial run pool audit stream = absurd reads
 by_job P Check reads serial run pool audit stream = absurd reads
 by_job P Live reads serial run pool audit stream = absurd reads
 by_job P (Make n) reads serial run pool audit stream = absurd reads
+by_job P Save reads serial run pool audit stream = absurd reads
+by_job P Resume reads serial run pool audit stream = absurd reads
 
-pub named_one : (job : Job) (content : List ℕ → Option (List ℕ)) (told : List ℕ → List ℕ) (file script : List ℕ) → ReadsSources job → AreTold content told (named_files (record { job = job; file = file; script = script })) → AreTold content told (file ∷ [])
-named_one job content told file script reads =
-    by_job (λ (job : Job). AreTold content told (named_files (record { job = job; file = file; script = script })) → AreTold content told (file ∷ [])) job reads (λ h. h) (λ h. h) (λ n h. h) (λ h. h) (λ h. h)
+pub named_one : (job : Job) (content : List ℕ → Option (List ℕ)) (told : List ℕ → List ℕ) (file checkpoint script : List ℕ) → ReadsSources job → AreTold content told (named_files (record { job = job; file = file; checkpoint = checkpoint; script = script })) → AreTold content told (file ∷ [])
+named_one job content told file checkpoint script reads =
+    by_job (λ (job : Job). AreTold content told (named_files (record { job = job; file = file; checkpoint = checkpoint; script = script })) → AreTold content told (file ∷ [])) job reads (λ h. h) (λ h. h) (λ n h. h) (λ h. h) (λ h. h)
 
-no_plan_of : (job : Job) (told : List ℕ → List ℕ) (file script : List ℕ) (kind : PlanKind) (node : ℕ) → ReadsSources job → IsNoPlan (told file) kind node → RefusesPlan told (record { job = job; file = file; script = script }) kind node
-no_plan_of job told file script kind node reads h = by_job (λ (job : Job). RefusesPlan told (record { job = job; file = file; script = script }) kind node) job reads h h (λ n. h) h h
+no_plan_of : (job : Job) (told : List ℕ → List ℕ) (file checkpoint script : List ℕ) (kind : PlanKind) (node : ℕ) → ReadsSources job → IsNoPlan (told file) kind node → RefusesPlan told (record { job = job; file = file; checkpoint = checkpoint; script = script }) kind node
+no_plan_of job told file checkpoint script kind node reads h = by_job (λ (job : Job). RefusesPlan told (record { job = job; file = file; checkpoint = checkpoint; script = script }) kind node) job reads h h (λ n. h) h h
 
-pub refuses_of : (job : Job) (content : List ℕ → Option (List ℕ)) (told : List ℕ → List ℕ) (file script said : List ℕ) → ReadsSources job → OfPlan content told file (λ nodes. RefusesSources told nodes said) → Refuses content told (record { job = job; file = file; script = script }) [] said
-refuses_of job content told file script said reads h = by_job (λ (job : Job). Refuses content told (record { job = job; file = file; script = script }) [] said) job reads (refl, h) (refl, h) (λ n. (refl, h)) (refl, h) (record { nodes = h.nodes; plan = h.plan; holding = λ known. (h.holding known, inl refl) })
+pub refuses_of : (job : Job) (content : List ℕ → Option (List ℕ)) (told : List ℕ → List ℕ) (file checkpoint script said : List ℕ) → ReadsSources job → OfPlan content told file (λ nodes. RefusesSources told nodes said) → Refuses content told (record { job = job; file = file; checkpoint = checkpoint; script = script }) [] said
+refuses_of job content told file checkpoint script said reads h = by_job (λ (job : Job). Refuses content told (record { job = job; file = file; checkpoint = checkpoint; script = script }) [] said) job reads (refl, h) (refl, h) (λ n. (refl, h)) (refl, h) (record { nodes = h.nodes; plan = h.plan; holding = λ known. (h.holding known, inl refl) })
 
-pub gives_of : (job : Job) (content : List ℕ → Option (List ℕ)) (told : List ℕ → List ℕ) (file script text : List ℕ) → ReadsSources job → OfPlan content told file (λ nodes. GivesPlan job told nodes text) → Gives content told (record { job = job; file = file; script = script }) text
-gives_of job content told file script text reads =
-    by_job (λ (job : Job). OfPlan content told file (λ nodes. GivesPlan job told nodes text) → Gives content told (record { job = job; file = file; script = script }) text) job reads (λ h. h) (λ h. h) (λ n h. h) (λ h. h) (λ h. h)
+pub gives_of : (job : Job) (content : List ℕ → Option (List ℕ)) (told : List ℕ → List ℕ) (file checkpoint script text : List ℕ) → ReadsSources job → OfPlan content told file (λ nodes. GivesPlan job told nodes text) → Gives content told (record { job = job; file = file; checkpoint = checkpoint; script = script }) text
+gives_of job content told file checkpoint script text reads =
+    by_job (λ (job : Job). OfPlan content told file (λ nodes. GivesPlan job told nodes text) → Gives content told (record { job = job; file = file; checkpoint = checkpoint; script = script }) text) job reads (λ h. h) (λ h. h) (λ n h. h) (λ h. h) (λ h. h)
 
-pub begins_of : (job : Job) (content : List ℕ → Option (List ℕ)) (told : List ℕ → List ℕ) (file script text : List ℕ) → ReadsSources job → OfPlan content told file (λ nodes. BeginsPlan job told nodes text) → Begins content told (record { job = job; file = file; script = script }) text
-begins_of job content told file script text reads =
-    by_job (λ (job : Job). OfPlan content told file (λ nodes. BeginsPlan job told nodes text) → Begins content told (record { job = job; file = file; script = script }) text) job reads (λ h. h) (λ h. h) (λ n h. h) (λ h. h) (λ h. h)
+pub begins_of : (job : Job) (content : List ℕ → Option (List ℕ)) (told : List ℕ → List ℕ) (file checkpoint script text : List ℕ) → ReadsSources job → OfPlan content told file (λ nodes. BeginsPlan job told nodes text) → Begins content told (record { job = job; file = file; checkpoint = checkpoint; script = script }) text
+begins_of job content told file checkpoint script text reads =
+    by_job (λ (job : Job). OfPlan content told file (λ nodes. BeginsPlan job told nodes text) → Begins content told (record { job = job; file = file; checkpoint = checkpoint; script = script }) text) job reads (λ h. h) (λ h. h) (λ n h. h) (λ h. h) (λ h. h)
 
 -- a command that reads sources may have asked for its plan alone, or for nothing
-pub plan_asked : (job : Job) (files files' : FilesSeen) (file script : List ℕ) → ReadsSources job → AsksFirst files.asked files'.asked (file ∷ []) → AsksOnly (record { job = job; file = file; script = script }) files files'
-plan_asked job files files' file script reads h = by_job (λ (job : Job). AsksOnly (record { job = job; file = file; script = script }) files files') job reads (inl h) (inl h) (λ n. inl h) (inl h) (inl h)
+pub plan_asked : (job : Job) (files files' : FilesSeen) (file checkpoint script : List ℕ) → ReadsSources job → AsksFirst files.asked files'.asked (file ∷ []) → AsksOnly (record { job = job; file = file; checkpoint = checkpoint; script = script }) files files'
+plan_asked job files files' file checkpoint script reads h = by_job (λ (job : Job). AsksOnly (record { job = job; file = file; checkpoint = checkpoint; script = script }) files files') job reads (inl h) (inl h) (λ n. inl h) (inl h) (inl h)
 
-asks_plan : (job : Job) (files files' : FilesSeen) (file script : List ℕ) → ReadsSources job → AsksPlan files files' file → AsksOnly (record { job = job; file = file; script = script }) files files'
-asks_plan job files files' file script reads h = by_job (λ (job : Job). AsksOnly (record { job = job; file = file; script = script }) files files') job reads (inr h) (inr h) (λ n. inr h) (inr h) (inr h)
+asks_plan : (job : Job) (files files' : FilesSeen) (file checkpoint script : List ℕ) → ReadsSources job → AsksPlan files files' file → AsksOnly (record { job = job; file = file; checkpoint = checkpoint; script = script }) files files'
+asks_plan job files files' file checkpoint script reads h = by_job (λ (job : Job). AsksOnly (record { job = job; file = file; checkpoint = checkpoint; script = script }) files files') job reads (inr h) (inr h) (λ n. inr h) (inr h) (inr h)
 
 -- what accepted sources have
 abbrev pub AcceptedLeft : (List ℕ → List ℕ) → List PlanNode → Lists → Type 0
 AcceptedLeft told nodes left = (histories : Tables) × AreAcceptedSources told (source_nodes nodes) (sources_in nodes left) histories × AllWhole (source_count nodes) (sources_in nodes left) × AreTables (sources_in nodes left) histories
 
 -- no plan was opened
-pub sources_no_plan : (job : Job) (file script : List ℕ) (files files' : FilesSeen) (out : SinkSeen) (o : Outcome) → ReadsSources job → OpensPlan (Err o) (files.content file) → CountsStep {T = Plan} (Err o) files.faults files'.faults
-    → CommandEnds (record { job = job; file = file; script = script }) files files' out out o
-sources_no_plan job file script files files' out o reads h counts = ends_no_plan (record { job = job; file = file; script = script }) files files' out o h counts (λ told kind node no. no_plan_of job told file script kind node reads no)
+pub sources_no_plan : (job : Job) (file checkpoint script : List ℕ) (files files' : FilesSeen) (out : SinkSeen) (o : Outcome) → ReadsSources job → OpensPlan (Err o) (files.content file) → CountsStep {T = Plan} (Err o) files.faults files'.faults
+    → CommandEnds (record { job = job; file = file; checkpoint = checkpoint; script = script }) files files' out out o
+sources_no_plan job file checkpoint script files files' out o reads h counts = ends_no_plan (record { job = job; file = file; checkpoint = checkpoint; script = script }) files files' out o h counts (λ told kind node no. no_plan_of job told file checkpoint script kind node reads no)
 
 -- a plan was opened
 pub IsOpened : FilesSeen → List ℕ → List PlanNode → Type 0
@@ -197,27 +216,29 @@ are_opened files files' file nodes left opened same read = record { plan = opene
 
 -- a command that reads the sources of an opened plan may have asked for the plan and their files, each once
 -- and in this order, or for the first ones of these
-pub sources_asked : (job : Job) (files files' : FilesSeen) (file script : List ℕ) (nodes : List PlanNode) → ReadsSources job → IsOpened files file nodes → AsksFirst files.asked files'.asked (file ∷ source_files nodes) → AsksOnly (record { job = job; file = file; script = script }) files files'
+pub sources_asked : (job : Job) (files files' : FilesSeen) (file checkpoint script : List ℕ) (nodes : List PlanNode) → ReadsSources job → IsOpened files file nodes → AsksFirst files.asked files'.asked (file ∷ source_files nodes) → AsksOnly (record { job = job; file = file; checkpoint = checkpoint; script = script }) files files'
 unfolding IsOpened
-sources_asked job files files' file script nodes reads opened asked = asks_plan job files files' file script reads (record { nodes = nodes; plan = opened; asked = asked })
+sources_asked job files files' file checkpoint script nodes reads opened asked = asks_plan job files files' file checkpoint script reads (record { nodes = nodes; plan = opened; asked = asked })
 
 -- its sources weren't
-pub sources_stopped : (T : Type 0) (job : Job) (file script : List ℕ) (files files' : FilesSeen) (out : SinkSeen) (o : Outcome) (nodes : List PlanNode) → ReadsSources job → IsOpened files file nodes
+pub sources_stopped : (T : Type 0) (job : Job) (file checkpoint script : List ℕ) (files files' : FilesSeen) (out : SinkSeen) (o : Outcome) (nodes : List PlanNode) → ReadsSources job → IsOpened files file nodes
     → StopsSources {T = T} (Err o) → CountsStep {T = T} (Err o) files.faults files'.faults
     → ((told : List ℕ → List ℕ) → AreTold files.content told (source_files nodes) → OpensSources (Err o) told nodes)
-    → CommandEnds (record { job = job; file = file; script = script }) files files' out out o
+    → CommandEnds (record { job = job; file = file; checkpoint = checkpoint; script = script }) files files' out out o
 unfolding IsOpened
-sources_stopped T job file script files files' out (outcome.Events said) nodes reads opened stops counts refuses = (
+sources_stopped T job file checkpoint script files files' out (outcome.Events said) nodes reads opened stops counts refuses = (
   record { files_count = counts; out_count = refl },
-  (λ live stream. kept_itself out.written),
-  λ told is. ([], refuses_of job files.content told file script said.items reads (record { nodes = nodes; plan = opened told (named_one job files.content told file script reads is); holding = λ all. refuses told all }), nothing_appends out.written),
+  (λ live stream resume. kept_itself out.written),
+  λ told is. ([], refuses_of job files.content told file checkpoint script said.items reads (record { nodes = nodes; plan = opened told (named_one job files.content told file checkpoint script reads is); holding = λ all. refuses told all }), nothing_appends out.written),
 )
-sources_stopped T job file script files files' out outcome.Read nodes reads opened stops counts refuses = (counts, refl, inl (kept_itself out.written))
-sources_stopped T job file script files files' out outcome.OutOfMemory nodes reads opened stops counts refuses = inl (kept_itself out.written)
-sources_stopped T job file script files files' out (outcome.BadPlan kind node) nodes reads opened stops counts refuses = absurd stops
-sources_stopped T job file script files files' out outcome.Done nodes reads opened stops counts refuses = absurd stops
-sources_stopped T job file script files files' out outcome.Usage nodes reads opened stops counts refuses = absurd stops
-sources_stopped T job file script files files' out outcome.Write nodes reads opened stops counts refuses = absurd stops
+sources_stopped T job file checkpoint script files files' out outcome.Read nodes reads opened stops counts refuses = (counts, refl, inl (kept_itself out.written))
+sources_stopped T job file checkpoint script files files' out outcome.OutOfMemory nodes reads opened stops counts refuses = inl (kept_itself out.written)
+sources_stopped T job file checkpoint script files files' out (outcome.BadPlan kind node) nodes reads opened stops counts refuses = absurd stops
+sources_stopped T job file checkpoint script files files' out (outcome.Unsaved node) nodes reads opened stops counts refuses = absurd stops
+sources_stopped T job file checkpoint script files files' out (outcome.BadCheckpoint line) nodes reads opened stops counts refuses = absurd stops
+sources_stopped T job file checkpoint script files files' out outcome.Done nodes reads opened stops counts refuses = absurd stops
+sources_stopped T job file checkpoint script files files' out outcome.Usage nodes reads opened stops counts refuses = absurd stops
+sources_stopped T job file checkpoint script files files' out outcome.Write nodes reads opened stops counts refuses = absurd stops
 
 -- they were: a text was written, or begun
 pub ends_text : (texts : Texts) (nodes : List PlanNode) (left : ByLine) (out out' : SinkSeen) (o : Outcome) (text : List ℕ) → WritesText o out out' text → ((told : List ℕ → List ℕ) → AreReadByLine told nodes left [] → texts told nodes text)
@@ -228,6 +249,8 @@ ends_text texts nodes left out out' outcome.OutOfMemory text h gives = inr (reco
 ends_text texts nodes left out out' outcome.Usage text h gives = absurd h
 ends_text texts nodes left out out' (outcome.Events said) text h gives = absurd h
 ends_text texts nodes left out out' (outcome.BadPlan kind node) text h gives = absurd h
+ends_text texts nodes left out out' (outcome.Unsaved node) text h gives = absurd h
+ends_text texts nodes left out out' (outcome.BadCheckpoint line) text h gives = absurd h
 ends_text texts nodes left out out' outcome.Read text h gives = absurd h
 
 -- where the sources are accepted, the text of an answer over their canonical histories answers the query
@@ -247,6 +270,8 @@ ends_weaker texts others less nodes left out out' outcome.OutOfMemory (inr h) = 
 ends_weaker texts others less nodes left out out' outcome.Usage h = absurd h
 ends_weaker texts others less nodes left out out' (outcome.Events said) h = absurd h
 ends_weaker texts others less nodes left out out' (outcome.BadPlan kind node) h = absurd h
+ends_weaker texts others less nodes left out out' (outcome.Unsaved node) h = absurd h
+ends_weaker texts others less nodes left out out' (outcome.BadCheckpoint line) h = absurd h
 ends_weaker texts others less nodes left out out' outcome.Read h = absurd h
 
 -- what came in rounds is what `serial` gives, and so what `run` and `pool` may give
@@ -260,25 +285,29 @@ ends_in_turns History reads other unasked nodes left out out' o h = absurd reads
 ends_in_turns Check reads other unasked nodes left out out' o h = absurd reads
 ends_in_turns Live reads other unasked nodes left out out' o h = absurd reads
 ends_in_turns (Make n) reads other unasked nodes left out out' o h = absurd reads
+ends_in_turns Save reads other unasked nodes left out out' o h = absurd reads
+ends_in_turns Resume reads other unasked nodes left out out' o h = absurd reads
 
 -- they were, and what the command gives of them was written, or was begun
-pub sources_given : (job : Job) (file script : List ℕ) (files files' : FilesSeen) (out out' : SinkSeen) (o : Outcome) (nodes : List PlanNode) (left : ByLine) → ReadsSources job → AreOpened files files' file nodes left → EndsSources job nodes left out out' o
-    → CommandEnds (record { job = job; file = file; script = script }) files files' out out' o
-sources_given job file script files files' out out' outcome.Done nodes left reads opened h = (
+pub sources_given : (job : Job) (file checkpoint script : List ℕ) (files files' : FilesSeen) (out out' : SinkSeen) (o : Outcome) (nodes : List PlanNode) (left : ByLine) → ReadsSources job → AreOpened files files' file nodes left → EndsSources job nodes left out out' o
+    → CommandEnds (record { job = job; file = file; checkpoint = checkpoint; script = script }) files files' out out' o
+sources_given job file checkpoint script files files' out out' outcome.Done nodes left reads opened h = (
   record { files_count = opened.faults; out_count = h.0 },
-  λ told is. (h.1.text, gives_of job files.content told file script h.1.text reads (record { nodes = nodes; plan = opened.plan told (named_one job files.content told file script reads is); holding = λ all. h.1.gives told (opened.sources told all) }), h.1.wrote),
+  λ told is. (h.1.text, gives_of job files.content told file checkpoint script h.1.text reads (record { nodes = nodes; plan = opened.plan told (named_one job files.content told file checkpoint script reads is); holding = λ all. h.1.gives told (opened.sources told all) }), h.1.wrote),
 )
-sources_given job file script files files' out out' outcome.Write nodes left reads opened h = (
+sources_given job file checkpoint script files files' out out' outcome.Write nodes left reads opened h = (
   h.0,
-  λ told is. (h.1.text, begins_of job files.content told file script h.1.text reads (record { nodes = nodes; plan = opened.plan told (named_one job files.content told file script reads is); holding = λ all. h.1.begins told (opened.sources told all) }), h.1.wrote),
+  λ told is. (h.1.text, begins_of job files.content told file checkpoint script h.1.text reads (record { nodes = nodes; plan = opened.plan told (named_one job files.content told file checkpoint script reads is); holding = λ all. h.1.begins told (opened.sources told all) }), h.1.wrote),
 )
-sources_given job file script files files' out out' outcome.OutOfMemory nodes left reads opened (inl keeps) = inl keeps
-sources_given job file script files files' out out' outcome.OutOfMemory nodes left reads opened (inr h) =
-    inr (λ told is. (h.text, begins_of job files.content told file script h.text reads (record { nodes = nodes; plan = opened.plan told (named_one job files.content told file script reads is); holding = λ all. h.begins told (opened.sources told all) }), h.wrote))
-sources_given job file script files files' out out' outcome.Usage nodes left reads opened h = absurd h
-sources_given job file script files files' out out' (outcome.Events said) nodes left reads opened h = absurd h
-sources_given job file script files files' out out' (outcome.BadPlan kind node) nodes left reads opened h = absurd h
-sources_given job file script files files' out out' outcome.Read nodes left reads opened h = absurd h
+sources_given job file checkpoint script files files' out out' outcome.OutOfMemory nodes left reads opened (inl keeps) = inl keeps
+sources_given job file checkpoint script files files' out out' outcome.OutOfMemory nodes left reads opened (inr h) =
+    inr (λ told is. (h.text, begins_of job files.content told file checkpoint script h.text reads (record { nodes = nodes; plan = opened.plan told (named_one job files.content told file checkpoint script reads is); holding = λ all. h.begins told (opened.sources told all) }), h.wrote))
+sources_given job file checkpoint script files files' out out' outcome.Usage nodes left reads opened h = absurd h
+sources_given job file checkpoint script files files' out out' (outcome.Events said) nodes left reads opened h = absurd h
+sources_given job file checkpoint script files files' out out' (outcome.BadPlan kind node) nodes left reads opened h = absurd h
+sources_given job file checkpoint script files files' out out' (outcome.Unsaved node) nodes left reads opened h = absurd h
+sources_given job file checkpoint script files files' out out' (outcome.BadCheckpoint line) nodes left reads opened h = absurd h
+sources_given job file checkpoint script files files' out out' outcome.Read nodes left reads opened h = absurd h
 
 -- ---- what err gains where memory ran out
 

@@ -18,7 +18,7 @@ use Rattle.cedr_guard.specs.declared.refusal.Refusal.{Refusal}
 use Rattle.cedr_guard.specs.declared.refusal.TheConstants.{FILE_LIMIT}
 use Rattle.cedr_guard.specs.Sources.{with_reading, line_reading, Judged, go_on, judged_behind, judged_lines, judged_front, whole_lines, unfinished_line, first_refusal, limit_fault, judged}
 use Rattle.cedr_run.specs.declared.events.Events.{Events}
-use Rattle.plan_live.specs.Scripts.{played, played_front, played_lines}
+use Rattle.plan_live.specs.Scripts.{Accepted, played_behind, front_after, played_after}
 use Rattle.cedr_plan.specs.declared.plan.PlanNode.{PlanNode}
 use Rattle.cedr_text.specs.declared.event_line.Shape.{Shape}
 use Rattle.cedr_guard.specs.History.{history_of}
@@ -169,22 +169,22 @@ plan_of_front all front read = front_plan all front (nat_lt longest (length fron
 
 -- ---- a script over the limit
 
-played_at : (nodes : List PlanNode) (shapes : List Shape) (all front : List ℕ) (long_front long_all : Bool) → nat_lt FILE_LIMIT (length front) ≡ long_front → nat_lt FILE_LIMIT (length all) ≡ long_all → IsFileFront FILE_LIMIT all front
-    → played nodes shapes front ≡ played nodes shapes all
-played_at nodes shapes all front false long_all is_front is_all read =
+played_at : (nodes : List PlanNode) (shapes : List Shape) (before : Accepted) (all front : List ℕ) (long_front long_all : Bool) → nat_lt FILE_LIMIT (length front) ≡ long_front → nat_lt FILE_LIMIT (length all) ≡ long_all → IsFileFront FILE_LIMIT all front
+    → played_after nodes shapes before front ≡ played_after nodes shapes before all
+played_at nodes shapes before all front false long_all is_front is_all read =
     let nothing = read.whole (ltb-false FILE_LIMIT (length front) is_front) in
-    ap (played nodes shapes) (sym (read.begins ∙ (ap (λ rest. front ++ rest) nothing ∙ append-nil front)))
-played_at nodes shapes all front true true is_front is_all read =
+    ap (played_after nodes shapes before) (sym (read.begins ∙ (ap (λ rest. front ++ rest) nothing ∙ append-nil front)))
+played_at nodes shapes before all front true true is_front is_all read =
     let same = take-append-le FILE_LIMIT front read.rest (omega (arith, ltb-true FILE_LIMIT (length front) is_front)) in
-    ap (λ long. cond long (played_front nodes shapes (parts_of line_feed (take FILE_LIMIT front))) (played_lines nodes shapes (raw_lines front))) is_front
-    ∙ (ap (λ bytes. played_front nodes shapes (parts_of line_feed bytes)) (sym same ∙ ap (take FILE_LIMIT) (sym read.begins))
-    ∙ sym (ap (λ long. cond long (played_front nodes shapes (parts_of line_feed (take FILE_LIMIT all))) (played_lines nodes shapes (raw_lines all))) is_all))
-played_at nodes shapes all front true false is_front is_all read =
+    ap (λ long. cond long (front_after nodes shapes before (parts_of line_feed (take FILE_LIMIT front))) (played_behind nodes shapes 0 before (raw_lines front))) is_front
+    ∙ (ap (λ bytes. front_after nodes shapes before (parts_of line_feed bytes)) (sym same ∙ ap (take FILE_LIMIT) (sym read.begins))
+    ∙ sym (ap (λ long. cond long (front_after nodes shapes before (parts_of line_feed (take FILE_LIMIT all))) (played_behind nodes shapes 0 before (raw_lines all))) is_all))
+played_at nodes shapes before all front true false is_front is_all read =
     absurd (omega (arith, ltb-true FILE_LIMIT (length front) is_front, ltb-false FILE_LIMIT (length all) is_all, ap length read.begins, length-append front read.rest))
 
--- what was read of a script, all of it unless it passes the limit, is played as the script is
-pub played_of_front : (nodes : List PlanNode) (shapes : List Shape) (all front : List ℕ) → IsFileFront FILE_LIMIT all front → played nodes shapes front ≡ played nodes shapes all
-played_of_front nodes shapes all front read = played_at nodes shapes all front (nat_lt FILE_LIMIT (length front)) (nat_lt FILE_LIMIT (length all)) refl refl read
+-- what was read of a script, all of it unless it passes the limit, is played behind accepted lines as the script is
+pub played_of_front : (nodes : List PlanNode) (shapes : List Shape) (before : Accepted) (all front : List ℕ) → IsFileFront FILE_LIMIT all front → played_after nodes shapes before front ≡ played_after nodes shapes before all
+played_of_front nodes shapes before all front read = played_at nodes shapes before all front (nat_lt FILE_LIMIT (length front)) (nat_lt FILE_LIMIT (length all)) refl refl read
 
 -- ---- a file of which it is known what it holds
 
@@ -214,5 +214,7 @@ pub fault_found : (bytes : List ℕ) (fault : PlanFault) (kind : PlanKind) (node
 fault_found bytes fault kind node is h = subst (IsFaultOf bytes) is h
 
 -- a script of which a front was played is played so as a whole, where it is known what its file holds
-pub played_known : (content : Option (List ℕ)) (bytes front seen : List ℕ) (nodes : List PlanNode) (shapes : List Shape) → content ≡ Some bytes → IfSome content (λ all. IsFileFront FILE_LIMIT all front) → seen ≡ front → played nodes shapes seen ≡ played nodes shapes bytes
-played_known content bytes front seen nodes shapes is read same = played_of_front nodes shapes bytes seen (subst (IsFileFront FILE_LIMIT bytes) (sym same) (known_front FILE_LIMIT content bytes front is read))
+pub played_known : (content : Option (List ℕ)) (bytes front seen : List ℕ) (nodes : List PlanNode) (shapes : List Shape) (before : Accepted) → content ≡ Some bytes → IfSome content (λ all. IsFileFront FILE_LIMIT all front) → seen ≡ front
+    → played_after nodes shapes before seen ≡ played_after nodes shapes before bytes
+played_known content bytes front seen nodes shapes before is read same =
+    played_of_front nodes shapes before bytes seen (subst (IsFileFront FILE_LIMIT bytes) (sym same) (known_front FILE_LIMIT content bytes front is read))

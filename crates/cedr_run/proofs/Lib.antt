@@ -4,6 +4,7 @@ pub mod FileLemmas
 pub mod SayingLemmas
 pub mod EndingLemmas
 pub mod ScriptLemmas
+pub mod ResumeLemmas
 pub mod MakeLemmas
 pub mod FaultLemmas
 pub mod RunLemmas

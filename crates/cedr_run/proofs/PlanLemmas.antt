@@ -8,7 +8,7 @@ use Rattle.plan_answer.specs.Sources.{AreTold, AsksFirst, source_files}
 use Rattle.plan_edges.specs.Wires.{carried, ports_of}
 use Rattle.cedr_worker.specs.declared.ran.Ran.{Ran}
 use Rattle.cedr_run.specs.declared.command.Job.{Job}
-use Rattle.cedr_run.specs.declared.command.Job.TheVariants.{History, Check, Serial, Run, Pool, Stream, Audit, Live, Make}
+use Rattle.cedr_run.specs.declared.command.Job.TheVariants.{History, Check, Serial, Run, Pool, Stream, Audit, Live, Make, Save, Resume}
 use Rattle.cedr_run.specs.declared.outcome.Outcome.{Outcome}
 use Rattle.cedr_run.specs.declared.outcome.Outcome.TheVariants as outcome
 use Rattle.cedr_run.specs.declared.status.Status.{Status}
@@ -63,6 +63,8 @@ by_threaded P Serial is run pool stream = absurd is
 by_threaded P Audit is run pool stream = absurd is
 by_threaded P Live is run pool stream = absurd is
 by_threaded P (Make n) is run pool stream = absurd is
+by_threaded P Save is run pool stream = absurd is
+by_threaded P Resume is run pool stream = absurd is
 
 -- what is written at the end of a run is what a command answers that isn't `stream`
 pub answers_at_end : (job : Job) → IsThreaded job → job ≢ Stream → (told : List ℕ → List ℕ) (nodes : List PlanNode) (edges : List Carried) (ran : List Ran) (text : List ℕ) → AnswersRun told nodes edges ran text → AnswersBy job told nodes edges ran text × BeginsBy job told nodes edges ran text
@@ -82,9 +84,9 @@ pub reads_by : (job : Job) → IsThreaded job → ReadsSources job
 reads_by job is = by_threaded ReadsSources job is tt (λ n. tt) tt
 
 -- nothing was written, where the rows are written at the end
-silent_as : (job : Job) (content : Contents) (nodes : List PlanNode) (out out' : SinkSeen) → IsSilentBy job content nodes out out' → job ≢ Live → job ≢ Stream → Keeps out.written out'.written
-silent_as job content nodes out out' (inl keeps) live stream = keeps
-silent_as job content nodes out out' (inr some) live stream = absurd (stream some.0)
+silent_as : (job : Job) (content : Contents) (nodes : List PlanNode) (out out' : SinkSeen) → IsSilentBy job content nodes out out' → job ≢ Live → job ≢ Stream → job ≢ Resume → Keeps out.written out'.written
+silent_as job content nodes out out' (inl keeps) live stream resume = keeps
+silent_as job content nodes out out' (inr some) live stream resume = absurd (stream some.0)
 
 -- without a plan nothing is done
 pub none_done : (o : Outcome) (content : Option (List ℕ)) → OpensPlan (Err o) content → o ≡ outcome.Done → ⊥
@@ -96,14 +98,16 @@ done_alone outcome.Done s at done = refl
 done_alone outcome.Usage s (inl at) done = absurd (cc (at, done))
 done_alone (outcome.Events said) s (inl at) done = absurd (cc (at, done))
 done_alone (outcome.BadPlan kind node) s (inl at) done = absurd (cc (at, done))
+done_alone (outcome.Unsaved node) s (inl at) done = absurd (cc (at, done))
+done_alone (outcome.BadCheckpoint line) s (inl at) done = absurd (cc (at, done))
 done_alone outcome.Read s (inl at) done = absurd (cc (at, done))
 done_alone outcome.Write s (inl at) done = absurd (cc (at, done))
 done_alone outcome.OutOfMemory s (inl at) done = absurd (cc (at, done))
 done_alone o s (inr lacks) done = absurd (cc (lacks, done))
 
-module _ (job : Job) (is : IsThreaded job) (files now files' : FilesSeen) (file script : List ℕ) (nodes : List PlanNode) (opened : IsOpened files file nodes) (same : now.faults ≡ files.faults) (contents : (name : List ℕ) → now.content name ≡ files.content name) (out out' : SinkSeen) (edges : List Carried) (ran : List Ran) where
+module _ (job : Job) (is : IsThreaded job) (files now files' : FilesSeen) (file checkpoint script : List ℕ) (nodes : List PlanNode) (opened : IsOpened files file nodes) (same : now.faults ≡ files.faults) (contents : (name : List ℕ) → now.content name ≡ files.content name) (out out' : SinkSeen) (edges : List Carried) (ran : List Ran) where
   abbrev command : Command
-  command = record { job = job; file = file; script = script }
+  command = record { job = job; file = file; checkpoint = checkpoint; script = script }
 
   reads : ReadsSources job
   reads = reads_by job is
@@ -112,17 +116,17 @@ module _ (job : Job) (is : IsThreaded job) (files now files' : FilesSeen) (file 
   of_plan : (told : List ℕ → List ℕ) (holds : List PlanNode → Type 0) → AreTold files.content told (named_files command) → (AreTold now.content told (source_files nodes) → holds nodes) → OfPlan files.content told file holds
   of_plan told holds known_one all = record {
     nodes = nodes;
-    plan = opened_told files file nodes opened told (named_one job files.content told file script reads known_one);
+    plan = opened_told files file nodes opened told (named_one job files.content told file checkpoint script reads known_one);
     holding = λ known. all (told_same files.content now.content told (source_files nodes) contents known);
   }
 
   -- a text was written
   gave : GaveRun job now.content nodes edges ran out out' → Wrote files command out out' (λ told text. Gives files.content told command text)
-  gave h told named = (h.text, gives_of job files.content told file script h.text reads (of_plan told (λ (ns : List PlanNode). GivesPlan job told ns h.text) named (λ known. answers_as job is told nodes edges ran h.text (h.answers told known))), h.wrote)
+  gave h told named = (h.text, gives_of job files.content told file checkpoint script h.text reads (of_plan told (λ (ns : List PlanNode). GivesPlan job told ns h.text) named (λ known. answers_as job is told nodes edges ran h.text (h.answers told known))), h.wrote)
 
   -- or begun
   began : BeganRun job now.content nodes edges ran out out' → WroteFront files command out out' (λ told text. Begins files.content told command text)
-  began h told named = (h.text, begins_of job files.content told file script h.text reads (of_plan told (λ (ns : List PlanNode). BeginsPlan job told ns h.text) named (λ known. begins_as job is told nodes edges ran h.text (h.begins told known))), h.wrote)
+  began h told named = (h.text, begins_of job files.content told file checkpoint script h.text reads (of_plan told (λ (ns : List PlanNode). BeginsPlan job told ns h.text) named (λ known. begins_as job is told nodes edges ran h.text (h.begins told known))), h.wrote)
 
   -- what was written where a read was refused
   at_read : IsSilentBy job now.content nodes out out' → IsSilentAtRead command files out out'
@@ -131,11 +135,11 @@ module _ (job : Job) (is : IsThreaded job) (files now files' : FilesSeen) (file 
 
   -- and where some source isn't accepted
   refused : (said : List ℕ) → IsSilentBy job now.content nodes out out' → ((told : List ℕ → List ℕ) → AreTold now.content told (source_files nodes) → RefusesSources told nodes said) → Wrote files command out out' (λ told text. Refuses files.content told command text said)
-  refused said (inl keeps) refuses told named = ([], refuses_of job files.content told file script said reads (of_plan told (λ (ns : List PlanNode). RefusesSources told ns said) named (refuses told)), appends_nothing out.written out'.written keeps)
+  refused said (inl keeps) refuses told named = ([], refuses_of job files.content told file checkpoint script said reads (of_plan told (λ (ns : List PlanNode). RefusesSources told ns said) named (refuses told)), appends_nothing out.written out'.written keeps)
   refused said (inr some) refuses told named =
       let front : List ℕ = take some.1.wrote.count some.1.text in (
         front,
-        subst (λ (j : Job). Refuses files.content told (record { job = j; file = file; script = script }) front said) (sym some.0)
+        subst (λ (j : Job). Refuses files.content told (record { job = j; file = file; checkpoint = checkpoint; script = script }) front said) (sym some.0)
             (of_plan told (λ (ns : List PlanNode). RefusesSources told ns said × ((front ≡ []) ⊎ StreamsFront told ns front)) named
             (λ known. (refuses told known, inr (record { whole = some.1.text; begins = some.1.begins told known; count = some.1.wrote.count; text_is = refl })))),
         some.1.wrote.grows,
@@ -151,6 +155,8 @@ module _ (job : Job) (is : IsThreaded job) (files now files' : FilesSeen) (file 
   plan_ended outcome.OutOfMemory (inr h) = inr (began h)
   plan_ended outcome.Usage h = absurd h
   plan_ended (outcome.BadPlan kind node) h = absurd h
+  plan_ended (outcome.Unsaved node) h = absurd h
+  plan_ended (outcome.BadCheckpoint line) h = absurd h
 
   -- where it is done, its text is that of what went over the edges
   pub wrote_run : (o : Outcome) → o ≡ outcome.Done → RunEnds job nodes now files' out out' edges ran o → WroteRun files command out out' edges ran
@@ -159,10 +165,10 @@ module _ (job : Job) (is : IsThreaded job) (files now files' : FilesSeen) (file 
       λ told named. (gave.text, of_plan told (λ (ns : List PlanNode). AnswersBy job told ns edges ran gave.text) named (gave.answers told), gave.wrote)
 
 -- what is answered of the edges and the turns where it is done
-pub has_run_by : (job : Job) → IsThreaded job → (files : FilesSeen) (file script : List ℕ) (out out' : SinkSeen) (s : Status) (edges : List Carried) (ran : List Ran) → (s ≡ status.Done → WroteRun files (record { job = job; file = file; script = script }) out out' edges ran)
-    → HasRun (Some (record { job = job; file = file; script = script })) files out out' s edges ran
-has_run_by job is files file script out out' s edges ran =
-    by_threaded (λ (job : Job). (s ≡ status.Done → WroteRun files (record { job = job; file = file; script = script }) out out' edges ran) → HasRun (Some (record { job = job; file = file; script = script })) files out out' s edges ran) job is (λ wrote. wrote) (λ n wrote. wrote) (λ wrote. wrote)
+pub has_run_by : (job : Job) → IsThreaded job → (files : FilesSeen) (file checkpoint script : List ℕ) (out out' : SinkSeen) (s : Status) (edges : List Carried) (ran : List Ran) → (s ≡ status.Done → WroteRun files (record { job = job; file = file; checkpoint = checkpoint; script = script }) out out' edges ran)
+    → HasRun (Some (record { job = job; file = file; checkpoint = checkpoint; script = script })) files out out' s edges ran
+has_run_by job is files file checkpoint script out out' s edges ran =
+    by_threaded (λ (job : Job). (s ≡ status.Done → WroteRun files (record { job = job; file = file; checkpoint = checkpoint; script = script }) out out' edges ran) → HasRun (Some (record { job = job; file = file; checkpoint = checkpoint; script = script })) files out out' s edges ran) job is (λ wrote. wrote) (λ n wrote. wrote) (λ wrote. wrote)
 
 -- ---- the files as they were before
 
@@ -190,3 +196,5 @@ module _ (job : Job) (files now files' : FilesSeen) (nodes : List PlanNode) (sam
   ends_later outcome.OutOfMemory (inr h) = inr (began_later h)
   ends_later outcome.Usage h = absurd h
   ends_later (outcome.BadPlan kind node) h = absurd h
+  ends_later (outcome.Unsaved node) h = absurd h
+  ends_later (outcome.BadCheckpoint line) h = absurd h

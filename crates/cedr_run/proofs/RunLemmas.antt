@@ -151,6 +151,8 @@ wrote_ends job threaded at_end nodes files files' out out' edges ran text outcom
 wrote_ends job threaded at_end nodes files files' out out' edges ran text outcome.Usage same answers h = absurd h
 wrote_ends job threaded at_end nodes files files' out out' edges ran text (outcome.Events said) same answers h = absurd h
 wrote_ends job threaded at_end nodes files files' out out' edges ran text (outcome.BadPlan kind node) same answers h = absurd h
+wrote_ends job threaded at_end nodes files files' out out' edges ran text (outcome.Unsaved node) same answers h = absurd h
+wrote_ends job threaded at_end nodes files files' out out' edges ran text (outcome.BadCheckpoint line) same answers h = absurd h
 wrote_ends job threaded at_end nodes files files' out out' edges ran text outcome.Read same answers h = absurd h
 
 -- a sink that is the same gained nothing
@@ -174,6 +176,8 @@ module _ (job : Job) (nodes : List PlanNode) (files files' : FilesSeen) (out out
   said_ends text outcome.Done counted same silent lacks refuses h = absurd h
   said_ends text outcome.Usage counted same silent lacks refuses h = absurd h
   said_ends text (outcome.BadPlan kind node) counted same silent lacks refuses h = absurd h
+  said_ends text (outcome.Unsaved node) counted same silent lacks refuses h = absurd h
+  said_ends text (outcome.BadCheckpoint line) counted same silent lacks refuses h = absurd h
   said_ends text outcome.Read counted same silent lacks refuses h = absurd h
   said_ends text outcome.Write counted same silent lacks refuses h = absurd h
 

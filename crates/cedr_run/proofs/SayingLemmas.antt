@@ -70,5 +70,7 @@ opened_refused told nodes seen_nodes faulty seen outcome.OutOfMemory says same_n
 opened_refused told nodes seen_nodes faulty seen outcome.Done says same_nodes same h = tt
 opened_refused told nodes seen_nodes faulty seen outcome.Usage says same_nodes same h = tt
 opened_refused told nodes seen_nodes faulty seen (outcome.BadPlan kind node) says same_nodes same h = tt
+opened_refused told nodes seen_nodes faulty seen (outcome.Unsaved node) says same_nodes same h = tt
+opened_refused told nodes seen_nodes faulty seen (outcome.BadCheckpoint line) says same_nodes same h = tt
 opened_refused told nodes seen_nodes faulty seen outcome.Read says same_nodes same h = tt
 opened_refused told nodes seen_nodes faulty seen outcome.Write says same_nodes same h = tt

@@ -7,7 +7,7 @@ use Rattle.cedr_io.specs.Asked.{AppendsFront}
 use Rattle.cedr_guard.specs.declared.refusal.Refusal.{Refusal}
 use Rattle.cedr_guard.specs.declared.refusal.TheConstants.{FILE_LIMIT}
 use Rattle.plan_live.specs.Plays.{IsPlayed, IsPlayedSoFar}
-use Rattle.plan_live.specs.Scripts.{Accepted, Played, played}
+use Rattle.plan_live.specs.Scripts.{Accepted, Played, no_lines, played}
 use Rattle.plan_live.specs.Shown.{AreShown, AreShownFirst}
 use Rattle.cedr_plan.specs.declared.plan.Plan.{Plan}
 use Rattle.cedr_plan.specs.declared.plan.PlanNode.{PlanNode}
@@ -29,14 +29,14 @@ use Rattle.plan_live.proofs.ShownLemmas.{front_all}
 pub known_played : (before after : Option (List ℕ)) (bytes front seen : List ℕ) (nodes : List PlanNode) (text : List ℕ) (fault : Option Refusal) → after ≡ before → before ≡ Some bytes → IfSome after (λ all. IsFileFront FILE_LIMIT all front) → seen ≡ front
     → IsPlayed nodes seen text fault → IsPlayed nodes bytes text fault
 known_played before after bytes front seen nodes text fault same is read all h =
-    let alike = played_known after bytes front seen nodes h.shapes (same ∙ is) read all in
+    let alike = played_known after bytes front seen nodes h.shapes (no_lines nodes) (same ∙ is) read all in
     record { shapes = h.shapes; types = h.types; shown = subst (λ (p : Played). AreShown nodes [] p.asks text) alike h.shown; fault_is = h.fault_is ∙ ap (λ (p : Played). p.fault) alike }
 
 -- the same of what the first `?` show
 pub known_so_far : (before after : Option (List ℕ)) (bytes front seen : List ℕ) (nodes : List PlanNode) (text : List ℕ) → after ≡ before → before ≡ Some bytes → IfSome after (λ all. IsFileFront FILE_LIMIT all front) → seen ≡ front
     → IsPlayedSoFar nodes seen text → IsPlayedSoFar nodes bytes text
 known_so_far before after bytes front seen nodes text same is read all h =
-    let alike = played_known after bytes front seen nodes h.shapes (same ∙ is) read all in
+    let alike = played_known after bytes front seen nodes h.shapes (no_lines nodes) (same ∙ is) read all in
     record { shapes = h.shapes; types = h.types; shown = subst (λ (p : Played). AreShownFirst nodes p.asks text) alike h.shown }
 
 whole_is_first : (nodes : List PlanNode) (bytes text : List ℕ) (fault : Option Refusal) → IsPlayed nodes bytes text fault → IsPlayedSoFar nodes bytes text
@@ -63,37 +63,39 @@ plays_so_far files file script plan after front seen text opened same read all h
     (opened_plan (files.content file) (told file) plan is.0 opened, known_so_far (files.content script) after (told script) front seen plan.nodes.items text same is.1.0 read all h)
 
 -- all of it was accepted
-pub live_done : (files files' : FilesSeen) (out out' : SinkSeen) (file script text : List ℕ) (nodes : List PlanNode) → files'.faults ≡ files.faults → out'.faults ≡ out.faults
-    → PlaysFile files file script nodes (λ bytes. IsPlayed nodes bytes text None) → Appends out.written out'.written text → CommandEnds (record { job = Live; file = file; script = script }) files files' out out' outcome.Done
+pub live_done : (files files' : FilesSeen) (out out' : SinkSeen) (file checkpoint script text : List ℕ) (nodes : List PlanNode) → files'.faults ≡ files.faults → out'.faults ≡ out.faults
+    → PlaysFile files file script nodes (λ bytes. IsPlayed nodes bytes text None) → Appends out.written out'.written text → CommandEnds (record { job = Live; file = file; checkpoint = checkpoint; script = script }) files files' out out' outcome.Done
 unfolding PlaysFile
-live_done files files' out out' file script text nodes same_files same_out plays wrote =
+live_done files files' out out' file checkpoint script text nodes same_files same_out plays wrote =
     (record { files_count = same_files; out_count = same_out }, λ told is. (text, record { nodes = nodes; plan = (plays told is).0; holding = (plays told is).1 }, wrote))
 
 -- a line wasn't
-pub live_said : (files files' : FilesSeen) (out out' : SinkSeen) (file script text : List ℕ) (nodes : List PlanNode) (refusal : Refusal) (o : Outcome) → Says o (refusal_text script refusal) → files'.faults ≡ files.faults → out'.faults ≡ out.faults
-    → PlaysFile files file script nodes (λ bytes. IsPlayed nodes bytes text (Some refusal)) → Appends out.written out'.written text → CommandEnds (record { job = Live; file = file; script = script }) files files' out out' o
+pub live_said : (files files' : FilesSeen) (out out' : SinkSeen) (file checkpoint script text : List ℕ) (nodes : List PlanNode) (refusal : Refusal) (o : Outcome) → Says o (refusal_text script refusal) → files'.faults ≡ files.faults → out'.faults ≡ out.faults
+    → PlaysFile files file script nodes (λ bytes. IsPlayed nodes bytes text (Some refusal)) → Appends out.written out'.written text → CommandEnds (record { job = Live; file = file; checkpoint = checkpoint; script = script }) files files' out out' o
 unfolding PlaysFile
-live_said files files' out out' file script text nodes refusal (outcome.Events said) says same_files same_out plays wrote = (
+live_said files files' out out' file checkpoint script text nodes refusal (outcome.Events said) says same_files same_out plays wrote = (
   record { files_count = same_files; out_count = same_out },
   (λ not_live. absurd (not_live refl)),
   λ told is. (text, record { nodes = nodes; plan = (plays told is).0; holding = record { fault = refusal; played = (plays told is).1; said_is = says } }, wrote),
 )
-live_said files files' out out' file script text nodes refusal outcome.OutOfMemory says same_files same_out plays wrote =
+live_said files files' out out' file checkpoint script text nodes refusal outcome.OutOfMemory says same_files same_out plays wrote =
     inr (λ told is. (text, record { nodes = nodes; plan = (plays told is).0; holding = whole_is_first nodes (told script) text (Some refusal) (plays told is).1 }, front_all out.written out'.written text wrote))
-live_said files files' out out' file script text nodes refusal outcome.Done says same_files same_out plays wrote = absurd says
-live_said files files' out out' file script text nodes refusal outcome.Usage says same_files same_out plays wrote = absurd says
-live_said files files' out out' file script text nodes refusal (outcome.BadPlan kind node) says same_files same_out plays wrote = absurd says
-live_said files files' out out' file script text nodes refusal outcome.Read says same_files same_out plays wrote = absurd says
-live_said files files' out out' file script text nodes refusal outcome.Write says same_files same_out plays wrote = absurd says
+live_said files files' out out' file checkpoint script text nodes refusal outcome.Done says same_files same_out plays wrote = absurd says
+live_said files files' out out' file checkpoint script text nodes refusal outcome.Usage says same_files same_out plays wrote = absurd says
+live_said files files' out out' file checkpoint script text nodes refusal (outcome.BadPlan kind node) says same_files same_out plays wrote = absurd says
+live_said files files' out out' file checkpoint script text nodes refusal (outcome.Unsaved node) says same_files same_out plays wrote = absurd says
+live_said files files' out out' file checkpoint script text nodes refusal (outcome.BadCheckpoint line) says same_files same_out plays wrote = absurd says
+live_said files files' out out' file checkpoint script text nodes refusal outcome.Read says same_files same_out plays wrote = absurd says
+live_said files files' out out' file checkpoint script text nodes refusal outcome.Write says same_files same_out plays wrote = absurd says
 
 -- it broke off at a refused write
-pub live_write : (files files' : FilesSeen) (out out' : SinkSeen) (file script text : List ℕ) (nodes : List PlanNode) → out.faults < out'.faults
-    → PlaysFile files file script nodes (λ bytes. IsPlayedSoFar nodes bytes text) → AppendsFront out.written out'.written text → CommandEnds (record { job = Live; file = file; script = script }) files files' out out' outcome.Write
+pub live_write : (files files' : FilesSeen) (out out' : SinkSeen) (file checkpoint script text : List ℕ) (nodes : List PlanNode) → out.faults < out'.faults
+    → PlaysFile files file script nodes (λ bytes. IsPlayedSoFar nodes bytes text) → AppendsFront out.written out'.written text → CommandEnds (record { job = Live; file = file; checkpoint = checkpoint; script = script }) files files' out out' outcome.Write
 unfolding PlaysFile
-live_write files files' out out' file script text nodes rose plays wrote = (rose, λ told is. (text, record { nodes = nodes; plan = (plays told is).0; holding = (plays told is).1 }, wrote))
+live_write files files' out out' file checkpoint script text nodes rose plays wrote = (rose, λ told is. (text, record { nodes = nodes; plan = (plays told is).0; holding = (plays told is).1 }, wrote))
 
 -- it broke off for want of memory
-pub live_lack : (files files' : FilesSeen) (out out' : SinkSeen) (file script text : List ℕ) (nodes : List PlanNode)
-    → PlaysFile files file script nodes (λ bytes. IsPlayedSoFar nodes bytes text) → AppendsFront out.written out'.written text → CommandEnds (record { job = Live; file = file; script = script }) files files' out out' outcome.OutOfMemory
+pub live_lack : (files files' : FilesSeen) (out out' : SinkSeen) (file checkpoint script text : List ℕ) (nodes : List PlanNode)
+    → PlaysFile files file script nodes (λ bytes. IsPlayedSoFar nodes bytes text) → AppendsFront out.written out'.written text → CommandEnds (record { job = Live; file = file; checkpoint = checkpoint; script = script }) files files' out out' outcome.OutOfMemory
 unfolding PlaysFile
-live_lack files files' out out' file script text nodes plays wrote = inr (λ told is. (text, record { nodes = nodes; plan = (plays told is).0; holding = (plays told is).1 }, wrote))
+live_lack files files' out out' file checkpoint script text nodes plays wrote = inr (λ told is. (text, record { nodes = nodes; plan = (plays told is).0; holding = (plays told is).1 }, wrote))

@@ -143,6 +143,8 @@ module _ {S : Type 0} (rest : S → Option (List ℕ)) (faults : S → ℕ) (acc
         by_outcome outcome.Usage h = absurd h
         by_outcome (outcome.Events said) h = absurd h
         by_outcome (outcome.BadPlan kind node) h = absurd h
+        by_outcome (outcome.Unsaved node) h = absurd h
+        by_outcome (outcome.BadCheckpoint line) h = absurd h
         by_outcome outcome.Read h = absurd h
 
     done_ends : WritesTail nodes listed out out' o → Ends o
@@ -192,6 +194,8 @@ module _ {S : Type 0} (rest : S → Option (List ℕ)) (faults : S → ℕ) (acc
         by_outcome outcome.Usage h = absurd h
         by_outcome (outcome.Events said) h = absurd h
         by_outcome (outcome.BadPlan kind node) h = absurd h
+        by_outcome (outcome.Unsaved node) h = absurd h
+        by_outcome (outcome.BadCheckpoint line) h = absurd h
         by_outcome outcome.Read h = absurd h
 
     -- whatever is told of it, no more was written than the changes

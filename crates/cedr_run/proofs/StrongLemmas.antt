@@ -44,7 +44,7 @@ use Rattle.plan_runs.specs.Partials.{AllBeginTables, BeginsTable}
 use Rattle.node_laws.proofs.Additions.{only_adds}
 use Rattle.plan_runs.proofs.PartialOutput.{output_adds, output_ascends}
 use Rattle.cedr_run.specs.declared.command.Job.{Job}
-use Rattle.cedr_run.specs.declared.command.Job.TheVariants.{History, Check, Serial, Run, Pool, Stream, Audit, Live, Make}
+use Rattle.cedr_run.specs.declared.command.Job.TheVariants.{History, Check, Serial, Run, Pool, Stream, Audit, Live, Make, Save, Resume}
 use Rattle.cedr_run.specs.Answers.{AddsInOrder, AllHaveBegun, HasBegun, StreamsSoFar}
 use Rattle.cedr_run.specs.Seen.{FilesSeen, SinkSeen}
 use Rattle.cedr_run.specs.Strong.{AddsGood, AllHaveGood, StreamsPlan, StreamsStrong, WroteGood, WroteStrong}
@@ -248,13 +248,15 @@ streams_plan files files' file nodes out out' opened same wrote = inr (λ told k
 })
 
 -- what is so of a stream is so of each command
-pub streams_strong_by : (job : Job) (files : FilesSeen) (file script : List ℕ) (out out' : SinkSeen) → (job ≡ Stream → StreamsPlan files file out out') → StreamsStrong (Some (record { job = job; file = file; script = script })) files out out'
-streams_strong_by Stream files file script out out' streams = streams refl
-streams_strong_by History files file script out out' streams = tt
-streams_strong_by Check files file script out out' streams = tt
-streams_strong_by Serial files file script out out' streams = tt
-streams_strong_by Run files file script out out' streams = tt
-streams_strong_by (Pool n) files file script out out' streams = tt
-streams_strong_by Audit files file script out out' streams = tt
-streams_strong_by Live files file script out out' streams = tt
-streams_strong_by (Make n) files file script out out' streams = tt
+pub streams_strong_by : (job : Job) (files : FilesSeen) (file checkpoint script : List ℕ) (out out' : SinkSeen) → (job ≡ Stream → StreamsPlan files file out out') → StreamsStrong (Some (record { job = job; file = file; checkpoint = checkpoint; script = script })) files out out'
+streams_strong_by Stream files file checkpoint script out out' streams = streams refl
+streams_strong_by History files file checkpoint script out out' streams = tt
+streams_strong_by Check files file checkpoint script out out' streams = tt
+streams_strong_by Serial files file checkpoint script out out' streams = tt
+streams_strong_by Run files file checkpoint script out out' streams = tt
+streams_strong_by (Pool n) files file checkpoint script out out' streams = tt
+streams_strong_by Audit files file checkpoint script out out' streams = tt
+streams_strong_by Live files file checkpoint script out out' streams = tt
+streams_strong_by (Make n) files file checkpoint script out out' streams = tt
+streams_strong_by Save files file checkpoint script out out' streams = tt
+streams_strong_by Resume files file checkpoint script out out' streams = tt

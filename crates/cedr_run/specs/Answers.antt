@@ -39,9 +39,11 @@ use Rattle.plan_answer.specs.Sources.{source_files, AreTold, AllHaveGiven, fault
 use Rattle.cedr_text.specs.Shapes.{ShapeHasTypes}
 use Rattle.cedr_table.specs.Operators.{Tables}
 use Rattle.cedr_run.specs.declared.command.Job.{Job}
-use Rattle.cedr_run.specs.declared.command.Job.TheVariants.{History, Check, Serial, Run, Pool, Stream, Audit, Live, Make}
+use Rattle.cedr_run.specs.declared.command.Job.TheVariants.{History, Check, Serial, Run, Pool, Stream, Audit, Live, Make, Save, Resume}
 use Rattle.cedr_run.specs.Commands.{Command}
 use Rattle.cedr_run.specs.Refusals.{refusal_text}
+use Rattle.cedr_run.specs.Resuming.{SavesScript, RefusesSaved, ResumesScript, ResumesSoFar, RefusesResumed, RefusesBytesOf}
+use Rattle.cedr_save.specs.Saving.{first_unsaved}
 
 -- what a file of each name holds
 abbrev pub Contents : Type 0
@@ -249,6 +251,8 @@ Gives content told command text = gives command.job where
   gives Stream = OfPlan content told command.file (λ nodes. GivesPlan Stream told nodes text)
   gives Live = OfPlanAlone (told command.file) (λ nodes. IsPlayed nodes (told command.script) text None)
   gives (Make n) = GivesSummary n text
+  gives Save = OfPlanAlone (told command.file) (λ nodes. SavesScript nodes (told command.script) text)
+  gives Resume = OfPlanAlone (told command.file) (λ nodes. ResumesScript nodes (told command.checkpoint) (told command.script) text None)
 
 -- what it wrote, and what is said of it, where some line isn't accepted
 abbrev pub Refuses : Contents → (List ℕ → List ℕ) → Command → List ℕ → List ℕ → Type 0
@@ -263,6 +267,8 @@ Refuses content told command text said = refuses command.job where
   refuses Stream = OfPlan content told command.file (λ nodes. RefusesSources told nodes said × ((text ≡ []) ⊎ StreamsFront told nodes text))
   refuses Live = OfPlanAlone (told command.file) (λ nodes. RefusesScript command.script (told command.script) nodes text said)
   refuses (Make n) = ⊥
+  refuses Save = (text ≡ []) × OfPlanAlone (told command.file) (λ nodes. RefusesSaved command.script (told command.script) nodes said)
+  refuses Resume = OfPlanAlone (told command.file) (λ nodes. RefusesResumed command.script (told command.checkpoint) (told command.script) nodes text said)
 
 -- a text of which a front is written where writing or memory fails
 abbrev pub Begins : Contents → (List ℕ → List ℕ) → Command → List ℕ → Type 0
@@ -270,6 +276,7 @@ Begins content told command text = begins command.job where
   begins : Job → Type 0
   begins Stream = OfPlan content told command.file (λ nodes. BeginsPlan Stream told nodes text)
   begins Live = OfPlanAlone (told command.file) (λ nodes. IsPlayedSoFar nodes (told command.script) text)
+  begins Resume = OfPlanAlone (told command.file) (λ nodes. ResumesSoFar nodes (told command.checkpoint) (told command.script) text)
   begins job = Gives content told command text
 
 -- its file is no plan, and has this fault first
@@ -279,3 +286,18 @@ RefusesPlan told command kind node = refuses command.job where
   refuses History = ⊥
   refuses (Make n) = ⊥
   refuses job = IsNoPlan (told command.file) kind node
+
+-- its plan can't be saved: this node is the first such one
+abbrev pub RefusesSaving : (List ℕ → List ℕ) → Command → ℕ → Type 0
+RefusesSaving told command node = refuses command.job where
+  refuses : Job → Type 0
+  refuses Save = OfPlanAlone (told command.file) (λ nodes. first_unsaved 0 nodes ≡ Some node)
+  refuses Resume = OfPlanAlone (told command.file) (λ nodes. first_unsaved 0 nodes ≡ Some node)
+  refuses job = ⊥
+
+-- its plan can be saved, and its checkpoint is none of it, for this line
+abbrev pub RefusesCheckpoint : (List ℕ → List ℕ) → Command → ℕ → Type 0
+RefusesCheckpoint told command line = refuses command.job where
+  refuses : Job → Type 0
+  refuses Resume = OfPlanAlone (told command.file) (λ nodes. RefusesBytesOf nodes (told command.checkpoint) line)
+  refuses job = ⊥

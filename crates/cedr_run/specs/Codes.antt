@@ -12,3 +12,4 @@ code_of status.Events = 3
 code_of status.Read = 4
 code_of status.Write = 5
 code_of status.OutOfMemory = 6
+code_of status.Checkpoint = 7

@@ -6,21 +6,21 @@ use Rattle.cedr_plan.specs.declared.plan.PlanNode.{PlanNode}
 use Rattle.plan_answer.specs.Sources.{AsksFirst, AreTold, source_files}
 use Rattle.cedr_text.specs.Texts.{line_feed}
 use Rattle.cedr_run.specs.declared.command.Job.{Job}
-use Rattle.cedr_run.specs.declared.command.Job.TheVariants.{Serial, Run, Pool, Stream, Audit, Live}
+use Rattle.cedr_run.specs.declared.command.Job.TheVariants.{Serial, Run, Pool, Stream, Audit, Live, Resume}
 use Rattle.cedr_run.specs.declared.outcome.Outcome.{Outcome}
 use Rattle.cedr_run.specs.declared.outcome.Outcome.TheVariants as outcome
 use Rattle.cedr_run.specs.declared.status.Status.{Status}
 use Rattle.cedr_run.specs.declared.status.Status.TheVariants as status
-use Rattle.cedr_run.specs.Answers.{IsPlanOf, OfPlan, Gives, Refuses, Begins, RefusesPlan, StreamsSoFar}
+use Rattle.cedr_run.specs.Answers.{IsPlanOf, OfPlan, Gives, Refuses, Begins, RefusesPlan, RefusesSaving, RefusesCheckpoint, StreamsSoFar}
 use Rattle.cedr_run.specs.Commands.{Command, named_files}
-use Rattle.cedr_run.specs.Refusals.{plan_fault_text}
+use Rattle.cedr_run.specs.Refusals.{plan_fault_text, unsaved_text, checkpoint_fault_text}
 use Rattle.cedr_run.specs.Seen.{FilesSeen, SinkSeen, NoneRose, BreaksOff}
 
 -- ---- texts on standard error
 
 -- the text where the words match no command
 abbrev pub usage_text : List ℕ
-usage_text = codes "usage: cedr history FILE | check PLAN | serial PLAN | run PLAN | stream PLAN | audit PLAN | live PLAN SCRIPT | make N | pool N PLAN" ++ line_feed ∷ []
+usage_text = codes "usage: cedr history FILE | check PLAN | serial PLAN | run PLAN | stream PLAN | audit PLAN | live PLAN SCRIPT | make N | pool N PLAN | save PLAN SCRIPT | resume PLAN CHECKPOINT SCRIPT" ++ line_feed ∷ []
 
 -- the text where a file wasn't found, or a read was refused
 abbrev pub read_text : List ℕ
@@ -40,6 +40,8 @@ outcome_text outcome.Done = []
 outcome_text outcome.Usage = usage_text
 outcome_text (outcome.Events said) = said.items
 outcome_text (outcome.BadPlan kind node) = plan_fault_text kind node
+outcome_text (outcome.Unsaved node) = unsaved_text node
+outcome_text (outcome.BadCheckpoint line) = checkpoint_fault_text line
 outcome_text outcome.Read = read_text
 outcome_text outcome.Write = write_text
 outcome_text outcome.OutOfMemory = memory_text
@@ -50,6 +52,8 @@ status_of outcome.Done = status.Done
 status_of outcome.Usage = status.Usage
 status_of (outcome.Events said) = status.Events
 status_of (outcome.BadPlan kind node) = status.Plan
+status_of (outcome.Unsaved node) = status.Plan
+status_of (outcome.BadCheckpoint line) = status.Checkpoint
 status_of outcome.Read = status.Read
 status_of outcome.Write = status.Write
 status_of outcome.OutOfMemory = status.OutOfMemory
@@ -71,7 +75,7 @@ WroteFront files command out out' holds = (told : List ℕ → List ℕ) → Are
 
 -- nothing was written, unless this command writes as it goes
 abbrev pub IsSilent : Command → SinkSeen → SinkSeen → Type 0
-IsSilent command out out' = command.job ≢ Live → command.job ≢ Stream → Keeps out.written out'.written
+IsSilent command out out' = command.job ≢ Live → command.job ≢ Stream → command.job ≢ Resume → Keeps out.written out'.written
 
 -- the same at a refused read: `stream` had written a front of the changes of a partial run
 abbrev pub IsSilentAtRead : Command → FilesSeen → SinkSeen → SinkSeen → Type 0
@@ -81,6 +85,8 @@ IsSilentAtRead command files out out' = Keeps out.written out'.written ⊎ ((com
 -- `Done`: nothing refused, and out gained what the command gives.
 -- `Events`: nothing refused, and some line that the command read isn't accepted, which is what is said.
 -- `BadPlan`: nothing refused or was written, and the file is no plan.
+-- `Unsaved`: the same, and the command saves or resumes and the plan can't be saved.
+-- `BadCheckpoint`: the same, and the command resumes, the plan can be saved and the file isn't a checkpoint of it.
 -- `Read` and `Write`: a count rose. At `Read` no write was refused, since `Write` comes before it; and nothing was written, but for
 -- what `stream` had written by then.
 -- At `Write` and at want of memory out gained nothing, or a front of what the command gives.
@@ -89,6 +95,8 @@ CommandEnds command files files' out out' outcome.Done = NoneRose files files' o
 CommandEnds command files files' out out' outcome.Usage = ⊥
 CommandEnds command files files' out out' (outcome.Events said) = NoneRose files files' out out' × IsSilent command out out' × Wrote files command out out' (λ told text. Refuses files.content told command text said.items)
 CommandEnds command files files' out out' (outcome.BadPlan kind node) = NoneRose files files' out out' × Keeps out.written out'.written × ((told : List ℕ → List ℕ) → AreTold files.content told (command.file ∷ []) → RefusesPlan told command kind node)
+CommandEnds command files files' out out' (outcome.Unsaved node) = NoneRose files files' out out' × Keeps out.written out'.written × ((told : List ℕ → List ℕ) → AreTold files.content told (command.file ∷ []) → RefusesSaving told command node)
+CommandEnds command files files' out out' (outcome.BadCheckpoint line) = NoneRose files files' out out' × Keeps out.written out'.written × ((told : List ℕ → List ℕ) → AreTold files.content told (command.file ∷ command.checkpoint ∷ []) → RefusesCheckpoint told command line)
 CommandEnds command files files' out out' outcome.Read = (files.faults < files'.faults) × (out'.faults ≡ out.faults) × IsSilentAtRead command files out out'
 CommandEnds command files files' out out' outcome.Write = (out.faults < out'.faults) × WroteFront files command out out' (λ told text. Begins files.content told command text)
 CommandEnds command files files' out out' outcome.OutOfMemory = Keeps out.written out'.written ⊎ WroteFront files command out out' (λ told text. Begins files.content told command text)

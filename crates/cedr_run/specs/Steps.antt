@@ -4,12 +4,17 @@ use Rattle.std.specs.Global.{Global}
 use Rattle.std.specs.List.{slice_get}
 use Rattle.std.specs.Io.KnownBytes.{Appends, Keeps}
 use Rattle.cedr_guard.specs.declared.refusal.Refusal.{Refusal}
+use Rattle.cedr_guard.specs.declared.state.SourceState.{SourceState}
 use Rattle.cedr_io.specs.Asked.{AppendsFront}
 use Rattle.cedr_plan.specs.Drawn.{drawn}
 use Rattle.cedr_plan.specs.Plans.{plan_of}
 use Rattle.cedr_plan.specs.declared.plan.Plan.{Plan}
 use Rattle.cedr_plan.specs.declared.plan.PlanNode.{PlanNode}
 use Rattle.plan_answer.specs.Sources.{AreTold, source_files}
+use Rattle.cedr_save.specs.Checkpoints.{plan_sources, IsCheckpoint}
+use Rattle.cedr_save.specs.Refusals.{RefusesBytes}
+use Rattle.cedr_save.specs.Saving.{first_unsaved}
+use Rattle.plan_live.specs.Resumed.{states_in, AreStates}
 use Rattle.cedr_source.specs.declared.entries.Entries.{Entries}
 use Rattle.plan_serial.specs.Rounds.{ByLine}
 use Rattle.plan_serial.specs.Sources.{AreReadByLine}
@@ -18,7 +23,7 @@ use Rattle.cedr_run.specs.declared.command.Job.{Job}
 use Rattle.cedr_run.specs.declared.command.Job.TheVariants.{Serial, Run, Pool, Stream, Audit}
 use Rattle.cedr_run.specs.declared.outcome.Outcome.{Outcome}
 use Rattle.cedr_run.specs.declared.outcome.Outcome.TheVariants as outcome
-use Rattle.cedr_run.specs.Answers.{IsPlanOf, IsNoPlan, RefusesSources, GivesPlan, BeginsPlan}
+use Rattle.cedr_run.specs.Answers.{IsPlanOf, IsNoPlan, OfPlanAlone, RefusesSources, GivesPlan, BeginsPlan}
 use Rattle.cedr_run.specs.Refusals.{refusal_text}
 use Rattle.cedr_run.specs.Seen.{FilesSeen, SinkSeen}
 
@@ -32,6 +37,8 @@ WritesText outcome.OutOfMemory out out' text = AppendsFront out.written out'.wri
 WritesText outcome.Usage out out' text = ⊥
 WritesText (outcome.Events said) out out' text = ⊥
 WritesText (outcome.BadPlan kind node) out out' text = ⊥
+WritesText (outcome.Unsaved node) out out' text = ⊥
+WritesText (outcome.BadCheckpoint line) out out' text = ⊥
 WritesText outcome.Read out out' text = ⊥
 
 -- this is said, unless memory ran out
@@ -41,6 +48,8 @@ Says outcome.OutOfMemory text = Unit {0}
 Says outcome.Done text = ⊥
 Says outcome.Usage text = ⊥
 Says (outcome.BadPlan kind node) text = ⊥
+Says (outcome.Unsaved node) text = ⊥
+Says (outcome.BadCheckpoint line) text = ⊥
 Says outcome.Read text = ⊥
 Says outcome.Write text = ⊥
 
@@ -62,6 +71,8 @@ CountsStep (Ok done) old new = new ≡ old
 CountsStep (Err outcome.Read) old new = old < new
 CountsStep (Err (outcome.Events said)) old new = new ≡ old
 CountsStep (Err (outcome.BadPlan kind node)) old new = new ≡ old
+CountsStep (Err (outcome.Unsaved node)) old new = new ≡ old
+CountsStep (Err (outcome.BadCheckpoint line)) old new = new ≡ old
 CountsStep (Err outcome.OutOfMemory) old new = new ≡ old
 CountsStep (Err outcome.Done) old new = new ≡ old
 CountsStep (Err outcome.Usage) old new = new ≡ old
@@ -74,9 +85,38 @@ OpensPlan (Err (outcome.BadPlan kind node)) content = IfSome content (λ bytes. 
 OpensPlan (Err outcome.Read) content = Unit {0}
 OpensPlan (Err outcome.OutOfMemory) content = Unit {0}
 OpensPlan (Err (outcome.Events said)) content = ⊥
+OpensPlan (Err (outcome.Unsaved node)) content = ⊥
+OpensPlan (Err (outcome.BadCheckpoint line)) content = ⊥
 OpensPlan (Err outcome.Done) content = ⊥
 OpensPlan (Err outcome.Usage) content = ⊥
 OpensPlan (Err outcome.Write) content = ⊥
+
+-- the same, where the plan can be saved; or the first node for which it can't
+abbrev pub OpensSaved : Result Plan Outcome → Option (List ℕ) → Type 0
+OpensSaved (Ok plan) content = OpensPlan (Ok plan) content
+OpensSaved (Err (outcome.Unsaved node)) content = IfSome content (λ bytes. OfPlanAlone bytes (λ nodes. first_unsaved 0 nodes ≡ Some node))
+OpensSaved (Err outcome.Done) content = OpensPlan (Err outcome.Done) content
+OpensSaved (Err outcome.Usage) content = OpensPlan (Err outcome.Usage) content
+OpensSaved (Err (outcome.Events said)) content = OpensPlan (Err (outcome.Events said)) content
+OpensSaved (Err (outcome.BadPlan kind node)) content = OpensPlan (Err (outcome.BadPlan kind node)) content
+OpensSaved (Err (outcome.BadCheckpoint line)) content = OpensPlan (Err (outcome.BadCheckpoint line)) content
+OpensSaved (Err outcome.Read) content = OpensPlan (Err outcome.Read) content
+OpensSaved (Err outcome.Write) content = OpensPlan (Err outcome.Write) content
+OpensSaved (Err outcome.OutOfMemory) content = OpensPlan (Err outcome.OutOfMemory) content
+
+-- where it is known what the file holds: the states that it spells as a checkpoint of a plan of these nodes, or the line at
+-- which it is none
+abbrev pub OpensCheckpoint : Result (Vec SourceState Global) Outcome → List PlanNode → Option (List ℕ) → Type 0
+OpensCheckpoint (Ok states) nodes content = AreStates nodes states.items × IfSome content (λ bytes. IsCheckpoint (plan_sources nodes) (states_in states.items) bytes)
+OpensCheckpoint (Err (outcome.BadCheckpoint line)) nodes content = IfSome content (λ bytes. RefusesBytes (plan_sources nodes) bytes line)
+OpensCheckpoint (Err outcome.Read) nodes content = Unit {0}
+OpensCheckpoint (Err outcome.OutOfMemory) nodes content = Unit {0}
+OpensCheckpoint (Err outcome.Done) nodes content = ⊥
+OpensCheckpoint (Err outcome.Usage) nodes content = ⊥
+OpensCheckpoint (Err (outcome.Events said)) nodes content = ⊥
+OpensCheckpoint (Err (outcome.BadPlan kind node)) nodes content = ⊥
+OpensCheckpoint (Err (outcome.Unsaved node)) nodes content = ⊥
+OpensCheckpoint (Err outcome.Write) nodes content = ⊥
 
 -- some source isn't accepted, a read was refused, or memory ran out
 abbrev pub StopsSources : {T : Type 0} → Result T Outcome → Type 0
@@ -85,6 +125,8 @@ StopsSources (Err (outcome.Events said)) = Unit {0}
 StopsSources (Err outcome.Read) = Unit {0}
 StopsSources (Err outcome.OutOfMemory) = Unit {0}
 StopsSources (Err (outcome.BadPlan kind node)) = ⊥
+StopsSources (Err (outcome.Unsaved node)) = ⊥
+StopsSources (Err (outcome.BadCheckpoint line)) = ⊥
 StopsSources (Err outcome.Done) = ⊥
 StopsSources (Err outcome.Usage) = ⊥
 StopsSources (Err outcome.Write) = ⊥
@@ -138,6 +180,8 @@ EndsWith gives begins nodes left out out' outcome.OutOfMemory = Keeps out.writte
 EndsWith gives begins nodes left out out' outcome.Usage = ⊥
 EndsWith gives begins nodes left out out' (outcome.Events said) = ⊥
 EndsWith gives begins nodes left out out' (outcome.BadPlan kind node) = ⊥
+EndsWith gives begins nodes left out out' (outcome.Unsaved node) = ⊥
+EndsWith gives begins nodes left out out' (outcome.BadCheckpoint line) = ⊥
 EndsWith gives begins nodes left out out' outcome.Read = ⊥
 
 -- the same of what a command gives of a plan and its sources

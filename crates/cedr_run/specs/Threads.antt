@@ -157,6 +157,8 @@ RunEnds job nodes files files' out out' edges ran outcome.Write = (out.faults < 
 RunEnds job nodes files files' out out' edges ran outcome.OutOfMemory = Keeps out.written out'.written ⊎ BeganRun job files.content nodes edges ran out out'
 RunEnds job nodes files files' out out' edges ran outcome.Usage = ⊥
 RunEnds job nodes files files' out out' edges ran (outcome.BadPlan kind node) = ⊥
+RunEnds job nodes files files' out out' edges ran (outcome.Unsaved node) = ⊥
+RunEnds job nodes files files' out out' edges ran (outcome.BadCheckpoint line) = ⊥
 
 -- ---- what `run`, `stream` and `pool` answer besides
 

@@ -10,6 +10,8 @@ use crate::history::history;
 use crate::make::make;
 use crate::outcome::Outcome;
 use crate::plan::check;
+use crate::resume::resume;
+use crate::save::save;
 use crate::script::live;
 use crate::sources::on_sources;
 use cedr_io::{Files, Sink};
@@ -20,6 +22,7 @@ pub(crate) fn carry_out<F: Files, K: Sink>(
     alloc: Global,
     job: Job,
     file: &[u8],
+    checkpoint: &[u8],
     script: &[u8],
     files: &mut F,
     out: &mut K,
@@ -28,10 +31,10 @@ pub(crate) fn carry_out<F: Files, K: Sink>(
     requires out_counts { K.faults out.old < last_count }
     requires job { IsNumbered job }
     requires alone { job ≢ Stream }
-    ensures ends { CommandEnds (record { job = job; file = file.now; script = script.now })
+    ensures ends { CommandEnds (record { job = job; file = file.now; checkpoint = checkpoint.now; script = script.now })
         (seen_files F.content F.faults F.asked files.old) (seen_files F.content F.faults F.asked files.new)
         (seen_sink K.written K.faults out.old) (seen_sink K.written K.faults out.new) result }
-    ensures asked { AsksOnly (record { job = job; file = file.now; script = script.now })
+    ensures asked { AsksOnly (record { job = job; file = file.now; checkpoint = checkpoint.now; script = script.now })
         (seen_files F.content F.faults F.asked files.old) (seen_files F.content F.faults F.asked files.new) }
     ensures contents { (n : List ℕ) → F.content files.new n ≡ F.content files.old n }
 {
@@ -40,6 +43,8 @@ pub(crate) fn carry_out<F: Files, K: Sink>(
         Job::Check => check(alloc, file, files, out),
         Job::Live => live(alloc, file, script, files, out),
         Job::Make(events) => make(alloc, events, out),
+        Job::Save => save(alloc, file, script, files, out),
+        Job::Resume => resume(alloc, file, checkpoint, script, files, out),
         _ => on_sources(alloc, job, file, files, out),
     }
 }

@@ -26,6 +26,10 @@ pub(crate) enum Job {
     Live,
     /// Writes the summary of the answer to a workload of so many events a source.
     Make(u64),
+    /// Writes the checkpoint to which a script comes.
+    Save,
+    /// Plays a script over a plan, from a checkpoint.
+    Resume,
 }
 
 /// The command of a word, which takes one file.
@@ -82,28 +86,35 @@ fn count(digits: usize, last: u64, word: &[u8]) -> Option<u64>
     if count > 0 { Some(count) } else { None }
 }
 
-/// The command that the words name, its file and its script.
-pub(crate) fn command(words: &[String]) -> Option<(Job, &str, &str)>
-    ensures named { option_map (λ named. record { job = named.0; file = named.1.now; script = named.2.now }) result ≡ command_of (map string_bytes words.now) }
+/// The command that the words name, its file, its checkpoint and its script.
+pub(crate) fn command(words: &[String]) -> Option<(Job, &str, &str, &str)>
+    ensures named { option_map (λ named. record { job = named.0; file = named.1.now; checkpoint = named.2.now; script = named.3.now }) result ≡ command_of (map string_bytes words.now) }
     ensures numbered { IfSome result (λ named. IsNumbered named.0) }
 {
     match words {
         [word, events] if word.as_str() == "make" => {
             let events = count(6, 100_000, events.as_bytes())?;
-            Some((Job::Make(events), "", ""))
+            Some((Job::Make(events), "", "", ""))
         }
         [word, file] => {
             let job = named_job(word.as_str())?;
-            Some((job, file.as_str(), ""))
+            Some((job, file.as_str(), "", ""))
         }
         [word, first, second] => match word.as_str() {
-            "live" => Some((Job::Live, first.as_str(), second.as_str())),
+            "live" => Some((Job::Live, first.as_str(), "", second.as_str())),
+            "save" => Some((Job::Save, first.as_str(), "", second.as_str())),
             "pool" => {
                 let threads = count(2, 16, first.as_bytes())?;
-                Some((Job::Pool(threads), second.as_str(), ""))
+                Some((Job::Pool(threads), second.as_str(), "", ""))
             }
             _ => None,
         },
+        [word, plan, checkpoint, script] if word.as_str() == "resume" => Some((
+            Job::Resume,
+            plan.as_str(),
+            checkpoint.as_str(),
+            script.as_str(),
+        )),
         _ => None,
     }
 }

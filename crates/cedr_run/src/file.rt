@@ -1,7 +1,7 @@
 ghost use Rattle.std.specs.Prelude.{◌≡◌, ◌<◌, ◌≤◌, ◌+◌, length, ℕ, List, IfOk, IfSome};
 ghost use Rattle.std.specs.Io.KnownBytes.{Consumes};
 ghost use Rattle.cedr_io.specs.Counts.{Counts, last_count};
-ghost use Rattle.cedr_guard.specs.declared.refusal.TheConstants.{FILE_LIMIT};
+ghost use Rattle.cedr_save.specs.declared.reader.TheConstants.{CHECKPOINT_LIMIT};
 ghost use Rattle.cedr_run.specs.Files.{IsFileFront, AsksFile};
 
 use cedr_io::{Files, OutsideFault, Source};
@@ -14,7 +14,7 @@ pub(crate) fn read_file<F: Files>(
     files: &mut F,
     name: &[u8],
 ) -> Result<Vec<u8>, OutsideFault>
-    requires limit { limit ≤ FILE_LIMIT }
+    requires limit { limit ≤ CHECKPOINT_LIMIT }
     requires counts { F.faults files.old < last_count }
     ensures bytes { IfOk result (λ bytes. IfSome (F.content files.old name.now) (λ all. IsFileFront limit all bytes.items)) }
     ensures counted { Counts result (F.faults files.old) (F.faults files.new) }
@@ -29,7 +29,7 @@ pub(crate) fn read_file<F: Files>(
 
 /// Reads a source to its end, or until the bytes pass the limit. Each turn takes a byte at least, and a block at most.
 fn read_all<S: Source>(alloc: Global, limit: usize, source: &mut S) -> Result<Vec<u8>, OutsideFault>
-    requires { limit ≤ FILE_LIMIT }
+    requires { limit ≤ CHECKPOINT_LIMIT }
     ensures bytes { IfOk result (λ bytes. IfSome (S.rest source.old) (λ all. IsFileFront limit all bytes.items)) }
     ensures took { (bytes : List ℕ) × Consumes (S.rest source.old) (S.rest source.new) bytes × (length bytes ≤ limit + 4096) }
     ensures counted { Counts result (S.faults source.old) (S.faults source.new) }

@@ -35,10 +35,10 @@ pub(crate) fn history<F: Files, K: Sink>(
 ) -> Outcome
     requires files_count { F.faults files.old < last_count }
     requires out_counts { K.faults out.old < last_count }
-    ensures ends { (script : List ℕ) → CommandEnds (record { job = History; file = file.now; script = script })
+    ensures ends { (checkpoint script : List ℕ) → CommandEnds (record { job = History; file = file.now; checkpoint = checkpoint; script = script })
         (seen_files F.content F.faults F.asked files.old) (seen_files F.content F.faults F.asked files.new)
         (seen_sink K.written K.faults out.old) (seen_sink K.written K.faults out.new) result }
-    ensures asked { (script : List ℕ) → AsksOnly (record { job = History; file = file.now; script = script })
+    ensures asked { (checkpoint script : List ℕ) → AsksOnly (record { job = History; file = file.now; checkpoint = checkpoint; script = script })
         (seen_files F.content F.faults F.asked files.old) (seen_files F.content F.faults F.asked files.new) }
     ensures contents { (n : List ℕ) → F.content files.new n ≡ F.content files.old n }
 {

@@ -6,7 +6,8 @@
 //! say.
 //! What `history` writes is the text of the canonical history of the file's lines, as the crate `cedr_guard` defines
 //! it; what `check` writes is a line for each node of the plan that the file's bytes describe, as the crate `cedr_plan`
-//! defines them.
+//! defines them. `specs/Resuming.antt` says what `save` and `resume` write, and `resumed_commands` is their law: a script
+//! that goes on from a saved one writes what it writes behind that one.
 #![tactic(auto)]
 
 mod carry_out;
@@ -15,11 +16,14 @@ mod ending;
 mod events;
 mod file;
 mod history;
+mod law;
 mod make;
 mod outcome;
 mod plan;
 mod progress;
 mod refusal;
+mod resume;
+mod save;
 mod saying;
 mod script;
 mod sources;
@@ -30,5 +34,6 @@ mod threads;
 mod top;
 
 pub use ending::Ending;
+pub use law::resumed_commands;
 pub use status::Status;
 pub use top::{run, run_alone};

@@ -27,7 +27,7 @@ pub(crate) fn make<K: Sink>(alloc: Global, events: u64, out: &mut K) -> Outcome
     requires least { 0 < events }
     requires most { events ≤ 100000 }
     requires counts { K.faults out.old < last_count }
-    ensures { (files : FilesSeen) (file script : List ℕ) → CommandEnds (record { job = Make events; file = file; script = script }) files files
+    ensures { (files : FilesSeen) (file checkpoint script : List ℕ) → CommandEnds (record { job = Make events; file = file; checkpoint = checkpoint; script = script }) files files
         (seen_sink K.written K.faults out.old) (seen_sink K.written K.faults out.new) result }
 {
     match summary(alloc, events) {

@@ -3,7 +3,7 @@ ghost use Rattle.cedr_run.specs.declared.status.Status.TheVariants as status;
 ghost use Rattle.cedr_run.specs.Seen.{SinkGains, seen_sink};
 ghost use Rattle.cedr_run.specs.Outcomes.{status_of, outcome_text, TellsLack};
 
-use crate::refusal::write_plan_fault;
+use crate::refusal::{write_checkpoint_fault, write_plan_fault, write_unsaved};
 use crate::status::Status;
 use cedr_base::OutOfMemory;
 use cedr_io::{OutsideFault, Sink, write_all};
@@ -20,6 +20,10 @@ pub(crate) enum Outcome {
     Events(Vec<u8>),
     /// The plan is refused, for a fault of the node of this number, or of the document at 0.
     BadPlan(PlanKind, usize),
+    /// The plan can't be saved, and the node of this number is the first for which it can't.
+    Unsaved(usize),
+    /// A file isn't a checkpoint of the plan, for the line of this number.
+    BadCheckpoint(u64),
     Read,
     Write,
     OutOfMemory,
@@ -33,7 +37,8 @@ impl Outcome {
             Outcome::Done => Status::Done,
             Outcome::Usage => Status::Usage,
             Outcome::Events(_) => Status::Events,
-            Outcome::BadPlan(_, _) => Status::Plan,
+            Outcome::BadPlan(_, _) | Outcome::Unsaved(_) => Status::Plan,
+            Outcome::BadCheckpoint(_) => Status::Checkpoint,
             Outcome::Read => Status::Read,
             Outcome::Write => Status::Write,
             Outcome::OutOfMemory => Status::OutOfMemory,
@@ -48,10 +53,12 @@ impl Outcome {
         match self {
             Outcome::Done => {}
             Outcome::Usage => text.extend_from_slice(
-                b"usage: cedr history FILE | check PLAN | serial PLAN | run PLAN | stream PLAN | audit PLAN | live PLAN SCRIPT | make N | pool N PLAN\n",
+                b"usage: cedr history FILE | check PLAN | serial PLAN | run PLAN | stream PLAN | audit PLAN | live PLAN SCRIPT | make N | pool N PLAN | save PLAN SCRIPT | resume PLAN CHECKPOINT SCRIPT\n",
             )?,
             Outcome::Events(said) => return Ok(said),
             Outcome::BadPlan(kind, node) => write_plan_fault(kind, node, &mut text)?,
+            Outcome::Unsaved(node) => write_unsaved(node, &mut text)?,
+            Outcome::BadCheckpoint(line) => write_checkpoint_fault(line, &mut text)?,
             Outcome::Read => text.extend_from_slice(b"read fault\n")?,
             Outcome::Write => text.extend_from_slice(b"write fault\n")?,
             Outcome::OutOfMemory => text.extend_from_slice(b"out of memory\n")?,

@@ -6,13 +6,15 @@ ghost use Rattle.cedr_run.specs.Commands.{Command};
 ghost use Rattle.cedr_run.specs.Outcomes.{CommandEnds, AsksOnly};
 ghost use Rattle.cedr_run.specs.Seen.{seen_files, seen_sink};
 ghost use Rattle.cedr_run.specs.Files.{AsksFile};
-ghost use Rattle.cedr_run.specs.Steps.{OpensPlan, CountsStep};
+ghost use Rattle.cedr_run.specs.Steps.{OpensPlan, OpensSaved, CountsStep};
+ghost use Rattle.cedr_run.specs.Resuming.{CanSavePlan};
 
 use crate::file::read_file;
 use crate::outcome::Outcome;
 use crate::saying::write_text;
 use cedr_io::{Files, OutsideFault, Sink};
 use cedr_plan::{PLAN_LIMIT, Plan, PlanFault, read_plan, write_check};
+use cedr_save::can_save;
 use std::alloc::Global;
 
 /// The plan that a file describes, or how the command ends without one.
@@ -40,6 +42,30 @@ pub(crate) fn open_plan<F: Files>(
     }
 }
 
+/// The plan that a file describes, where it can be saved, or how the command ends without one.
+pub(crate) fn open_saved<F: Files>(
+    alloc: Global,
+    file: &[u8],
+    files: &mut F,
+) -> Result<Plan, Outcome>
+    requires { F.faults files.old < last_count }
+    ensures plan { IfOk result IsPlan }
+    ensures can { IfOk result (λ plan. CanSavePlan plan.nodes.items) }
+    ensures opened { OpensSaved result (F.content files.old file.now) }
+    ensures counted { CountsStep result (F.faults files.old) (F.faults files.new) }
+    ensures asked { AsksFile result (F.asked files.old) (F.asked files.new) file.now }
+    ensures contents { (n : List ℕ) → F.content files.new n ≡ F.content files.old n }
+{
+    let plan = match open_plan(alloc, file, files) {
+        Ok(plan) => plan,
+        Err(outcome) => return Err(outcome),
+    };
+    match can_save(&plan) {
+        Ok(()) => Ok(plan),
+        Err(fault) => Err(Outcome::Unsaved(fault.node)),
+    }
+}
+
 /// Writes a line for each node of a plan, with the types of its result.
 pub(crate) fn check<F: Files, K: Sink>(
     alloc: Global,
@@ -49,10 +75,10 @@ pub(crate) fn check<F: Files, K: Sink>(
 ) -> Outcome
     requires files_count { F.faults files.old < last_count }
     requires out_counts { K.faults out.old < last_count }
-    ensures ends { (script : List ℕ) → CommandEnds (record { job = Check; file = file.now; script = script })
+    ensures ends { (checkpoint script : List ℕ) → CommandEnds (record { job = Check; file = file.now; checkpoint = checkpoint; script = script })
         (seen_files F.content F.faults F.asked files.old) (seen_files F.content F.faults F.asked files.new)
         (seen_sink K.written K.faults out.old) (seen_sink K.written K.faults out.new) result }
-    ensures asked { (script : List ℕ) → AsksOnly (record { job = Check; file = file.now; script = script })
+    ensures asked { (checkpoint script : List ℕ) → AsksOnly (record { job = Check; file = file.now; checkpoint = checkpoint; script = script })
         (seen_files F.content F.faults F.asked files.old) (seen_files F.content F.faults F.asked files.new) }
     ensures contents { (n : List ℕ) → F.content files.new n ≡ F.content files.old n }
 {

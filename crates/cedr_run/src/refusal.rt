@@ -1,5 +1,5 @@
 ghost use Rattle.std.specs.Prelude.{◌≡◌, ◌++◌, OnOk};
-ghost use Rattle.cedr_run.specs.Refusals.{kept_text, refusal_text, plan_fault_text, fault_at};
+ghost use Rattle.cedr_run.specs.Refusals.{kept_text, refusal_text, plan_fault_text, unsaved_text, checkpoint_fault_text, fault_at};
 
 use cedr_base::OutOfMemory;
 use cedr_guard::{GuardFault, Refusal};
@@ -78,6 +78,26 @@ pub(crate) fn write_plan_fault(
     write_number(kind.number(), text)?;
     text.extend_from_slice(b" node ")?;
     write_number(node, text)?;
+    text.push(b'\n')?;
+    Ok(())
+}
+
+/// Appends what is reported on standard error of a plan that can't be saved.
+pub(crate) fn write_unsaved(node: usize, text: &mut Vec<u8>) -> Result<(), OutOfMemory>
+    ensures { OnOk result (text.new.items ≡ text.old.items ++ unsaved_text node) }
+{
+    text.extend_from_slice(b"plan fault 15 node ")?;
+    write_number(node, text)?;
+    text.push(b'\n')?;
+    Ok(())
+}
+
+/// Appends what is reported on standard error of a file that isn't a checkpoint.
+pub(crate) fn write_checkpoint_fault(line: u64, text: &mut Vec<u8>) -> Result<(), OutOfMemory>
+    ensures { OnOk result (text.new.items ≡ text.old.items ++ checkpoint_fault_text line) }
+{
+    text.extend_from_slice(b"checkpoint line ")?;
+    write_number(line, text)?;
     text.push(b'\n')?;
     Ok(())
 }

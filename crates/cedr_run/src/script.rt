@@ -24,10 +24,10 @@ pub(crate) fn live<F: Files, K: Sink>(
 ) -> Outcome
     requires files_count { F.faults files.old < last_count }
     requires out_counts { K.faults out.old < last_count }
-    ensures ends { CommandEnds (record { job = Live; file = file.now; script = script.now })
+    ensures ends { (checkpoint : List ℕ) → CommandEnds (record { job = Live; file = file.now; checkpoint = checkpoint; script = script.now })
         (seen_files F.content F.faults F.asked files.old) (seen_files F.content F.faults F.asked files.new)
         (seen_sink K.written K.faults out.old) (seen_sink K.written K.faults out.new) result }
-    ensures asked { AsksOnly (record { job = Live; file = file.now; script = script.now })
+    ensures asked { (checkpoint : List ℕ) → AsksOnly (record { job = Live; file = file.now; checkpoint = checkpoint; script = script.now })
         (seen_files F.content F.faults F.asked files.old) (seen_files F.content F.faults F.asked files.new) }
     ensures contents { (n : List ℕ) → F.content files.new n ≡ F.content files.old n }
 {

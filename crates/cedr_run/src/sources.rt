@@ -57,9 +57,9 @@ fn open<F: Files>(
     ensures plan { IfOk result (λ r. IsPlan r.0) }
     ensures sources { IfOk result (λ r. AreSources r.0.nodes.items r.1.items) }
     ensures opened { IfOk result (λ r. AreOpened (seen_files F.content F.faults F.asked files.old) (seen_files F.content F.faults F.asked files.new) file.now r.0.nodes.items r.1.items) }
-    ensures ends { IfErr result (λ o. (job : Job) (script : List ℕ) (out : SinkSeen) → ReadsSources job → CommandEnds (record { job = job; file = file.now; script = script })
+    ensures ends { IfErr result (λ o. (job : Job) (checkpoint script : List ℕ) (out : SinkSeen) → ReadsSources job → CommandEnds (record { job = job; file = file.now; checkpoint = checkpoint; script = script })
         (seen_files F.content F.faults F.asked files.old) (seen_files F.content F.faults F.asked files.new) out out o) }
-    ensures asked { (job : Job) (script : List ℕ) → ReadsSources job → AsksOnly (record { job = job; file = file.now; script = script })
+    ensures asked { (job : Job) (checkpoint script : List ℕ) → ReadsSources job → AsksOnly (record { job = job; file = file.now; checkpoint = checkpoint; script = script })
         (seen_files F.content F.faults F.asked files.old) (seen_files F.content F.faults F.asked files.new) }
     ensures contents { (n : List ℕ) → F.content files.new n ≡ F.content files.old n }
 {
@@ -120,10 +120,10 @@ pub(crate) fn on_sources<F: Files, K: Sink>(
     requires out_counts { K.faults out.old < last_count }
     requires job { ReadsSources job }
     requires alone { job ≢ Stream }
-    ensures ends { (script : List ℕ) → CommandEnds (record { job = job; file = file.now; script = script })
+    ensures ends { (checkpoint script : List ℕ) → CommandEnds (record { job = job; file = file.now; checkpoint = checkpoint; script = script })
         (seen_files F.content F.faults F.asked files.old) (seen_files F.content F.faults F.asked files.new)
         (seen_sink K.written K.faults out.old) (seen_sink K.written K.faults out.new) result }
-    ensures asked { (script : List ℕ) → AsksOnly (record { job = job; file = file.now; script = script })
+    ensures asked { (checkpoint script : List ℕ) → AsksOnly (record { job = job; file = file.now; checkpoint = checkpoint; script = script })
         (seen_files F.content F.faults F.asked files.old) (seen_files F.content F.faults F.asked files.new) }
     ensures contents { (n : List ℕ) → F.content files.new n ≡ F.content files.old n }
 {

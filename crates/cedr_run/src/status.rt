@@ -18,6 +18,8 @@ pub enum Status {
     Write,
     /// Memory ran out. At most a front of the answer was written.
     OutOfMemory,
+    /// A file isn't a checkpoint of the plan.
+    Checkpoint,
 }
 
 impl Status {
@@ -33,6 +35,7 @@ impl Status {
             Status::Read => 4,
             Status::Write => 5,
             Status::OutOfMemory => 6,
+            Status::Checkpoint => 7,
         }
     }
 }

@@ -304,14 +304,14 @@ where
     requires files_count { F.faults files.old < last_count }
     requires out_counts { K.faults out.old < last_count }
     requires job { IsThreaded job }
-    ensures ends { (script : List ℕ) → CommandEnds (record { job = job; file = file.now; script = script })
+    ensures ends { (checkpoint script : List ℕ) → CommandEnds (record { job = job; file = file.now; checkpoint = checkpoint; script = script })
         (seen_files F.content F.faults F.asked files.old) (seen_files F.content F.faults F.asked files.new)
         (seen_sink K.written K.faults out.old) (seen_sink K.written K.faults out.new) result.outcome }
     ensures strong { job ≡ Stream → StreamsPlan (seen_files F.content F.faults F.asked files.old) file.now (seen_sink K.written K.faults out.old) (seen_sink K.written K.faults out.new) }
-    ensures asked { (script : List ℕ) → AsksOnly (record { job = job; file = file.now; script = script })
+    ensures asked { (checkpoint script : List ℕ) → AsksOnly (record { job = job; file = file.now; checkpoint = checkpoint; script = script })
         (seen_files F.content F.faults F.asked files.old) (seen_files F.content F.faults F.asked files.new) }
     ensures contents { (n : List ℕ) → F.content files.new n ≡ F.content files.old n }
-    ensures ran { result.outcome ≡ outcome.Done → (script : List ℕ) → WroteRun (seen_files F.content F.faults F.asked files.old) (record { job = job; file = file.now; script = script })
+    ensures ran { result.outcome ≡ outcome.Done → (checkpoint script : List ℕ) → WroteRun (seen_files F.content F.faults F.asked files.old) (record { job = job; file = file.now; checkpoint = checkpoint; script = script })
         (seen_sink K.written K.faults out.old) (seen_sink K.written K.faults out.new) result.edges.items result.ran.items }
 {
     match open_plan(alloc, file, files) {

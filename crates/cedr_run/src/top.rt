@@ -54,7 +54,7 @@ where
         (seen_sink K.written K.faults out.old) (seen_sink K.written K.faults out.new) }
 {
     match command(words) {
-        Some((job @ (Job::Run | Job::Pool(_) | Job::Stream), file, _)) => {
+        Some((job @ (Job::Run | Job::Pool(_) | Job::Stream), file, _, _)) => {
             call_threads(rt, alloc, job, file.as_bytes(), files, out, err, gate)
         }
         named => bare(alloc, call(alloc, named, files, out, err)),
@@ -95,11 +95,11 @@ where
     requires files_count { F.faults files.old < last_count }
     requires out_counts { K.faults out.old < last_count }
     requires job { IsThreaded job }
-    ensures ends { (script : List ℕ) → Ends (Some (record { job = job; file = file.now; script = script }))
+    ensures ends { (checkpoint script : List ℕ) → Ends (Some (record { job = job; file = file.now; checkpoint = checkpoint; script = script }))
         (seen_files F.content F.faults F.asked files.old) (seen_files F.content F.faults F.asked files.new)
         (seen_sink K.written K.faults out.old) (seen_sink K.written K.faults out.new)
         (seen_sink E.written E.faults err.old) (seen_sink E.written E.faults err.new) result.status }
-    ensures ran { (script : List ℕ) → HasRun (Some (record { job = job; file = file.now; script = script }))
+    ensures ran { (checkpoint script : List ℕ) → HasRun (Some (record { job = job; file = file.now; checkpoint = checkpoint; script = script }))
         (seen_files F.content F.faults F.asked files.old)
         (seen_sink K.written K.faults out.old) (seen_sink K.written K.faults out.new)
         result.status result.edges.items result.ran.items }
@@ -136,7 +136,7 @@ pub fn run_alone<F: Files, K: Sink, E: Sink>(
 /// Carries out a command that stays on one thread, where there is one, and answers how it ended.
 fn call<F: Files, K: Sink, E: Sink>(
     alloc: Global,
-    named: Option<(Job, &str, &str)>,
+    named: Option<(Job, &str, &str, &str)>,
     files: &mut F,
     out: &mut K,
     err: &mut E,
@@ -145,15 +145,23 @@ fn call<F: Files, K: Sink, E: Sink>(
     requires out_counts { K.faults out.old < last_count }
     requires numbered { IfSome named (λ n. IsNumbered n.0) }
     requires alone { IfSome named (λ n. n.0 ≢ Stream) }
-    ensures { Ends (option_map (λ n. record { job = n.0; file = n.1.now; script = n.2.now }) named.entry)
+    ensures { Ends (option_map (λ n. record { job = n.0; file = n.1.now; checkpoint = n.2.now; script = n.3.now }) named.entry)
         (seen_files F.content F.faults F.asked files.old) (seen_files F.content F.faults F.asked files.new)
         (seen_sink K.written K.faults out.old) (seen_sink K.written K.faults out.new)
         (seen_sink E.written E.faults err.old) (seen_sink E.written E.faults err.new) result }
 {
     match named {
         None => Outcome::Usage.report(alloc, err),
-        Some((job, file, script)) => {
-            let outcome = carry_out(alloc, job, file.as_bytes(), script.as_bytes(), files, out);
+        Some((job, file, checkpoint, script)) => {
+            let outcome = carry_out(
+                alloc,
+                job,
+                file.as_bytes(),
+                checkpoint.as_bytes(),
+                script.as_bytes(),
+                files,
+                out,
+            );
             outcome.report(alloc, err)
         }
     }

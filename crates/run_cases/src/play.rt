@@ -83,7 +83,7 @@ pub(crate) fn play_alone(alloc: Global, case: &mut Case, words: &[&str]) -> Resu
 /// Whether a command writes as it goes.
 fn goes_on(words: &[String]) -> bool {
     match words {
-        [command, ..] => command.as_str() == "stream" || command.as_str() == "live",
+        [command, ..] => matches!(command.as_str(), "stream" | "live" | "resume"),
         [] => false,
     }
 }
