@@ -1,0 +1,13 @@
+pub mod Parts
+pub mod Columns
+pub mod RowsAlone
+pub mod Ties
+pub mod Chosen
+pub mod Joined
+pub mod Firsts
+pub mod Kept
+pub mod Several
+pub mod Operators
+pub mod Widths
+pub mod Query
+pub mod Shares
