@@ -234,7 +234,14 @@ def check_stand_ins(folder: Folder, differences: Differences) -> int:
     differences.expect(came[0] == 2 and came[2].startswith(b"cedr-explain: `--progress=soon`"), "a wrong option", came)
     came = folder.run(["--progress=0", "run", "plan.json"])
     differences.expect(came[0] == 2 and came[2].startswith(b"cedr-explain: `--progress=0`"), "no seconds", came)
-    return len(STAND_INS) + 6
+    with open("/dev/full", "wb") as full:
+        came = folder.run(["--help"], out=full)
+    wanted = b"cedr-explain: the help can't be written: No space left on device\n"
+    differences.expect((came[0], came[2]) == (2, wanted), "no room for the help", came)
+    closed = subprocess.run(f"'{TOOL}' --help >&-", shell=True, stderr=subprocess.PIPE, timeout=SECONDS)
+    wanted = b"cedr-explain: the help can't be written: standard output is closed\n"
+    differences.expect((closed.returncode, closed.stderr) == (2, wanted), "nowhere to write the help", closed)
+    return len(STAND_INS) + 8
 
 
 def check_status_kept(folder: Folder, differences: Differences) -> int:

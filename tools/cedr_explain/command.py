@@ -43,8 +43,8 @@ The program is the one that the variable CEDR names, else the one that was built
 with this tool, else `cedr` on the path.
 
 Exit status: that of the program; 128 + N where the signal N ended it; 127 where there is no
-program; 126 where it can't be started; 2 where the tool's own options aren't right, with a
-text that begins with `cedr-explain:`.
+program; 126 where it can't be started; 2 where the tool's own options aren't right or its help
+can't be written, with a text that begins with `cedr-explain:`.
 """
 OPTION = re.compile(r"--progress(?:=([0-9]+(?:\.[0-9]+)?))?")
 # Python's int takes no text of over 4,300 digits, and no number of the program has over 20.
@@ -64,8 +64,7 @@ BUILT = [HERE.parent / "crates/cedr/out/cedr", HERE.parent.parent / "bin/cedr"]
 
 def main(words: list) -> int:
     if words[:1] == ["--help"]:
-        sys.stdout.write(HELP)
-        return 0
+        return show_help()
     option = OPTION.fullmatch(words[0]) if words else None
     seconds = float(option[1] or 1) if option else None
     if words and words[0].startswith("--progress") and not seconds:
@@ -85,6 +84,16 @@ def main(words: list) -> int:
     status = process.returncode
     guarded(lambda: tell(sentences(words, call, status, told)))
     return status if status >= 0 else 128 - status
+
+
+def show_help() -> int:
+    if not sys.stdout:
+        return own_fault("the help can't be written: standard output is closed", 2)
+    try:
+        os.write(sys.stdout.fileno(), HELP.encode())
+    except OSError as error:
+        return own_fault(f"the help can't be written: {error.strerror}", 2)
+    return 0
 
 
 def own_fault(text: str, status: int) -> int:
