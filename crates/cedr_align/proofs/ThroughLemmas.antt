@@ -1,7 +1,7 @@
 -- A change goes through where no row waits.
-use Rattle.std.proofs.Common.{◌≡◌, ℕ, List, [], ◌∷◌, ◌++◌, Bool, true, false, cond, not, refl, ap, sym, ◌∙◌, subst, arith}
+use Rattle.std.proofs.Common.{◌≡◌, ℕ, ◌<◌, List, [], ◌∷◌, ◌++◌, Bool, true, false, cond, not, refl, ap, sym, ◌∙◌, subst, arith}
 use Rattle.std.specs.Prelude.{Option, filter}
-use Rattle.std.proofs.lemmas.Bool.{le-ltb}
+use Rattle.std.proofs.lemmas.Bool.{lt-ltb, le-ltb}
 use Rattle.std.proofs.lemmas.List.{append-nil}
 use Rattle.cedr_base.specs.declared.row.Row.{Row}
 use Rattle.cedr_base.specs.declared.change.Change.{Change}
@@ -15,7 +15,7 @@ use Rattle.change_laws.proofs.BagSums.{same_itself}
 use Rattle.node_laws.specs.Lists.{mark_above}
 use Rattle.node_laws.specs.Pass.{front_at}
 use Rattle.cedr_align.specs.Remembered.{is_remembered}
-use Rattle.cedr_align.specs.Released.{AreApplied, GoesThrough, IsKeptAndSettled}
+use Rattle.cedr_align.specs.Released.{AreApplied, GoesThrough, IsSettled, IsKeptAndSettled}
 use Rattle.cedr_align.proofs.RememberedLemmas.{none_applied, applied_there}
 
 -- no mark is above itself
@@ -78,3 +78,17 @@ module _ (memory : Option ℕ) (ended : Bool) (mark high : ℕ) (stays : Row →
       subst (λ (rows : List Row). IsKeptAndSettled memory stays remembers ended mark (Add r) rows passed out rows passed2 out') (sym goes.0) (added_through r goes.1 applied forgot out_is)
   gone_through (Cut r e) held goes applied forgot out_is =
       subst (λ (rows : List Row). IsKeptAndSettled memory stays remembers ended mark (Cut r e) rows passed out rows passed2 out') (sym goes) (cut_through r e applied forgot out_is)
+
+  -- where no row waits, a mark above the one before is all that is passed on
+  pub mark_alone : (old : ℕ) (held : List Row) → held ≡ [] → ended ≡ false → old < mark → SameRows passed2 (filter remembers passed)
+      → IsSettled stays remembers ended mark old held passed [] held passed2 (message.Mark mark ∷ [])
+  mark_alone old held none going above forgot =
+      subst (λ (rows : List Row). IsSettled stays remembers ended mark old rows passed [] rows passed2 (message.Mark mark ∷ [])) (sym none) (record {
+        released = [];
+        are = record { ascend = tt; same = same_itself [] };
+        held_are = same_itself [];
+        passed_are = subst (λ (rows : List Row). SameRows passed2 (filter remembers rows)) (sym (append-nil passed)) forgot;
+        out_is =
+            sym (ap (λ (b : Bool). mark_above old (front_at b mark [])) going
+            ∙ ap (λ (b : Bool). cond b (message.Mark mark ∷ []) []) (lt-ltb old mark above));
+      })

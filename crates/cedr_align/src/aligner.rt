@@ -1,14 +1,15 @@
-ghost use Rattle.std.specs.Prelude.{◌≡◌, ◌++◌, ◌∷◌, [], List, IfOk, OnErr, length, take};
+ghost use Rattle.std.specs.Prelude.{◌≡◌, ◌++◌, ◌∷◌, [], List, IfOk, OnErr, false, true, length, take};
 ghost use Rattle.cedr_base.specs.declared.change.Message.{Message};
 ghost use Rattle.cedr_base.specs.declared.change.Message.TheVariants as message;
 ghost use Rattle.cedr_base.specs.Messages.{MayCome};
+ghost use Rattle.cedr_align.specs.declared.fate.Fate.TheVariants as fate;
 ghost use Rattle.node_laws.specs.Kept.{high_of};
 ghost use Rattle.node_laws.specs.Pass.{front, HasBlockWithin};
 
 use crate::fate::Fate;
 use crate::held::Held;
 use crate::keep::find_cause;
-use cedr_base::{Change, Level, Message, OutOfMemory, Time};
+use cedr_base::{Change, Level, Message, OutOfMemory, Row, Time};
 use cedr_table::Table;
 use node_laws::Forgotten;
 use std::alloc::Global;
@@ -25,6 +26,8 @@ pub struct Aligner {
     pub(crate) ended: bool,
     pub(crate) held: Held,
     pub(crate) passed: Table,
+    /// Room for the rows that are released.
+    pub(crate) released: Vec<Row>,
 }
 
 impl Drop for Aligner {
@@ -36,6 +39,7 @@ impl Drop for Aligner {
             ended: _,
             held: _,
             passed: _,
+            released: _,
         } = self;
     }
 }
@@ -57,6 +61,7 @@ impl Aligner {
             ended: false,
             held: Held::new(alloc),
             passed: Table::new(alloc),
+            released: Vec::new(alloc),
         }
     }
 
@@ -73,6 +78,66 @@ impl Aligner {
         ensures { (ms : List Message) → Aligns self.now ms → result ≡ high_of ms }
     {
         self.high
+    }
+
+    /// Takes a change where it goes through. Whether it did.
+    fn change_through(&mut self, alloc: Global, change: &Change) -> Result<bool, OutOfMemory>
+        ensures through { IfOk result (λ went. went ≡ true → (ms : List Message) → Aligns self.old ms → MayCome ms (message.Change change.now) → IsTaken self.old self.new ms (message.Change change.now) [] (message.Change change.now ∷ []) fate.Kept) }
+        ensures stays { IfOk result (λ went. went ≡ false → self.new ≡ self.old) }
+        ensures level { self.new.level ≡ self.old.level }
+    {
+        let high = self.high.max(change.sync());
+        if !self.goes_through(high, change) {
+            return Ok(false);
+        }
+        match find_cause(
+            self.level.memory,
+            self.high,
+            &self.held,
+            &self.passed,
+            change,
+        ) {
+            Some(_) => Ok(false),
+            None => {
+                self.high = high;
+                self.keep_through(alloc, change)?;
+                Ok(true)
+            }
+        }
+    }
+
+    /// Takes a mark where it goes through. Whether it did.
+    fn mark_through(&mut self, alloc: Global, mark: Time) -> bool
+        ensures through { result ≡ true → (ms : List Message) → Aligns self.old ms → MayCome ms (message.Mark mark) → IsTaken self.old self.new ms (message.Mark mark) [] (message.Mark mark ∷ []) fate.Kept }
+        ensures stays { result ≡ false → self.new ≡ self.old }
+        ensures level { self.new.level ≡ self.old.level }
+    {
+        if !self.held.is_empty() {
+            return false;
+        }
+        self.mark = mark;
+        self.high = self.high.max(mark);
+        self.forget(alloc);
+        true
+    }
+
+    /// Takes a message that may come after those before it, where it goes through: it is then all that is passed on.
+    /// Says whether it did, and where it didn't the aligner stays as it is. A change goes through where it isn't
+    /// forgotten, no row waits, and its own needn't; a mark where no row waits; and no other message does. Where memory
+    /// runs out the aligner is only to be dropped. O(1) where the memory has no limit, and else O(log n) in the rows that
+    /// are remembered, for the message and for each that is forgotten.
+    pub fn take_through(&mut self, alloc: Global, message: &Message) -> Result<bool, OutOfMemory>
+        ensures through { IfOk result (λ went. went ≡ true → (ms : List Message) → Aligns self.old ms → MayCome ms message.now → IsTaken self.old self.new ms message.now [] (message.now ∷ []) fate.Kept) }
+        ensures held { IfOk result (λ went. went ≡ true → (ms : List Message) → Aligns self.old ms → MayCome ms message.now → OnlyKeeps self.new (ms ++ message.now ∷ [])) }
+        ensures stays { IfOk result (λ went. went ≡ false → self.new ≡ self.old) }
+        ensures level { self.new.level ≡ self.old.level }
+    {
+        match message {
+            Message::Change(change) => self.change_through(alloc, change),
+            Message::Mark(mark) => Ok(self.mark_through(alloc, *mark)),
+            Message::End => Ok(false),
+            Message::Broken => Ok(false),
+        }
     }
 
     fn take_change(
@@ -139,6 +204,25 @@ impl Aligner {
         }
     }
 
+    /// Takes a message, and hands it on itself where it goes through. Where memory runs out some of what it passes on may
+    /// stand there.
+    fn take_either(
+        &mut self,
+        alloc: Global,
+        message: Message,
+        out: &mut Vec<Message>,
+    ) -> Result<Fate, OutOfMemory>
+        ensures taken { IfOk result (λ fate. (ms : List Message) → Aligns self.old ms → MayCome ms message → IsTaken self.old self.new ms message out.old.items out.new.items fate) }
+        ensures level { self.new.level ≡ self.old.level }
+        ensures kept { take (length out.old.items) out.new.items ≡ out.old.items }
+    {
+        if self.take_through(alloc, &message)? {
+            out.push(message)?;
+            return Ok(Fate::Kept);
+        }
+        self.take_message(alloc, message, out)
+    }
+
     /// Takes a message that may come after those before it, and appends what it passes on: a retraction of a row
     /// that passed, the rows that needn't wait any longer in canonical order, the front where it rose, and the end. A
     /// break passes on itself alone. Where memory runs out nothing is appended, and the aligner is only to be dropped.
@@ -157,7 +241,7 @@ impl Aligner {
         ensures err { OnErr result (out.new.items ≡ out.old.items) }
     {
         let before = out.len();
-        let result = self.take_message(alloc, message, out);
+        let result = self.take_either(alloc, message, out);
         if result.is_err() {
             out.truncate(before);
         }

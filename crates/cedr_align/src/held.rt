@@ -247,8 +247,8 @@ impl Held {
         Ok(())
     }
 
-    /// Takes out the rows that needn't wait any longer, in canonical order. O(log n) for each of them and for one
-    /// that stays.
+    /// Takes out the rows that needn't wait any longer. They stand in the list in canonical order, in place of what stood
+    /// there. O(log n) for each of them and for one that stays.
     pub(crate) fn release(
         &mut self,
         alloc: Global,
@@ -256,15 +256,16 @@ impl Held {
         ended: bool,
         mark: Time,
         high: Time,
-    ) -> Result<Vec<Row>, OutOfMemory>
+        released: &mut Vec<Row>,
+    ) -> Result<(), OutOfMemory>
         ensures kept { OnOk result (SameRows self.new (filter (is_held block ended mark high) self.old)) }
-        ensures released { IfOk result (λ rows. IsReleased (is_held block ended mark high) self.old rows.items) }
+        ensures released { OnOk result (IsReleased (is_held block ended mark high) self.old released.new.items) }
     {
-        let mut released = Vec::new(alloc);
-        self.release_ended(alloc, ended, mark, &mut released)?;
-        self.release_unblocked(alloc, block, high, &mut released)?;
-        sort_rows(&mut released)?;
-        Ok(released)
+        released.clear();
+        self.release_ended(alloc, ended, mark, released)?;
+        self.release_unblocked(alloc, block, high, released)?;
+        sort_rows(released)?;
+        Ok(())
     }
 
     /// The least of a time and the begins of the rows.

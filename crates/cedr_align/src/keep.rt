@@ -57,7 +57,7 @@ fn apply(passed: &mut Table, change: Change) -> Result<(), OutOfMemory>
 }
 
 /// Applies a change to the passed rows, where any are remembered.
-fn apply_where(
+pub(crate) fn apply_where(
     alloc: Global,
     memory: Option<u64>,
     passed: &mut Table,
@@ -72,7 +72,7 @@ fn apply_where(
 }
 
 /// Passes a change on, and applies it to the passed rows, where any are remembered.
-pub(crate) fn pass_on(
+fn pass_on(
     alloc: Global,
     memory: Option<u64>,
     passed: &mut Table,

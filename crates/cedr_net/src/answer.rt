@@ -65,13 +65,13 @@ impl Answer {
         }
     }
 
-    /// A piece came of the output.
-    pub(crate) fn note_all(&mut self, piece: Vec<Message>) -> Result<(), OutOfMemory>
-        requires { (given : List Message) × IsAnswerOf self.old given × IsLegalBehind given piece.items }
-        ensures noted { OnOk result ((given : List Message) → IsAnswerOf self.old given → IsLegalBehind given piece.items → IsAnswerOf self.new (given ++ piece.items)) }
+    /// A piece came of the output. It is moved out of its list.
+    pub(crate) fn note_all(&mut self, piece: &mut Vec<Message>) -> Result<(), OutOfMemory>
+        requires { (given : List Message) × IsAnswerOf self.old given × IsLegalBehind given piece.old.items }
+        ensures noted { OnOk result ((given : List Message) → IsAnswerOf self.old given → IsLegalBehind given piece.old.items → IsAnswerOf self.new (given ++ piece.old.items)) }
         ensures keeps { self.new.keeps ≡ self.old.keeps }
     {
-        for message in piece {
+        for message in piece.drain(..) {
             self.note(message)?;
         }
         Ok(())

@@ -91,7 +91,7 @@ fn send_copies(
 }
 
 /// A message waits on ports: itself on the last one, and copies of it on the others.
-fn send_one(
+pub(crate) fn send_one(
     alloc: Global,
     readers: &[Reader],
     waiting: &mut Vec<Queues>,
@@ -110,17 +110,17 @@ fn send_one(
     }
 }
 
-/// Messages wait on ports, one after the other.
+/// Messages are moved out of their list and wait on ports, one after the other.
 pub(crate) fn send(
     alloc: Global,
     readers: &[Reader],
     waiting: &mut Vec<Queues>,
-    messages: Vec<Message>,
+    messages: &mut Vec<Message>,
 ) -> Result<(), OutOfMemory>
     requires { ArePorts waiting.old.items readers.now }
-    ensures { OnOk result (waiting.new.items ≡ all_wait waiting.old.items readers.now messages.items) }
+    ensures { OnOk result (waiting.new.items ≡ all_wait waiting.old.items readers.now messages.old.items) }
 {
-    for message in messages {
+    for message in messages.drain(..) {
         send_one(alloc, readers, waiting, message)?;
     }
     Ok(())

@@ -8,12 +8,12 @@ ghost use Rattle.cedr_plan.specs.Rules.{IsPlan};
 ghost use Rattle.plan_runs.specs.Runs.{lists_at};
 ghost use Rattle.cedr_plan.specs.Places.{is_source};
 ghost use Rattle.cedr_net.specs.declared.work.Work.{Work};
-ghost use Rattle.cedr_net.specs.Edges.{all_wait, ArePorts, NothingWaits};
+ghost use Rattle.cedr_net.specs.Edges.{all_wait, waits_on_all, ArePorts, NothingWaits};
 ghost use Rattle.cedr_net.specs.Flows.{WorksAt, IsWorked, IsSourceAt, no_ports};
 ghost use Rattle.cedr_net.specs.Networks.{IsAnswerOf, FlowStands, IsTurn, IsDrained, IsSettledUpTo};
 
 use crate::answer::Answer;
-use crate::edges::{Readers, pull_at, send};
+use crate::edges::{Readers, pull_at, send, send_one};
 use crate::queue::Queues;
 use crate::work::Work;
 use cedr_base::{Message, OutOfMemory, Time};
@@ -31,6 +31,8 @@ pub(crate) struct Flow {
     pub(crate) answer: Answer,
     /// The last mark that came on the output's port, 0 at first.
     pub(crate) reach: Time,
+    /// Room for what a node gives for one message.
+    piece: Vec<Message>,
 }
 
 /// The mark that a message is, and 0 where it is none.
@@ -45,21 +47,37 @@ fn mark_in(message: &Message) -> Time
     }
 }
 
-/// The node at a place takes a message, and the piece that it gives for it is answered.
+/// The node at a place takes a message. The piece that it gives for it stands in the list, in place of what stood there.
 fn take_at(
     alloc: Global,
     works: &mut Vec<Work>,
     place: usize,
     port: usize,
     message: Message,
-) -> Result<Vec<Message>, OutOfMemory>
+    piece: &mut Vec<Message>,
+) -> Result<(), OutOfMemory>
     requires place { place < length works.old.items }
     requires works { (n : PlanNode) × (lists : Lists) × (given : List Message) × (is_source n.kind ≡ false) × ((d : Work) → WorksAt (slice_index_or works.old.items place d) n lists given) × MayTake lists port message }
-    ensures { IfOk result (λ piece. (n : PlanNode) (lists : Lists) (given : List Message) → is_source n.kind ≡ false → ((d : Work) → WorksAt (slice_index_or works.old.items place d) n lists given) → MayTake lists port message → IsWorked works.old.items works.new.items place n (with_more lists port (message ∷ [])) (given ++ piece.items)) }
+    ensures { OnOk result ((n : PlanNode) (lists : Lists) (given : List Message) → is_source n.kind ≡ false → ((d : Work) → WorksAt (slice_index_or works.old.items place d) n lists given) → MayTake lists port message → IsWorked works.old.items works.new.items place n (with_more lists port (message ∷ [])) (given ++ piece.new.items)) }
 {
-    let mut piece = Vec::new(alloc);
-    works[place].take(alloc, port, message, &mut piece)?;
-    Ok(piece)
+    piece.clear();
+    works[place].take(alloc, port, message, piece)?;
+    Ok(())
+}
+
+/// A message that a node gave waits on the ports that read it.
+fn pass_one(
+    alloc: Global,
+    readers: &[Readers],
+    waiting: &mut Vec<Queues>,
+    place: usize,
+    message: Message,
+) -> Result<(), OutOfMemory>
+    requires place { place < length readers.now }
+    requires ports { ArePorts waiting.old.items (slice_index_or readers.now place []) }
+    ensures { OnOk result (waiting.new.items ≡ waits_on_all waiting.old.items (slice_index_or readers.now place []) message) }
+{
+    send_one(alloc, readers[place].as_slice(), waiting, message)
 }
 
 /// What a node gave waits on the ports that read it.
@@ -68,11 +86,11 @@ fn pass_on(
     readers: &[Readers],
     waiting: &mut Vec<Queues>,
     place: usize,
-    piece: Vec<Message>,
+    piece: &mut Vec<Message>,
 ) -> Result<(), OutOfMemory>
     requires place { place < length readers.now }
     requires ports { ArePorts waiting.old.items (slice_index_or readers.now place []) }
-    ensures { OnOk result (waiting.new.items ≡ all_wait waiting.old.items (slice_index_or readers.now place []) piece.items) }
+    ensures { OnOk result (waiting.new.items ≡ all_wait waiting.old.items (slice_index_or readers.now place []) piece.old.items) }
 {
     send(alloc, readers[place].as_slice(), waiting, piece)
 }
@@ -101,6 +119,7 @@ impl Flow {
             output: find_output(nodes),
             answer: Answer::new(alloc, keeps),
             reach: 0,
+            piece: Vec::new(alloc),
         })
     }
 
@@ -115,44 +134,36 @@ impl Flow {
         ensures fed { OnOk result ((nodes : List PlanNode) (ports : List Lists) (given : Lists) → FlowStands nodes self.old ports given → place < length nodes → IsSourceAt nodes place → MayCome (list_at given place) message → FlowStands nodes self.new ports (with_more given place (message ∷ []))) }
         ensures keeps { self.new.answer.keeps ≡ self.old.answer.keeps }
     {
-        let mut sent = Vec::new(alloc);
-        sent.push(message)?;
-        pass_on(
+        pass_one(
             alloc,
             self.readers.as_slice(),
             &mut self.waiting,
             place,
-            sent,
+            message,
         )?;
         Ok(())
     }
 
-    /// What the node at a place gave is the output's, or waits on the ports that read it.
-    fn give(
-        &mut self,
-        alloc: Global,
-        place: usize,
-        mark: Time,
-        piece: Vec<Message>,
-    ) -> Result<(), OutOfMemory>
+    /// The piece that the node at a place gave is the output's, or waits on the ports that read it.
+    fn give(&mut self, alloc: Global, place: usize, mark: Time) -> Result<(), OutOfMemory>
         requires place { place < length self.old.readers.items }
         requires ports { ArePorts self.old.waiting.items (slice_index_or self.old.readers.items place []) }
-        requires noted { nat_eq place self.old.output ≡ true → (given : List Message) × IsAnswerOf self.old.answer given × IsLegalBehind given piece.items }
-        ensures sent { OnOk result (nat_eq place self.old.output ≡ false → (self.new.waiting.items ≡ all_wait self.old.waiting.items (slice_index_or self.old.readers.items place []) piece.items) × (self.new.answer ≡ self.old.answer) × (self.new.reach ≡ self.old.reach)) }
-        ensures noted { OnOk result (nat_eq place self.old.output ≡ true → (self.new.waiting.items ≡ self.old.waiting.items) × (self.new.reach ≡ max self.old.reach mark) × ((given : List Message) → IsAnswerOf self.old.answer given → IsLegalBehind given piece.items → IsAnswerOf self.new.answer (given ++ piece.items))) }
+        requires noted { nat_eq place self.old.output ≡ true → (given : List Message) × IsAnswerOf self.old.answer given × IsLegalBehind given self.old.piece.items }
+        ensures sent { OnOk result (nat_eq place self.old.output ≡ false → (self.new.waiting.items ≡ all_wait self.old.waiting.items (slice_index_or self.old.readers.items place []) self.old.piece.items) × (self.new.answer ≡ self.old.answer) × (self.new.reach ≡ self.old.reach)) }
+        ensures noted { OnOk result (nat_eq place self.old.output ≡ true → (self.new.waiting.items ≡ self.old.waiting.items) × (self.new.reach ≡ max self.old.reach mark) × ((given : List Message) → IsAnswerOf self.old.answer given → IsLegalBehind given self.old.piece.items → IsAnswerOf self.new.answer (given ++ self.old.piece.items))) }
         ensures keeps { self.new.answer.keeps ≡ self.old.answer.keeps }
         ensures others { OnOk result ((self.new.readers.items ≡ self.old.readers.items) × (self.new.works.items ≡ self.old.works.items) × (self.new.output ≡ self.old.output)) }
     {
         if place == self.output {
             self.reach = self.reach.max(mark);
-            return self.answer.note_all(piece);
+            return self.answer.note_all(&mut self.piece);
         }
         pass_on(
             alloc,
             self.readers.as_slice(),
             &mut self.waiting,
             place,
-            piece,
+            &mut self.piece,
         )
     }
 
@@ -168,8 +179,15 @@ impl Flow {
             None => Ok(false),
             Some((port, message)) => {
                 let mark = mark_in(&message);
-                let piece = take_at(alloc, &mut self.works, place, port, message)?;
-                self.give(alloc, place, mark, piece)?;
+                take_at(
+                    alloc,
+                    &mut self.works,
+                    place,
+                    port,
+                    message,
+                    &mut self.piece,
+                )?;
+                self.give(alloc, place, mark)?;
                 Ok(true)
             }
         }

@@ -4,8 +4,9 @@ ghost use Rattle.cedr_base.specs.declared.change.Message.{Message};
 ghost use Rattle.node_laws.specs.Pass.{HasBlockWithin};
 ghost use Rattle.node_laws.specs.Lists.{Lists, list_at, with_more};
 ghost use Rattle.node_laws.specs.Lawful.{any_broken, all_over};
-ghost use Rattle.op_driver.specs.Driving.{MayTake};
-ghost use Rattle.cedr_node.specs.Standing.{AllStand, StandsBetween, IsTakenOn, IsForgottenAt, levels_of, waiting_of, is_broken, is_closing, end_of_ports, breaking, HoldsAtFronts};
+ghost use Rattle.cedr_base.specs.Messages.{IsLegalBehind};
+ghost use Rattle.op_driver.specs.Driving.{Answers, Drives, MayTake};
+ghost use Rattle.cedr_node.specs.Standing.{AllStand, StandsBetween, IsTakenOn, IsForgottenAt, all_passed, levels_of, waiting_of, is_broken, is_closing, end_of_ports, breaking, HoldsAtFronts};
 
 use crate::port::Port;
 use cedr_base::{Level, Message, OutOfMemory};
@@ -23,6 +24,8 @@ pub(crate) struct Aligned<O> {
     waiting: usize,
     /// Whether a port broke.
     broken: bool,
+    /// Room for what a port passes on.
+    passed: Vec<Message>,
 }
 
 fn closes(message: &Message) -> bool
@@ -77,20 +80,42 @@ fn push_broken(waiting: usize, out: &mut Vec<Message>) -> Result<(), OutOfMemory
     Ok(())
 }
 
-/// Hands a message to a port, and gives what that passes on.
+/// Hands a message to a port. It comes back where it is all that the port passes on. Otherwise what that passes on
+/// stands in the list, in place of what stood there.
 fn take_on(
     alloc: Global,
     ports: &mut Vec<Port>,
     port: usize,
     message: Message,
-) -> Result<Vec<Message>, OutOfMemory>
+    passed: &mut Vec<Message>,
+) -> Result<Option<Message>, OutOfMemory>
     requires { port < length ports.old.items }
-    ensures taken { IfOk result (λ passed. (lists : Lists) → AllStand ports.old.items lists → MayTake lists port message → IsTakenOn ports.old.items ports.new.items port (list_at lists port) message passed.items) }
+    ensures taken { IfOk result (λ alone. (lists : Lists) → AllStand ports.old.items lists → MayTake lists port message → IsTakenOn ports.old.items ports.new.items port (list_at lists port) message (all_passed alone passed.new.items)) }
     ensures levels { levels_of ports.new.items ≡ levels_of ports.old.items }
 {
-    let mut passed = Vec::new(alloc);
-    ports[port].take(alloc, message, &mut passed)?;
-    Ok(passed)
+    let alone = ports[port].take(alloc, message, passed)?;
+    Ok(alone)
+}
+
+/// Hands what a port passed on to the operator: a message alone, or else those of the list. Where memory runs out some
+/// of what answers it may stand there.
+fn drive<O: Operator>(
+    alloc: Global,
+    driver: &mut Driver<O>,
+    port: usize,
+    alone: Option<Message>,
+    passed: &mut Vec<Message>,
+    out: &mut Vec<Message>,
+) -> Result<(), OutOfMemory>
+    requires { (lists : Lists) × (given : List Message) × Drives (O.meaning driver.old.op) (O.stands driver.old.op) driver.old.marks.items driver.old.sent lists given × (port < length lists) × IsLegalBehind (list_at lists port) (all_passed alone passed.old.items) }
+    ensures answers { OnOk result ((lists : Lists) (given : List Message) → Drives (O.meaning driver.old.op) (O.stands driver.old.op) driver.old.marks.items driver.old.sent lists given → port < length lists → IsLegalBehind (list_at lists port) (all_passed alone passed.old.items) → Answers (O.meaning driver.old.op) (O.stands driver.new.op) (O.held driver.new.op) driver.new.marks.items driver.old.sent driver.new.sent lists port (all_passed alone passed.old.items) given out.old.items out.new.items) }
+    ensures meaning { O.meaning driver.new.op ≡ O.meaning driver.old.op }
+    ensures kept { take (length out.old.items) out.new.items ≡ out.old.items }
+{
+    match alone {
+        Some(message) => driver.take_one(alloc, port, message, out),
+        None => driver.take(alloc, port, passed, out),
+    }
 }
 
 fn make_ports(alloc: Global, levels: &[Level]) -> Result<Vec<Port>, OutOfMemory>
@@ -124,6 +149,7 @@ impl<O: Operator> Aligned<O> {
             ports,
             waiting: levels.len(),
             broken: false,
+            passed: Vec::new(alloc),
         })
     }
 
@@ -144,13 +170,13 @@ impl<O: Operator> Aligned<O> {
     {
         let closed = closes(&message);
         let broke = breaks(&message);
-        let passed = take_on(alloc, &mut self.ports, port, message)?;
+        let alone = take_on(alloc, &mut self.ports, port, message, &mut self.passed)?;
         self.waiting = count_down(self.waiting, closed);
         self.broken = self.broken | broke;
         if self.broken {
             return push_broken(self.waiting, out);
         }
-        self.driver.take(alloc, port, passed, out)?;
+        drive(alloc, &mut self.driver, port, alone, &mut self.passed, out)?;
         push_end(self.waiting, out)
     }
 

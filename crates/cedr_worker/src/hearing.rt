@@ -32,6 +32,7 @@ fn hear(
     node: &mut Node,
     writer: &mut Writer,
     message: Message,
+    piece: &mut Vec<Message>,
     lacked: bool,
     pending: bool,
 ) -> Tells
@@ -45,8 +46,8 @@ fn hear(
     if lacked {
         return Tells { lacked, pending };
     }
-    match take_on(alloc, node, 0, message) {
-        Ok(piece) => tell_all(writer, piece),
+    match take_on(alloc, node, 0, message, piece) {
+        Ok(()) => tell_all(writer, piece),
         Err(_) => Tells {
             lacked: true,
             pending,
@@ -61,6 +62,7 @@ pub(crate) fn take_next<R: Wait>(
     node: &mut Node,
     input: &mut EdgeIn,
     writer: &mut Writer,
+    piece: &mut Vec<Message>,
     lacked: bool,
     pending: bool,
 ) -> Hears
@@ -88,7 +90,7 @@ pub(crate) fn take_next<R: Wait>(
             pending,
         },
         Some(message) => {
-            let told = hear(alloc, node, writer, message, lacked, pending);
+            let told = hear(alloc, node, writer, message, piece, lacked, pending);
             Hears {
                 moved: true,
                 lacked: told.lacked,

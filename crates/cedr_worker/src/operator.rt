@@ -13,7 +13,7 @@ use crate::ran::Ran;
 use crate::resting::rest;
 use crate::turn::Turn;
 use crate::working::work;
-use cedr_base::OutOfMemory;
+use cedr_base::{Message, OutOfMemory};
 use cedr_edge::{EdgeIn, EdgeOut};
 use cedr_io::Gate;
 use cedr_node::Node;
@@ -39,6 +39,8 @@ pub struct OperatorWorker {
     /// The `Broken` of a worker that lacked memory is pending or sent.
     broke: bool,
     alloc: Global,
+    /// Room for what the node gives for one message.
+    piece: Vec<Message>,
 }
 
 /// What is left of a worker that ended.
@@ -93,6 +95,7 @@ impl OperatorWorker {
             lacked: false,
             broke: false,
             alloc,
+            piece: Vec::new(alloc),
         })
     }
 
@@ -116,6 +119,7 @@ impl OperatorWorker {
             &mut self.node,
             &mut self.inputs,
             &mut self.outlets,
+            &mut self.piece,
             self.lacked,
             self.broke,
         );

@@ -13,6 +13,7 @@ use crate::hearing::{show, take_next};
 use crate::ran::Ran;
 use crate::resting::rest;
 use crate::turn::Turn;
+use cedr_base::Message;
 use cedr_edge::EdgeIn;
 use cedr_history::{Note, Writer};
 use cedr_io::Gate;
@@ -40,6 +41,8 @@ pub struct OutputWorker {
     /// Something is pending in the writer, since memory was lacking for its publish.
     pending: bool,
     alloc: Global,
+    /// Room for what the node gives for one message.
+    piece: Vec<Message>,
 }
 
 /// What is left of an output's worker that ended. It can't be dropped, as its writer can't be.
@@ -86,6 +89,7 @@ impl OutputWorker {
             lacked: false,
             pending: false,
             alloc,
+            piece: Vec::new(alloc),
         }
     }
 
@@ -105,6 +109,7 @@ impl OutputWorker {
             &mut self.node,
             &mut self.input,
             &mut self.writer,
+            &mut self.piece,
             self.lacked,
             self.pending,
         );
@@ -197,6 +202,7 @@ impl OutputWorker {
             lacked,
             pending: _,
             alloc: _,
+            piece: _,
         } = self;
         OutputEnd {
             number,
@@ -222,6 +228,7 @@ impl OutputWorker {
             lacked: _,
             pending: _,
             alloc: _,
+            piece: _,
         } = self;
         writer
     }

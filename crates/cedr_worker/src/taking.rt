@@ -1,4 +1,4 @@
-ghost use Rattle.std.specs.Prelude.{◌≡◌, ◌<◌, ◌++◌, ◌∷◌, [], true, false, Bool, List, map, length, IfOk, OnOk, OnErr};
+ghost use Rattle.std.specs.Prelude.{◌≡◌, ◌<◌, ◌++◌, ◌∷◌, [], true, false, Bool, List, map, length, OnOk, OnErr};
 ghost use Rattle.cedr_base.specs.declared.change.Message.{Message as Sent};
 ghost use Rattle.op_driver.specs.Driving.{MayTake};
 ghost use Rattle.node_laws.specs.Lawful.{all_over};
@@ -36,20 +36,21 @@ pub(crate) fn all_closed(inputs: &Vec<EdgeIn>) -> bool
     true
 }
 
-/// Lets the node take a message, and hands out the piece that it gives for it.
+/// Lets the node take a message. The piece that it gives for it stands in the list, in place of what stood there.
 pub(crate) fn take_on(
     alloc: Global,
     node: &mut Node,
     port: usize,
     message: Message,
-) -> Result<Vec<Message>, OutOfMemory>
+    piece: &mut Vec<Message>,
+) -> Result<(), OutOfMemory>
     requires { (lists : Lists) × (given : List Sent) × NodeStands node.old lists given × MayTake lists port message }
     ensures made { made_of node.new ≡ made_of node.old }
-    ensures taken { IfOk result (λ piece. (lists : Lists) (given : List Sent) → NodeStands node.old lists given → MayTake lists port message → NodeStands node.new (with_more lists port (message ∷ [])) (given ++ piece.items)) }
+    ensures taken { OnOk result ((lists : Lists) (given : List Sent) → NodeStands node.old lists given → MayTake lists port message → NodeStands node.new (with_more lists port (message ∷ [])) (given ++ piece.new.items)) }
 {
-    let mut piece = Vec::new(alloc);
-    match node.take(alloc, port, message, &mut piece) {
-        Ok(()) => Ok(piece),
+    piece.clear();
+    match node.take(alloc, port, message, piece) {
+        Ok(()) => Ok(()),
         Err(_) => Err(OutOfMemory),
     }
 }
@@ -61,6 +62,7 @@ fn pass_on(
     outlets: &mut Outlets,
     port: usize,
     message: Message,
+    piece: &mut Vec<Message>,
 ) -> Result<(), OutOfMemory>
     requires { (lists : Lists) × Sound node.old lists outlets.old × MayTake lists port message }
     ensures made { made_of node.new ≡ made_of node.old }
@@ -68,8 +70,8 @@ fn pass_on(
     ensures ok { OnOk result ((lists : Lists) → Sound node.old lists outlets.old → MayTake lists port message → Sound node.new (with_more lists port (message ∷ [])) outlets.new) }
     ensures err { OnErr result (map total_of outlets.new ≡ map total_of outlets.old) }
 {
-    let piece = take_on(alloc, node, port, message)?;
-    outlets.stage_all(alloc, piece)?;
+    take_on(alloc, node, port, message, piece)?;
+    outlets.stage_out(alloc, piece)?;
     outlets.commit();
     Ok(())
 }
@@ -81,6 +83,7 @@ fn take_in(
     outlets: &mut Outlets,
     port: usize,
     message: Message,
+    piece: &mut Vec<Message>,
     lacked: bool,
 ) -> bool
     requires { lacked ≡ false → (lists : Lists) × Sound node.old lists outlets.old × MayTake lists port message }
@@ -92,7 +95,7 @@ fn take_in(
     if lacked {
         return true;
     }
-    match pass_on(alloc, node, outlets, port, message) {
+    match pass_on(alloc, node, outlets, port, message, piece) {
         Ok(()) => false,
         Err(_) => true,
     }
@@ -106,6 +109,7 @@ fn take_at<R: Wait>(
     inputs: &mut Vec<EdgeIn>,
     outlets: &mut Outlets,
     port: usize,
+    piece: &mut Vec<Message>,
     lacked: bool,
 ) -> Takes
     requires works { (broke : Bool) × NodeWorks node.old (taken_in inputs.old.items) outlets.old lacked broke }
@@ -129,7 +133,7 @@ fn take_at<R: Wait>(
             lacked,
         },
         Some(message) => {
-            let lacks = take_in(alloc, node, outlets, port, message, lacked);
+            let lacks = take_in(alloc, node, outlets, port, message, piece, lacked);
             Takes {
                 moved: true,
                 lacked: lacks,
@@ -145,6 +149,7 @@ fn take_each<R: Wait>(
     node: &mut Node,
     inputs: &mut Vec<EdgeIn>,
     outlets: &mut Outlets,
+    piece: &mut Vec<Message>,
     lacked: bool,
 ) -> Takes
     requires { (broke : Bool) × NodeWorks node.old (taken_in inputs.old.items) outlets.old lacked broke }
@@ -157,7 +162,7 @@ fn take_each<R: Wait>(
     let mut moved = false;
     let mut lacks = lacked;
     for port in 0..inputs.len() {
-        let took = take_at(rt, alloc, node, inputs, outlets, port, lacks);
+        let took = take_at(rt, alloc, node, inputs, outlets, port, piece, lacks);
         moved = moved | took.moved;
         lacks = took.lacked;
     }
@@ -174,6 +179,7 @@ pub(crate) fn take_unless<R: Wait>(
     node: &mut Node,
     inputs: &mut Vec<EdgeIn>,
     outlets: &mut Outlets,
+    piece: &mut Vec<Message>,
     pending: bool,
     lacked: bool,
 ) -> Takes
@@ -191,5 +197,5 @@ pub(crate) fn take_unless<R: Wait>(
             lacked,
         };
     }
-    take_each(rt, alloc, node, inputs, outlets, lacked)
+    take_each(rt, alloc, node, inputs, outlets, piece, lacked)
 }

@@ -29,13 +29,14 @@ fn tell(writer: &mut Writer, message: Message) -> Result<(), OutOfMemory>
     }
 }
 
-/// Does to a writer what the messages of a piece say, in order, up to one for which memory lacks.
-pub(crate) fn tell_all(writer: &mut Writer, piece: Vec<Message>) -> Tells
-    requires { (given : List Sent) × (writer.old.all ≡ list_from given) × IsLegal (given ++ piece.items) }
-    ensures { (given : List Sent) → writer.old.all ≡ list_from given → IsLegal (given ++ piece.items) → IsTold given piece.items writer.old writer.new result.lacked result.pending }
+/// Does to a writer what the messages of a piece say, in order, up to one for which memory lacks. They are moved out of
+/// their list.
+pub(crate) fn tell_all(writer: &mut Writer, piece: &mut Vec<Message>) -> Tells
+    requires { (given : List Sent) × (writer.old.all ≡ list_from given) × IsLegal (given ++ piece.old.items) }
+    ensures { (given : List Sent) → writer.old.all ≡ list_from given → IsLegal (given ++ piece.old.items) → IsTold given piece.old.items writer.old writer.new result.lacked result.pending }
 {
     let mut pending = false;
-    for message in piece {
+    for message in piece.drain(..) {
         match tell(writer, message) {
             Ok(()) => pending = true,
             Err(_) => {

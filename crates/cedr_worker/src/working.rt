@@ -8,6 +8,7 @@ ghost use Rattle.cedr_worker.specs.Inputs.{taken_in};
 ghost use Rattle.cedr_worker.specs.Operators.{NodeWorks, TurnDone};
 
 use crate::taking::{all_closed, take_unless};
+use cedr_base::Message;
 use cedr_edge::EdgeIn;
 use cedr_node::Node;
 use std::alloc::Global;
@@ -48,6 +49,7 @@ pub(crate) fn work<R: Wait>(
     node: &mut Node,
     inputs: &mut Vec<EdgeIn>,
     outlets: &mut Outlets,
+    piece: &mut Vec<Message>,
     lacked: bool,
     broke: bool,
 ) -> Worked
@@ -59,7 +61,16 @@ pub(crate) fn work<R: Wait>(
 {
     let broke = break_off(inputs, outlets, lacked, broke);
     let puts = outlets.put_each(rt);
-    let takes = take_unless(rt, alloc, node, inputs, outlets, puts.pending, lacked);
+    let takes = take_unless(
+        rt,
+        alloc,
+        node,
+        inputs,
+        outlets,
+        piece,
+        puts.pending,
+        lacked,
+    );
     Worked {
         moved: puts.moved | takes.moved,
         lacked: takes.lacked,

@@ -1,6 +1,6 @@
 ghost use Rattle.std.specs.Prelude.{◌≡◌, ◌<◌, ◌++◌, ◌∷◌, [], ℕ, List, OnOk, OnErr, IfOk, max, length, replicate, take};
 ghost use Rattle.cedr_base.specs.declared.change.Message.{Message};
-ghost use Rattle.cedr_base.specs.Messages.{IsLegalBehind};
+ghost use Rattle.cedr_base.specs.Messages.{IsLegalBehind, mark_of};
 ghost use Rattle.change_laws.specs.Repairs.{wrapped};
 ghost use Rattle.node_laws.specs.Lists.{Lists, list_at, mark_above};
 ghost use Rattle.op_driver.specs.Driving.{DriverWorks, Drives, MayTake, IsFed, Answers};
@@ -14,6 +14,8 @@ pub struct Driver<O> {
     op: O,
     marks: Vec<Time>,
     sent: Time,
+    /// Room for what answers one change.
+    changes: Vec<Change>,
 }
 
 impl<O: Drop> Drop for Driver<O> {
@@ -22,16 +24,17 @@ impl<O: Drop> Drop for Driver<O> {
             op: _,
             marks: _,
             sent: _,
+            changes: _,
         } = self;
     }
 }
 
-/// Appends changes as messages. Where memory runs out some of them may stand there.
-fn push_changes(changes: Vec<Change>, out: &mut Vec<Message>) -> Result<(), OutOfMemory>
-    ensures out { OnOk result (out.new.items ≡ out.old.items ++ wrapped changes.items) }
+/// Moves changes out, and appends them as messages. Where memory runs out some of them may stand there.
+fn push_changes(changes: &mut Vec<Change>, out: &mut Vec<Message>) -> Result<(), OutOfMemory>
+    ensures out { OnOk result (out.new.items ≡ out.old.items ++ wrapped changes.old.items) }
     ensures kept { take (length out.old.items) out.new.items ≡ out.old.items }
 {
-    for change in changes {
+    for change in changes.drain(..) {
         out.push(Message::Change(change))?;
     }
     Ok(())
@@ -54,6 +57,7 @@ fn feed_one<O: Operator>(
     alloc: Global,
     op: &mut O,
     marks: &mut Vec<Time>,
+    changes: &mut Vec<Change>,
     port: usize,
     message: Message,
     out: &mut Vec<Message>,
@@ -65,8 +69,8 @@ fn feed_one<O: Operator>(
 {
     match message {
         Message::Change(change) => {
-            let mut changes = Vec::new(alloc);
-            op.apply(alloc, port, change, &mut changes)?;
+            changes.clear();
+            op.apply(alloc, port, change, changes)?;
             push_changes(changes, out)?;
             Ok(())
         }
@@ -79,23 +83,25 @@ fn feed_one<O: Operator>(
     }
 }
 
-/// Hands messages to the operator, one after the other. Where memory runs out some of what answers them may stand
-/// there.
+/// Moves messages out, and hands them to the operator, one after the other. Where memory runs out some of what answers
+/// them may stand there.
 fn feed<O: Operator>(
     alloc: Global,
     op: &mut O,
     marks: &mut Vec<Time>,
+    changes: &mut Vec<Change>,
     port: usize,
-    taken: Vec<Message>,
+    taken: &mut Vec<Message>,
     out: &mut Vec<Message>,
 ) -> Result<(), OutOfMemory>
-    requires { (lists : Lists) × (given : List Message) × DriverWorks (O.meaning op.old) (O.stands op.old) marks.old.items lists given × (port < length lists) × IsLegalBehind (list_at lists port) taken.items }
-    ensures fed { OnOk result ((lists : Lists) (given : List Message) → DriverWorks (O.meaning op.old) (O.stands op.old) marks.old.items lists given → port < length lists → IsLegalBehind (list_at lists port) taken.items → IsFed (O.meaning op.old) (O.stands op.new) marks.new.items lists port taken.items given out.old.items out.new.items) }
+    requires { (lists : Lists) × (given : List Message) × DriverWorks (O.meaning op.old) (O.stands op.old) marks.old.items lists given × (port < length lists) × IsLegalBehind (list_at lists port) taken.old.items }
+    ensures fed { OnOk result ((lists : Lists) (given : List Message) → DriverWorks (O.meaning op.old) (O.stands op.old) marks.old.items lists given → port < length lists → IsLegalBehind (list_at lists port) taken.old.items → IsFed (O.meaning op.old) (O.stands op.new) marks.new.items lists port taken.old.items given out.old.items out.new.items) }
+    ensures taken { OnOk result (taken.new.items ≡ []) }
     ensures meaning { O.meaning op.new ≡ O.meaning op.old }
     ensures kept { take (length out.old.items) out.new.items ≡ out.old.items }
 {
-    for message in taken {
-        feed_one(alloc, op, marks, port, message, out)?;
+    for message in taken.drain(..) {
+        feed_one(alloc, op, marks, changes, port, message, out)?;
     }
     Ok(())
 }
@@ -110,46 +116,122 @@ impl<O: Operator> Driver<O> {
         ensures drives { IfOk result (λ d. Drives (O.meaning d.op) (O.stands d.op) d.marks.items d.sent (replicate (O.meaning op).ports []) []) }
     {
         let marks = no_marks(alloc, op.ports())?;
-        Ok(Driver { op, marks, sent: 0 })
+        Ok(Driver {
+            op,
+            marks,
+            sent: 0,
+            changes: Vec::new(alloc),
+        })
     }
 
-    /// Takes messages on a port. Where memory runs out some of what answers them may stand there.
-    fn answer(
-        &mut self,
-        alloc: Global,
-        port: usize,
-        taken: Vec<Message>,
-        out: &mut Vec<Message>,
-    ) -> Result<(), OutOfMemory>
-        requires { (lists : Lists) × (given : List Message) × Drives (O.meaning self.old.op) (O.stands self.old.op) self.old.marks.items self.old.sent lists given × (port < length lists) × IsLegalBehind (list_at lists port) taken.items }
-        ensures answers { OnOk result ((lists : Lists) (given : List Message) → Drives (O.meaning self.old.op) (O.stands self.old.op) self.old.marks.items self.old.sent lists given → port < length lists → IsLegalBehind (list_at lists port) taken.items → Answers (O.meaning self.old.op) (O.stands self.new.op) (O.held self.new.op) self.new.marks.items self.old.sent self.new.sent lists port taken.items given out.old.items out.new.items) }
+    /// Appends a mark where the bound rose with what the operator was fed, and lets it forget. Where memory runs out
+    /// the mark isn't there.
+    fn close(&mut self, out: &mut Vec<Message>) -> Result<(), OutOfMemory>
+        requires { (lists : Lists) × (port : ℕ) × (taken : List Message) × (given : List Message) × (before : List Message) × IsFed (O.meaning self.old.op) (O.stands self.old.op) self.old.marks.items lists port taken given before out.old.items }
+        ensures answers { OnOk result ((lists : Lists) (port : ℕ) (taken given before : List Message) → IsFed (O.meaning self.old.op) (O.stands self.old.op) self.old.marks.items lists port taken given before out.old.items → self.old.sent ≡ mark_of given → Answers (O.meaning self.old.op) (O.stands self.new.op) (O.held self.new.op) self.new.marks.items self.old.sent self.new.sent lists port taken given before out.new.items) }
         ensures meaning { O.meaning self.new.op ≡ O.meaning self.old.op }
         ensures kept { take (length out.old.items) out.new.items ≡ out.old.items }
     {
-        feed(alloc, &mut self.op, &mut self.marks, port, taken, out)?;
         let bound = self.op.bound(self.marks.as_slice());
         push_mark(bound, &mut self.sent, out)?;
         self.op.trim(self.marks.as_slice());
         Ok(())
     }
 
-    /// Takes messages on a port, and appends the repairs that they call for, and then a mark where the bound rose.
-    /// Where memory runs out nothing is appended, and the driver is only to be dropped.
+    /// Takes messages on a port, and leaves their list empty. Where memory runs out some of what answers them may stand
+    /// there.
+    fn answer(
+        &mut self,
+        alloc: Global,
+        port: usize,
+        taken: &mut Vec<Message>,
+        out: &mut Vec<Message>,
+    ) -> Result<(), OutOfMemory>
+        requires { (lists : Lists) × (given : List Message) × Drives (O.meaning self.old.op) (O.stands self.old.op) self.old.marks.items self.old.sent lists given × (port < length lists) × IsLegalBehind (list_at lists port) taken.old.items }
+        ensures answers { OnOk result ((lists : Lists) (given : List Message) → Drives (O.meaning self.old.op) (O.stands self.old.op) self.old.marks.items self.old.sent lists given → port < length lists → IsLegalBehind (list_at lists port) taken.old.items → Answers (O.meaning self.old.op) (O.stands self.new.op) (O.held self.new.op) self.new.marks.items self.old.sent self.new.sent lists port taken.old.items given out.old.items out.new.items) }
+        ensures taken { OnOk result (taken.new.items ≡ []) }
+        ensures meaning { O.meaning self.new.op ≡ O.meaning self.old.op }
+        ensures kept { take (length out.old.items) out.new.items ≡ out.old.items }
+    {
+        feed(
+            alloc,
+            &mut self.op,
+            &mut self.marks,
+            &mut self.changes,
+            port,
+            taken,
+            out,
+        )?;
+        self.close(out)
+    }
+
+    /// Takes one message on a port. Where memory runs out some of what answers it may stand there.
+    fn answer_one(
+        &mut self,
+        alloc: Global,
+        port: usize,
+        message: Message,
+        out: &mut Vec<Message>,
+    ) -> Result<(), OutOfMemory>
+        requires { (lists : Lists) × (given : List Message) × Drives (O.meaning self.old.op) (O.stands self.old.op) self.old.marks.items self.old.sent lists given × MayTake lists port message }
+        ensures answers { OnOk result ((lists : Lists) (given : List Message) → Drives (O.meaning self.old.op) (O.stands self.old.op) self.old.marks.items self.old.sent lists given → MayTake lists port message → Answers (O.meaning self.old.op) (O.stands self.new.op) (O.held self.new.op) self.new.marks.items self.old.sent self.new.sent lists port (message ∷ []) given out.old.items out.new.items) }
+        ensures meaning { O.meaning self.new.op ≡ O.meaning self.old.op }
+        ensures kept { take (length out.old.items) out.new.items ≡ out.old.items }
+    {
+        feed_one(
+            alloc,
+            &mut self.op,
+            &mut self.marks,
+            &mut self.changes,
+            port,
+            message,
+            out,
+        )?;
+        self.close(out)
+    }
+
+    /// Takes messages on a port, and appends the repairs that they call for, and then a mark where the bound rose. The
+    /// list of the messages is left empty with its room. Where memory runs out nothing is appended, and the driver is
+    /// only to be dropped.
     pub fn take(
         &mut self,
         alloc: Global,
         port: usize,
-        taken: Vec<Message>,
+        taken: &mut Vec<Message>,
         out: &mut Vec<Message>,
     ) -> Result<(), OutOfMemory>
-        requires { (lists : Lists) × (given : List Message) × Drives (O.meaning self.old.op) (O.stands self.old.op) self.old.marks.items self.old.sent lists given × (port < length lists) × IsLegalBehind (list_at lists port) taken.items }
-        ensures answers { OnOk result ((lists : Lists) (given : List Message) → Drives (O.meaning self.old.op) (O.stands self.old.op) self.old.marks.items self.old.sent lists given → port < length lists → IsLegalBehind (list_at lists port) taken.items → Answers (O.meaning self.old.op) (O.stands self.new.op) (O.held self.new.op) self.new.marks.items self.old.sent self.new.sent lists port taken.items given out.old.items out.new.items) }
+        requires { (lists : Lists) × (given : List Message) × Drives (O.meaning self.old.op) (O.stands self.old.op) self.old.marks.items self.old.sent lists given × (port < length lists) × IsLegalBehind (list_at lists port) taken.old.items }
+        ensures answers { OnOk result ((lists : Lists) (given : List Message) → Drives (O.meaning self.old.op) (O.stands self.old.op) self.old.marks.items self.old.sent lists given → port < length lists → IsLegalBehind (list_at lists port) taken.old.items → Answers (O.meaning self.old.op) (O.stands self.new.op) (O.held self.new.op) self.new.marks.items self.old.sent self.new.sent lists port taken.old.items given out.old.items out.new.items) }
+        ensures taken { OnOk result (taken.new.items ≡ []) }
         ensures meaning { O.meaning self.new.op ≡ O.meaning self.old.op }
         ensures kept { take (length out.old.items) out.new.items ≡ out.old.items }
         ensures err { OnErr result (out.new.items ≡ out.old.items) }
     {
         let before = out.len();
         let result = self.answer(alloc, port, taken, out);
+        if result.is_err() {
+            out.truncate(before);
+        }
+        result
+    }
+
+    /// Takes one message on a port, and appends the repairs that it calls for, and then a mark where the bound rose.
+    /// Where memory runs out nothing is appended, and the driver is only to be dropped.
+    pub fn take_one(
+        &mut self,
+        alloc: Global,
+        port: usize,
+        message: Message,
+        out: &mut Vec<Message>,
+    ) -> Result<(), OutOfMemory>
+        requires { (lists : Lists) × (given : List Message) × Drives (O.meaning self.old.op) (O.stands self.old.op) self.old.marks.items self.old.sent lists given × MayTake lists port message }
+        ensures answers { OnOk result ((lists : Lists) (given : List Message) → Drives (O.meaning self.old.op) (O.stands self.old.op) self.old.marks.items self.old.sent lists given → MayTake lists port message → Answers (O.meaning self.old.op) (O.stands self.new.op) (O.held self.new.op) self.new.marks.items self.old.sent self.new.sent lists port (message ∷ []) given out.old.items out.new.items) }
+        ensures meaning { O.meaning self.new.op ≡ O.meaning self.old.op }
+        ensures kept { take (length out.old.items) out.new.items ≡ out.old.items }
+        ensures err { OnErr result (out.new.items ≡ out.old.items) }
+    {
+        let before = out.len();
+        let result = self.answer_one(alloc, port, message, out);
         if result.is_err() {
             out.truncate(before);
         }

@@ -103,17 +103,17 @@ fn stage_each(alloc: Global, list: &mut Vec<Outlet>, message: Message) -> Result
     Ok(())
 }
 
-/// Sets messages down at each out edge.
+/// Moves messages out of their list, and sets them down at each out edge.
 pub(crate) fn stage_all(
     alloc: Global,
     list: &mut Vec<Outlet>,
-    piece: Vec<Message>,
+    piece: &mut Vec<Message>,
 ) -> Result<(), OutOfMemory>
     ensures bare { map bare list.new.items ≡ map bare list.old.items }
     ensures totals { map total_of list.new.items ≡ map total_of list.old.items }
-    ensures ok { OnOk result (AllStaged [] list.old.items → AllStaged piece.items list.new.items) }
+    ensures ok { OnOk result (AllStaged [] list.old.items → AllStaged piece.old.items list.new.items) }
 {
-    for message in piece {
+    for message in piece.drain(..) {
         stage_each(alloc, list, message)?;
     }
     Ok(())

@@ -81,6 +81,16 @@ impl Outlets {
         ensures totals { map total_of self.new ≡ map total_of self.old }
         ensures ok { OnOk result (AllStaged [] self.old → AllStaged piece.items self.new) }
     {
+        let mut messages = piece;
+        self.stage_out(alloc, &mut messages)
+    }
+
+    /// The same of messages that are moved out of their list, which keeps its room.
+    pub fn stage_out(&mut self, alloc: Global, piece: &mut Vec<Message>) -> Result<(), OutOfMemory>
+        ensures bare { map bare self.new ≡ map bare self.old }
+        ensures totals { map total_of self.new ≡ map total_of self.old }
+        ensures ok { OnOk result (AllStaged [] self.old → AllStaged piece.old.items self.new) }
+    {
         stage_all(alloc, &mut self.list, piece)
     }
 

@@ -1,8 +1,7 @@
-use Rattle.std.proofs.Common.{◌∙◌, ap, sym, refl, subst, List}
-use Rattle.cedr_base.specs.declared.change.Message.{Message}
+use Rattle.std.proofs.Common.{◌∙◌, ap, sym, refl, subst}
 use Rattle.node_laws.specs.Lists.{list_at}
 use Rattle.cedr_node.specs.declared.port.Port.{Port}
-use Rattle.cedr_node.specs.Standing.{PortStands, IsPortTaken}
+use Rattle.cedr_node.specs.Standing.{PortStands}
 use Rattle.cedr_node.proofs.PortLists.{all_at, levels_set}
 use Rattle.cedr_node.proofs.aligned.take_on.Goals as goal
 
@@ -16,11 +15,11 @@ returns-clause-taken c = λ lists stand may.
       now = c.take.new.self;
       stood_at = sym c.index_mut.ensures.value;
       stands_at = refl;
-      taken = subst (λ (xs : List Message). IsPortTaken was c.take.new.self (list_at lists c.args.port) c.args.message xs c.take.new.passed.items) c.new-passed.ensures.items (c.in_ok-take.ensures.taken (list_at lists c.args.port) stood may.comes);
+      taken = c.in_ok-alone.ensures.taken (list_at lists c.args.port) stood may.comes;
     }
 
-pub returns-in_err-take-clause-levels : goal.returns-in_err-take-clause-levels
-returns-in_err-take-clause-levels c = levels_set c.args.port c.args.ports.now.items c.take.new.self c.index_mut.result.now (c.take.ensures.level ∙ ap (λ (p : Port). p.aligner.level) c.index_mut.ensures.value)
+pub returns-in_err-alone-clause-levels : goal.returns-in_err-alone-clause-levels
+returns-in_err-alone-clause-levels c = levels_set c.args.port c.args.ports.now.items c.take.new.self c.index_mut.result.now (c.take.ensures.level ∙ ap (λ (p : Port). p.aligner.level) c.index_mut.ensures.value)
 
 pub returns-clause-levels : goal.returns-clause-levels
 returns-clause-levels c = levels_set c.args.port c.args.ports.now.items c.take.new.self c.index_mut.result.now (c.take.ensures.level ∙ ap (λ (p : Port). p.aligner.level) c.index_mut.ensures.value)

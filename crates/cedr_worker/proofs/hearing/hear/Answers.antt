@@ -23,7 +23,7 @@ tell_all-requires c =
     let given = passed_by c.args.node.now r.0 in
     let found = r.1.found c.if-lacked.false in
     let stands = c.in-Ok.ensures.taken (r.0 ∷ []) given found.stands (may_take_one r.0 m r.2) in
-    (given, found.list_is ∙ sym (list_passed c.args.node.now r.0 r.1.legal), stands_given c.take_on.new.node ((r.0 ++ m ∷ []) ∷ []) (given ++ c.in-Ok.piece.items) stands)
+    (given, found.list_is ∙ sym (list_passed c.args.node.now r.0 r.1.legal), stands_given c.take_on.new.node ((r.0 ++ m ∷ []) ∷ []) (given ++ c.take_on.new.piece.items) stands)
 
 pub returns-in-Ok-clause-outputs : goal.returns-in-Ok-clause-outputs
 returns-in-Ok-clause-outputs c taken o legal =
@@ -31,8 +31,8 @@ returns-in-Ok-clause-outputs c taken o legal =
     let given = passed_by c.args.node.now taken in
     let found = o.found c.if-lacked.false in
     let stands = c.in-Ok.ensures.taken (taken ∷ []) given found.stands (may_take_one taken m legal) in
-    let told = c.tell_all.ensures given (found.list_is ∙ sym (list_passed c.args.node.now taken o.legal)) (stands_given c.take_on.new.node ((taken ++ m ∷ []) ∷ []) (given ++ c.in-Ok.piece.items) stands) in
-    outputs_told c.args.node.now c.take_on.new.node taken c.in-Ok.piece.items m c.args.writer.now c.tell_all.new.writer c.tell_all.result.lacked c.tell_all.result.pending c.take_on.ensures.made legal
+    let told = c.tell_all.ensures given (found.list_is ∙ sym (list_passed c.args.node.now taken o.legal)) (stands_given c.take_on.new.node ((taken ++ m ∷ []) ∷ []) (given ++ c.take_on.new.piece.items) stands) in
+    outputs_told c.args.node.now c.take_on.new.node taken c.take_on.new.piece.items m c.args.writer.now c.tell_all.new.writer c.tell_all.result.lacked c.tell_all.result.pending c.take_on.ensures.made legal
     (found_state c.args.node.now taken c.args.writer.now c.args.lacked c.args.pending c.if-lacked.false (c.requires.published c.if-lacked.false) o) stands told
 
 pub returns-in-Ok-clause-kept : goal.returns-in-Ok-clause-kept
@@ -42,7 +42,7 @@ returns-in-Ok-clause-kept c =
     let given = passed_by c.args.node.now r.0 in
     let found = r.1.found c.if-lacked.false in
     let stands = c.in-Ok.ensures.taken (r.0 ∷ []) given found.stands (may_take_one r.0 m r.2) in
-    let told = c.tell_all.ensures given (found.list_is ∙ sym (list_passed c.args.node.now r.0 r.1.legal)) (stands_given c.take_on.new.node ((r.0 ++ m ∷ []) ∷ []) (given ++ c.in-Ok.piece.items) stands) in
+    let told = c.tell_all.ensures given (found.list_is ∙ sym (list_passed c.args.node.now r.0 r.1.legal)) (stands_given c.take_on.new.node ((r.0 ++ m ∷ []) ∷ []) (given ++ c.take_on.new.piece.items) stands) in
     (ap (λ (w : Writing). w.history) told.writer, ap (λ (w : Writing). w.published) told.writer)
 
 pub returns-in-Err-clause-outputs : goal.returns-in-Err-clause-outputs

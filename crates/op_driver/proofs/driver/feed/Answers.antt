@@ -1,11 +1,11 @@
-use Rattle.std.proofs.Common.{◌≡◌, ◌<◌, ◌++◌, ◌∷◌, [], ◌∙◌, sym, subst, refl, List, rules, take, length}
+use Rattle.std.proofs.Common.{◌++◌, ◌∷◌, [], ◌∙◌, sym, subst, refl, List}
 use Rattle.std.proofs.Math.Seq.{take-length}
 use Rattle.std.proofs.lemmas.List.{map-id}
-use Rattle.std.proofs.lemmas.Iterator.Adapters.{YieldsList-from_vec}
 use Rattle.std.proofs.lemmas.Iterator.Consumers.{YieldsList-turn, YieldsList-so_far, YieldsList-end}
 use Rattle.cedr_base.specs.declared.change.Message.{Message}
 use Rattle.node_laws.specs.Lists.{with_more}
 use Rattle.op_driver.specs.Driving.{IsFed}
+use Rattle.op_driver.proofs.DrainLemmas.{drain_yields}
 use Rattle.op_driver.proofs.DriveLemmas.{kept_along, fed_none, fed_more, works_as, may_take_next}
 use Rattle.op_driver.proofs.driver.feed.Goals as goal
 
@@ -21,8 +21,8 @@ feed_one-requires g c =
     let op = g.O.Operator in
     let old = c.args.op.now in
     let l = c.loop-message in
-    let taken = c.args.taken.items in
-    let yields = YieldsList-from_vec {s = c.into_iter-message-iterator.result} taken (search rules) (search rules) in
+    let taken = c.args.taken.now.items in
+    let yields = drain_yields c.args.taken.now c.into_iter-message-iterator.ensures.into_iter_gives c.drain-message-items.ensures.rest in
     let so_far = sym (map-id l.yielded) ∙ YieldsList-so_far yields l.yielded l.message-iterator l.yielded_by in
     let next = YieldsList-turn yields l.yielded l.message-iterator l.yielded_by c.next.result c.next.new.self c.in-Some.message c.in-Some.is c.next.ensures.steps in
     let f = l.invariant.fed c.requires.0 c.requires.1 c.requires.2 c.requires.3 c.requires.4 in (
@@ -37,11 +37,11 @@ loop-message-preserved g c =
     let op = g.O.Operator in
     let old = c.args.op.now in
     let l = c.loop-message in
-    let taken = c.args.taken.items in
+    let taken = c.args.taken.now.items in
     let port = c.args.port in
     let m = c.in-Some.message in
     let k = c.in_ok-feed_one.ensures in
-    let yields = YieldsList-from_vec {s = c.into_iter-message-iterator.result} taken (search rules) (search rules) in
+    let yields = drain_yields c.args.taken.now c.into_iter-message-iterator.ensures.into_iter_gives c.drain-message-items.ensures.rest in
     let so_far = sym (map-id l.yielded) ∙ YieldsList-so_far yields l.yielded l.message-iterator l.yielded_by in
     let next = YieldsList-turn yields l.yielded l.message-iterator l.yielded_by c.next.result c.next.new.self c.in-Some.message c.in-Some.is c.next.ensures.steps in
     record {
@@ -60,6 +60,6 @@ returns-clause-fed g c = λ lists given w port_is legal.
     let op = g.O.Operator in
     let old = c.args.op.now in
     let l = c.loop-message in
-    let yields = YieldsList-from_vec {s = c.into_iter-message-iterator.result} c.args.taken.items (search rules) (search rules) in
+    let yields = drain_yields c.args.taken.now c.into_iter-message-iterator.ensures.into_iter_gives c.drain-message-items.ensures.rest in
     let all = YieldsList-end yields l.yielded l.message-iterator l.yielded_by c.next.result c.next.new.self c.in-None.is c.next.ensures.steps in
     subst (λ (xs : List Message). IsFed (op.meaning old) (op.stands l.op) l.marks.items lists c.args.port xs given c.args.out.now.items l.out.items) (sym (map-id l.yielded) ∙ all.0) (l.invariant.fed lists given w port_is legal)

@@ -6,8 +6,6 @@ use Rattle.cedr_align.proofs.aligner.Aligner.pass_rows.Given as goal
 
 abbrev pub invariant-loop-row : goal.invariant-loop-row
 invariant-loop-row l = record {
-  can_next : (goal.iterator-loop-row).can_next l.row-iterator;
-  is_finite : (goal.iterator-loop-row).is_finite l.row-iterator;
   passed : SameRows l.self.passed (l.initial.self.passed ++ filter (must_remember l.initial.self) l.yielded);
   out : l.out.items ≡ l.initial.out.items ++ additions l.yielded;
   held : l.self.held ≡ l.initial.self.held;

@@ -38,17 +38,17 @@ give-requires-clause-noted c = λ is.
     let same : output_place r.0 ≡ c.args.place = sym (eqb-true c.args.place me.output is ∙ r.3.output) in (
       list_at r.2 c.args.place,
       subst (λ k. IsAnswerOf me.answer (list_at r.2 k)) same r.3.answer,
-      piece_legal r.0 me r.1 r.2 r.3 c.args.place r.4 c.in-Some.port c.in-Some.message c.pull_at.new.waiting.items c.in-Some.ensures.some c.in-Some.ensures.rest c.take_at.new.works.items c.in_ok-piece-in-Some.piece.items c.in_ok-piece-in-Some.ensures,
+      piece_legal r.0 me r.1 r.2 r.3 c.args.place r.4 c.in-Some.port c.in-Some.message c.pull_at.new.waiting.items c.in-Some.ensures.some c.in-Some.ensures.rest c.take_at.new.works.items c.take_at.new.piece.items c.in_ok-take_at-in-Some.ensures,
     )
 
 pub returns-in_ok-give-in-Some-clause-turned : goal.returns-in_ok-give-in-Some-clause-turned
 returns-in_ok-give-in-Some-clause-turned c = λ moved.
     let me = c.args.self.now in
     let gave = c.in_ok-give-in-Some.ensures in
-    let piece = c.in_ok-piece-in-Some.piece.items in (
+    let piece = c.take_at.new.piece.items in (
       piece,
       λ nodes ports given h within.
-          turn_done nodes me ports given h c.args.place within c.in-Some.port c.in-Some.message c.pull_at.new.waiting.items c.in-Some.ensures.some c.in-Some.ensures.rest c.take_at.new.works.items piece c.in_ok-piece-in-Some.ensures
+          turn_done nodes me ports given h c.args.place within c.in-Some.port c.in-Some.message c.pull_at.new.waiting.items c.in-Some.ensures.some c.in-Some.ensures.rest c.take_at.new.works.items piece c.in_ok-take_at-in-Some.ensures
           c.give.new.self gave.others.0 gave.others.1 gave.others.2 gave.sent
           (λ is. let noted = gave.noted is in (noted.0, noted.1 ∙ ap (max me.reach) c.mark_in-mark.ensures, noted.2)),
     )

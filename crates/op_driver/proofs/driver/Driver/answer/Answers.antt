@@ -1,60 +1,31 @@
-use Rattle.std.proofs.Common.{◌≡◌, ◌≤◌, ◌∷◌, [], ◌∙◌, ap, sym, subst, List, ℕ, true}
-use Rattle.cedr_base.specs.declared.time.TheConstants.{FOREVER}
-use Rattle.cedr_base.specs.Rows.{SameRows}
-use Rattle.cedr_table.specs.Operators.{Tables, Meaning, AreTimes, SameTables, OnlyHolds}
-use Rattle.cedr_table.specs.PortLaws.{rise_itself}
-use Rattle.op_driver.proofs.DriveLemmas.{answer_fed, same_tables_itself, same_tables_back}
+use Rattle.std.proofs.Common.{sym, subst}
+use Rattle.std.proofs.lemmas.Result.{on_ok_weaker}
+use Rattle.cedr_table.specs.Operators.{Meaning}
+use Rattle.op_driver.specs.Driving.{IsFed, Answers}
 use Rattle.op_driver.proofs.driver.Driver.answer.Goals as goal
 
-pub bound-bound-requires : goal.bound-bound-requires
-bound-bound-requires g c =
-    let f = c.in_ok-feed.ensures.fed c.requires.0 c.requires.1 c.requires.2.works c.requires.3 c.requires.4 in (
-      f.works.tables,
-      subst (λ (ms : List ℕ). g.O.Operator.stands c.feed.new.op f.works.tables ms) (sym c.as_slice.ensures.value) f.works.op,
-      subst (λ (ms : List ℕ). AreTimes ms) (sym c.as_slice.ensures.value) f.works.times,
-    )
-
-pub trim-requires : goal.trim-requires
-trim-requires g c =
-    let f = c.in_ok-feed.ensures.fed c.requires.0 c.requires.1 c.requires.2.works c.requires.3 c.requires.4 in (
-      f.works.tables,
-      c.as_slice-2.result.now,
-      subst (λ (ms : List ℕ). g.O.Operator.stands c.feed.new.op f.works.tables ms) (sym c.as_slice-2.ensures.value) f.works.op,
-      rise_itself c.as_slice-2.result.now,
-      subst (λ (ms : List ℕ). AreTimes ms) (sym c.as_slice-2.ensures.value) f.works.times,
+pub close-requires : goal.close-requires
+close-requires g c =
+    let op = g.O.Operator in
+    let lists = c.requires.0 in
+    let given = c.requires.1 in
+    let fed = c.in_ok-feed.ensures.fed lists given c.requires.2.works c.requires.3 c.requires.4 in (
+      lists,
+      c.args.port,
+      c.args.taken.now.items,
+      given,
+      c.args.out.now.items,
+      subst (λ (k : Meaning). IsFed k (op.stands c.feed.new.op) c.feed.new.marks.items c.requires.0 c.args.port c.args.taken.now.items c.requires.1 c.args.out.now.items c.feed.new.out.items) (sym c.in_ok-feed.ensures.meaning) fed,
     )
 
 pub returns-clause-answers : goal.returns-clause-answers
-returns-clause-answers g c = λ lists given d port_is legal.
+returns-clause-answers g c = on_ok_weaker c.close.result (λ closed lists given d port_is legal.
     let op = g.O.Operator in
-    let laws = g.met.O.Operator in
-    let old = c.args.self.now.op in
-    let mid = c.feed.new.op in
-    let marks = c.feed.new.marks.items in
-    let e = c.in_ok-feed.ensures in
-    let f = e.fed lists given d.works port_is legal in
-    let tables = f.works.tables in
-    let told : (others : Tables) → SameTables f.works.tables others → c.bound-bound.result ≡ (op.meaning old).bound others marks =
-    λ others same.
-    let st = (laws.lawful mid).alike tables others marks same f.works.op in
-    c.bound-bound.ensures others (subst (λ (ms : List ℕ). op.stands mid others ms) (sym c.as_slice.ensures.value) st)
-    ∙ (ap (λ (ms : List ℕ). (op.meaning mid).bound others ms) c.as_slice.ensures.value ∙ ap (λ (h : Meaning). h.bound others marks) e.meaning) in
-    let alike : (others : Tables) → SameTables f.works.tables others → SameRows ((op.meaning old).result others) ((op.meaning old).result f.works.tables) =
-    λ others same. subst (λ (h : Meaning). SameRows (h.result others) (h.result tables)) e.meaning ((laws.lawful mid).same_rows others tables (same_tables_back tables others same)) in
-    let time : c.bound-bound.result ≤ FOREVER =
-    subst (λ (n : ℕ). n ≤ FOREVER) (sym (told tables (same_tables_itself tables)))
-    (subst (λ (h : Meaning). h.bound tables marks ≤ FOREVER) e.meaning ((laws.lawful mid).bound_is_time tables marks f.works.op f.works.times)) in
-    let echo_mark : (op.meaning old).echoes ≡ true → marks ≡ (op.meaning old).bound tables marks ∷ [] =
-    λ h. subst (λ (k : Meaning). marks ≡ k.bound tables marks ∷ []) e.meaning ((laws.lawful mid).echo_bound tables marks (ap (λ (k : Meaning). k.echoes) e.meaning ∙ h) f.works.op) in
-    let was = subst (λ (ms : List ℕ). op.stands mid tables ms) (sym c.as_slice-2.ensures.value) f.works.op in
-    let trimmed = c.trim.ensures.stands tables c.as_slice-2.result.now was (rise_itself c.as_slice-2.result.now) in
-    let held : (others : Tables) → SameTables f.works.tables others → OnlyHolds (op.meaning old) others marks (op.held c.trim.new.self) =
-    λ others same.
-    let st = subst (λ (ms : List ℕ). op.stands mid others ms) (sym c.as_slice-2.ensures.value) ((laws.lawful mid).alike tables others marks same f.works.op) in
-    let only = c.trim.ensures.held others c.as_slice-2.result.now st (rise_itself c.as_slice-2.result.now) in
-    subst (λ (h : Meaning). OnlyHolds h others marks (op.held c.trim.new.self)) e.meaning (subst (λ (ms : List ℕ). OnlyHolds (op.meaning mid) others ms (op.held c.trim.new.self)) c.as_slice-2.ensures.value only) in
-    answer_fed (op.meaning old) (op.stands mid) (op.stands c.trim.new.self) (op.held c.trim.new.self) marks lists c.args.port c.args.taken.items given c.args.out.now.items c.feed.new.out.items f
-    c.args.self.now.sent c.push_mark.new.sent c.bound-bound.result c.push_mark.new.out.items d.sent_is c.in_ok-push_mark.ensures.sent.1 told alike echo_mark time
-    (subst (λ (ms : List ℕ). op.stands c.trim.new.self tables ms) c.as_slice-2.ensures.value trimmed)
-    held
-    c.in_ok-push_mark.ensures.sent.0
+    let same = c.in_ok-feed.ensures.meaning in
+    let fed = c.in_ok-feed.ensures.fed lists given d.works port_is legal in
+    subst (λ (k : Meaning). Answers k (op.stands c.close.new.self.op) (op.held c.close.new.self.op) c.close.new.self.marks.items c.args.self.now.sent c.close.new.self.sent lists c.args.port c.args.taken.now.items given c.args.out.now.items c.close.new.out.items) same
+    (closed lists c.args.port c.args.taken.now.items given c.args.out.now.items
+    (subst (λ (k : Meaning). IsFed k (op.stands c.feed.new.op) c.feed.new.marks.items lists c.args.port c.args.taken.now.items given c.args.out.now.items c.feed.new.out.items) (sym same) fed) d.sent_is)) c.close.ensures.answers
+
+pub returns-clause-taken : goal.returns-clause-taken
+returns-clause-taken g c = on_ok_weaker c.close.result (λ _. c.in_ok-feed.ensures.taken) c.close.ensures.answers
