@@ -1,7 +1,7 @@
 -- What a map of cut points shows, and how edits of it show.
 use Rattle.std.proofs.Common.{◌≡◌, ◌≢◌, ℕ, ◌+◌, ◌-◌, ◌<◌, ◌≤◌, ◌⊎◌, inl, inr, List, [], ◌∷◌, Bool, true, false, cond, Option, Some, None, refl, ap, sym, ◌∙◌, subst, arith}
 use Rattle.std.specs.Prelude.{nat_eq, nat_lt, nat_le, ◌&&◌, option_map, IsSome, is_some}
-use Rattle.std.specs.Ordering.{nat_cmp, is_lt}
+use Rattle.std.specs.Ordering.{nat_cmp, is_lt, is_gt}
 use Rattle.std.specs.declared.cmp.Ordering.TheVariants.{Less}
 use Rattle.std.specs.BTreeMap.{BTreeMap, get, is_at}
 use Rattle.std.proofs.lemmas.Bool.{cases_lt, eq-eqb, eqb-true, eqb-false}
@@ -153,6 +153,14 @@ last_cut cuts last to s before found greatest =
       none = λ u above below. none_after cuts last to u (get nat_cmp cuts u) refl (greatest u (lt_cmp u to below)) above;
       there = inr (subst (λ (o : Option Segment). IsSome o) (sym found) (search Rattle.std.proofs.Common.rules), earlier);
     }
+
+-- the last entry up to a time, where it is before it
+pub last_cut_up_to : (cuts : BTreeMap ℕ Segment) (last to : ℕ) (s : Segment) → last < to → get nat_cmp cuts last ≡ Some s → ((u : ℕ) → is_gt (nat_cmp u to) ≡ false → IsSome (get nat_cmp cuts u) → is_lt (nat_cmp last u) ≡ false) → IsLastCut cuts.entries to last
+last_cut_up_to cuts last to s before found greatest = last_cut cuts last to s (lt_cmp last to before) found (λ u under there. greatest u (ap is_gt under) there)
+
+-- a time has no entry where the last entry up to it is before it
+pub not_at : (cuts : BTreeMap ℕ Segment) (last to : ℕ) → last < to → (IsSome (get nat_cmp cuts to) → is_lt (nat_cmp last to) ≡ false) → is_some (segment_at to cuts.entries) ≡ false
+not_at cuts last to before greatest = ap (λ o. is_some o) (none_after cuts last to to (get nat_cmp cuts to) refl greatest before)
 
 -- more edges keep what is valid between the cut points
 pub stays_more : (empty : Tally) (edges more living : ℕ → ℕ) (tally : ℕ → Tally) → ((t : ℕ) → edges t ≤ more t) → StaysBetweenCuts empty edges living tally → StaysBetweenCuts empty more living tally

@@ -1,6 +1,6 @@
 -- What a map shows from some time on.
-use Rattle.std.proofs.Common.{◌≡◌, ℕ, zero, suc, ◌+◌, ◌%◌, ◌^◌, ◌<◌, ◌≤◌, ◌⊎◌, inl, inr, List, [], ◌∷◌, Bool, true, false, cond, length, Option, Some, None, refl, ap, sym, ◌∙◌, subst, arith}
-use Rattle.std.specs.Prelude.{nat_eq, nat_lt, nat_le, sum_by, replicate, is_some, IsSome}
+use Rattle.std.proofs.Common.{◌≡◌, ℕ, zero, suc, ◌+◌, ◌<◌, ◌≤◌, ◌⊎◌, inl, inr, List, [], ◌∷◌, Bool, true, false, cond, Option, Some, None, refl, ap, sym, ◌∙◌, subst, arith}
+use Rattle.std.specs.Prelude.{nat_eq, nat_lt, nat_le, sum_by, is_some, IsSome}
 use Rattle.std.proofs.lemmas.Bool.{cases_lt, eqb-true, eqb-false, lt-ltb, le-ltb, ltb-false}
 use Rattle.std.proofs.lemmas.Bool.Decides.{nat_tests}
 use Rattle.std.proofs.lemmas.List.Sums.{sum_by-cons}
@@ -8,9 +8,9 @@ use Rattle.cedr_base.specs.declared.field.Field.{Field}
 use Rattle.cedr_base.specs.declared.row.Row.{Row}
 use Rattle.op_group.specs.declared.segment.Segment.{Segment}
 use Rattle.op_group.specs.declared.segment.Totalled.{Totalled}
-use Rattle.op_group.specs.Groups.{lives_at, column_number}
+use Rattle.op_group.specs.Groups.{lives_at}
 use Rattle.op_group.specs.Tallies.{Tally}
-use Rattle.op_group.specs.Cuts.{StaysBetweenCuts, segment_at}
+use Rattle.op_group.specs.Cuts.{StaysBetweenCuts, segment_at, edges_in}
 use Rattle.op_group.specs.Measures.{part_at, edges_of, living_of, tally_of, no_totals, is_cut_of, Fits}
 use Rattle.op_group.specs.TimeLaws.{false_not_true}
 use Rattle.op_group.specs.SegmentLaws.{group_stays, tally_none}
@@ -189,3 +189,15 @@ low_cut asked mark from cuts rows t h some = let there = there_from_some (segmen
 -- and is a cut point of the rows
 pub some_cut : (asked : Totalled) (mark from : ℕ) (cuts : List (ℕ × Segment)) (rows : List Row) (t : ℕ) → ShowsFrom asked mark from cuts rows → IsSome (segment_at t cuts) → is_cut_of rows t ≡ true
 some_cut asked mark from cuts rows t h some = let there = there_from_some (segment_at t cuts) some in lt-ltb 0 (edges_of rows t) (cut_shown asked mark from cuts rows t there.segment h there.is).cut
+
+edges_are_at : (n l : ℕ) (ts : Tally) (b : Bool) → nat_eq n 0 ≡ b → edges_in (cond {A = Option Segment} b None (Some (record { edges = n; living = l; totals = ts }))) ≡ n
+edges_are_at n l ts true h = sym (eqb-true n 0 h)
+edges_are_at n l ts false h = refl
+
+-- where a map has more begins and ends at a time than a number, so have the rows
+pub edges_shown : (asked : Totalled) (mark from : ℕ) (cuts : List (ℕ × Segment)) (rows : List Row) (t taken : ℕ) → ShowsFrom asked mark from cuts rows → taken < edges_in (segment_at t cuts) → (from ≤ t) × (taken < edges_of rows t)
+edges_shown asked mark from cuts rows t taken h more =
+    let are : edges_in (segment_at t cuts) ≡ since from 0 (edges_of rows) t = ap edges_in (h.shows.at t)
+    ∙ edges_are_at (since from 0 (edges_of rows) t) (since from 0 (living_of rows) t) (since from (no_totals asked) (tally_of asked rows) t) (nat_eq (since from 0 (edges_of rows) t) 0) refl in
+    let low = some_since rows from t (omega (arith, more, are)) in
+    (low, omega (arith, more, are, since_there from 0 (edges_of rows) t low))

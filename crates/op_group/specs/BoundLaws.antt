@@ -23,7 +23,7 @@ use Rattle.op_group.specs.FilterLaws.{sum_by-filter}
 use Rattle.op_group.specs.SegmentLaws.{cuts_ascend, among_cuts, edge_there, fits_alike, segment_fits}
 use Rattle.op_group.specs.KeyLaws.{fits_key}
 use Rattle.op_group.specs.GroupLaws.{made_from_there, there_from_made, same_at}
-use Rattle.op_group.specs.LawWords.{IsLeastOpen, Untouched, keyed, Outside, IsBegun, SameAt}
+use Rattle.op_group.specs.LawWords.{IsLeastOpen, Untouched, keyed, Outside, Aside, IsBegun, SameAt}
 
 open_test : (mark : ℕ) (begin end : ℕ) → (nat_lt begin mark && nat_le mark end) ≡ true → (begin < mark) × (mark ≤ end)
 open_test mark begin end h = (grind (arith, nat_tests), grind (arith, nat_tests))
@@ -157,7 +157,8 @@ module _ (weight : Row → ℕ) (cut_keeps : (r : Row) (end : ℕ) → weight (r
   no_part : (t : ℕ) (r : Row) → lives_at t r ≡ false → part_at weight t r ≡ 0
   no_part t r h = ap {B = ℕ} (λ b. cond b (weight r) 0) h
 
-  pub parts_untouched : (t : ℕ) (c : Change) → IsChange c → Outside c t → Untouched (part_at weight t) c
+  -- and at a time aside from them it doesn't touch how many rows are valid, nor what these weigh
+  pub parts_untouched : (t : ℕ) (c : Change) → IsChange c → Aside c t → Untouched (part_at weight t) c
   parts_untouched t (Add a) is (inl before) = no_part t a (not_before a.begin a.end t before)
   parts_untouched t (Add a) is (inr after) = no_part t a (not_after a.begin a.end t (omega arith))
   parts_untouched t (Cut a e) is (inl before) = (
@@ -170,11 +171,16 @@ module _ (weight : Row → ℕ) (cut_keeps : (r : Row) (end : ℕ) → weight (r
         λ gone. no_part t a (not_after a.begin a.end t (omega arith)),
       )
 
+-- a time outside those that a change touches is aside from them
+pub outside_aside : (c : Change) (t : ℕ) → Outside c t → Aside c t
+outside_aside c t (inl before) = inl before
+outside_aside c t (inr after) = inr (omega arith)
+
 -- outside the times that a change touches each group stays the same
 pub same_outside : (g : Grouping) (key : List Field) (c : Change) (old new : List Row) (t : ℕ) → IsChange c → IsMoved c old new → Outside c t → SameAt g key old new t
 same_outside g key c old new t is moved outside = same_at g key old new t
     (still g key (edge_at t) c old new (edges_untouched t c is outside) moved)
-    (λ w. still g key (part_at (λ (r : Row). w r.payload) t) c old new (parts_untouched (λ (r : Row). w r.payload) (λ r e. refl) t c is outside) moved)
+    (λ w. still g key (part_at (λ (r : Row). w r.payload) t) c old new (parts_untouched (λ (r : Row). w r.payload) (λ r e. refl) t c is (outside_aside c t outside)) moved)
 
 record IsLater (rows : List Row) (p : ℕ) : Type 0 where
   time : ℕ

@@ -97,6 +97,25 @@ pub record IsLastCut (cuts : List (ℕ × Segment)) (t last : ℕ) : Type 0 wher
   pub none : (u : ℕ) → last < u → u < t → segment_at u cuts ≡ None
   pub there : ((last ≡ t) × ((u : ℕ) → u < t → segment_at u cuts ≡ None)) ⊎ (IsSome (segment_at last cuts) × (last < t))
 
+-- how many begins and ends stand at what may be a cut point
+abbrev pub edges_in : Option Segment → ℕ
+edges_in None = 0
+edges_in (Some s) = s.edges
+
+-- how many begins and ends a change may take away at one time
+abbrev pub edges_taken : Change → ℕ
+edges_taken (Add r) = 0
+edges_taken (Cut r e) = 1
+
+-- the first time of the rows of the result that a change may touch, where it is seen at a time: that time, where a cut
+-- point stands there that stays, and else the last cut point before it
+abbrev pub IsFirstTouched : List (ℕ × Segment) → ℕ → ℕ → ℕ → Type 0
+IsFirstTouched cuts t taken first = ((first ≡ t) × (taken < edges_in (segment_at first cuts))) ⊎ IsLastCut cuts t first
+
+-- the last time of them, where a time is the last one that the change touches
+abbrev pub IsLastTouched : List (ℕ × Segment) → ℕ → ℕ → ℕ → Type 0
+IsLastTouched cuts t taken last = ((last ≡ t) × (taken < edges_in (segment_at last cuts))) ⊎ IsNextCut cuts (t + 1) last
+
 -- a segment has what is valid just before a time
 pub record IsCarried (cuts : List (ℕ × Segment)) (t : ℕ) (empty : Tally) (s : Segment) : Type 0 where
   pub one_edge : s.edges ≡ 1

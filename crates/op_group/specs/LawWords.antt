@@ -1,6 +1,5 @@
 -- Words of the proofs of these laws.
 use Rattle.std.specs.Prelude.{ℕ, ◌≡◌, ◌<◌, ◌≤◌, ◌⊎◌, List, [], ◌∷◌, Option, None, Some, cond, nat_eq, sum_by, length, max}
-use Rattle.std.specs.List.{slice_get}
 use Rattle.cedr_base.specs.Changes.{sync_of}
 use Rattle.cedr_base.specs.Rows.{count_of}
 use Rattle.cedr_base.specs.declared.change.Change.{Change}
@@ -40,6 +39,10 @@ keyed g key w x = cond (same_payload key (key_of g x)) (w x) 0
 -- a time before a change is seen, or after the last time that it touches
 abbrev pub Outside : Change → ℕ → Type 0
 Outside c t = (t < sync_of c) ⊎ (last_time c < t)
+
+-- a time before a change is seen, or no earlier than the last time that it touches
+abbrev pub Aside : Change → ℕ → Type 0
+Aside c t = (t < sync_of c) ⊎ (last_time c ≤ t)
 
 -- a row of the result begins at a time, and doesn't end before a mark
 pub record IsBegun (g : Grouping) (rows : List Row) (p mark : ℕ) : Type 0 where

@@ -1,8 +1,8 @@
-ghost use Rattle.std.specs.Prelude.{◌≡◌, ◌+◌, ◌-◌, ◌<◌, ◌≤◌, ◌⊎◌, ℕ, List, Option, Some, None, IfOk, OnOk, cond, nat_le, nat_lt, ◌&&◌, true, false, option_map, if◌then◌else◌};
+ghost use Rattle.std.specs.Prelude.{◌≡◌, ◌+◌, ◌-◌, ◌<◌, ◌≤◌, ◌⊎◌, ℕ, List, Option, Some, None, IfOk, IfSome, OnOk, cond, nat_le, nat_lt, ◌&&◌, true, false, option_map, is_some, if◌then◌else◌};
 ghost use Rattle.std.specs.List.{filter};
 ghost use Rattle.cedr_base.specs.declared.time.TheConstants.{FOREVER};
 ghost use Rattle.cedr_base.specs.declared.row.Row.{Row};
-ghost use Rattle.op_group.specs.Cuts.{ShowsCuts, StaysBetweenCuts, IsEdit, IsNextCut, IsLastCut, IsCarried, segment_at, one_at, edge_raised, segment_shifted, tally_shifted};
+ghost use Rattle.op_group.specs.Cuts.{ShowsCuts, StaysBetweenCuts, IsEdit, IsNextCut, IsLastCut, IsFirstTouched, IsLastTouched, IsCarried, edges_in, edges_taken, segment_at, one_at, edge_raised, segment_shifted, tally_shifted};
 ghost use Rattle.op_group.specs.Groups.{lives_at};
 ghost use Rattle.op_group.specs.Measures.{no_totals, extremes_of};
 ghost use Rattle.op_group.specs.Sides.{Passes, PassesBetween, Tells, TellsBetween, HasExtremes, HaveExtremes, TalliesExtremes};
@@ -10,7 +10,7 @@ ghost use Rattle.op_group.specs.Tallies.{Tally};
 
 use crate::extremes::Passing;
 use crate::segment::{Segment, Totalled, Totals};
-use cedr_base::{OutOfMemory, Time};
+use cedr_base::{Change, OutOfMemory, Time};
 use cedr_living::LivingFields;
 use std::alloc::Global;
 use std::collections::BTreeMap;
@@ -38,28 +38,79 @@ pub(crate) fn cut_before(cuts: &Cuts, to: Time) -> Time
     }
 }
 
-/// A cut point with one begin or end, that has what is valid just before it.
-fn carried(alloc: Global, asked: &Totalled, cuts: &Cuts, at: Time) -> Result<Segment, OutOfMemory>
-    ensures { IfOk result (λ s. IsCarried cuts.now.entries at (no_totals asked.now) s) }
+/// How many begins and ends a change may take away at one time.
+pub(crate) fn edges_taken(change: &Change) -> usize
+    ensures { result ≡ edges_taken change.now }
 {
-    match cuts.range(..at).next_back() {
-        Some((_, before)) => {
-            let totals = before.totals.copy(alloc)?;
-            Ok(Segment {
-                edges: 1,
-                living: before.living,
-                totals,
-            })
-        }
-        None => {
-            let totals = Totals::nothing(alloc, asked)?;
-            Ok(Segment {
-                edges: 1,
-                living: 0,
-                totals,
-            })
-        }
+    match change {
+        Change::Add(_) => 0,
+        Change::Cut(_, _) => 1,
     }
+}
+
+/// The first time of the rows of the result that a change may touch which is seen at a time: the row that ends at a cut
+/// point that stays isn't one of them.
+pub(crate) fn first_touched(cuts: &Cuts, at: Time, taken: usize) -> Time
+    ensures touched { IsFirstTouched cuts.now.entries at taken result }
+    ensures before { result ≤ at }
+{
+    let Some((last, segment)) = cuts.range(..=at).next_back() else {
+        return at;
+    };
+    if *last < at {
+        return *last;
+    }
+    if taken < segment.edges {
+        return at;
+    }
+    cut_before(cuts, at)
+}
+
+/// The last time of the rows of the result that a change may touch up to a time.
+pub(crate) fn last_touched(cuts: &Cuts, at: Time, taken: usize) -> Time
+    requires { at ≤ FOREVER }
+    ensures touched { IsLastTouched cuts.now.entries at taken result }
+    ensures after { at ≤ result }
+{
+    let Some((first, segment)) = cuts.range(at..).next() else {
+        return Time::MAX;
+    };
+    if at < *first {
+        return *first;
+    }
+    if taken < segment.edges {
+        return at;
+    }
+    cut_from(cuts, at + 1)
+}
+
+/// A cut point with one begin or end, that has what is valid just before it; none where a cut point stands there already.
+fn carried(
+    alloc: Global,
+    asked: &Totalled,
+    cuts: &Cuts,
+    at: Time,
+) -> Result<Option<Segment>, OutOfMemory>
+    ensures there { IfOk result (λ found. found ≡ None → is_some (segment_at at cuts.now.entries) ≡ true) }
+    ensures carried { IfOk result (λ found. IfSome found (λ s. (is_some (segment_at at cuts.now.entries) ≡ false) × IsCarried cuts.now.entries at (no_totals asked.now) s)) }
+{
+    let Some((last, before)) = cuts.range(..=at).next_back() else {
+        let totals = Totals::nothing(alloc, asked)?;
+        return Ok(Some(Segment {
+            edges: 1,
+            living: 0,
+            totals,
+        }));
+    };
+    if *last < at {
+        let totals = before.totals.copy(alloc)?;
+        return Ok(Some(Segment {
+            edges: 1,
+            living: before.living,
+            totals,
+        }));
+    }
+    Ok(None)
 }
 
 /// A begin or an end more stands at a cut point.
@@ -76,12 +127,13 @@ fn raise(cuts: &mut Cuts, at: Time) -> Result<(), OutOfMemory>
 fn add_edge(alloc: Global, asked: &Totalled, cuts: &mut Cuts, at: Time) -> Result<(), OutOfMemory>
     ensures { OnOk result ((edges : ℕ → ℕ) (living : ℕ → ℕ) (tally : ℕ → Tally) → ShowsCuts cuts.old.entries edges living tally → StaysBetweenCuts (no_totals asked.now) edges living tally → ShowsCuts cuts.new.entries (λ t. edges t + one_at at t) living tally) }
 {
-    if cuts.contains_key(&at) {
-        return raise(cuts, at);
+    match carried(alloc, asked, cuts, at)? {
+        Some(segment) => {
+            cuts.insert(at, segment)?;
+            Ok(())
+        }
+        None => raise(cuts, at),
     }
-    let segment = carried(alloc, asked, cuts, at)?;
-    cuts.insert(at, segment)?;
-    Ok(())
 }
 
 /// A begin or an end less stands at a cut point, which goes with the last one.

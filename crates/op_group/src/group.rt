@@ -17,7 +17,7 @@ ghost use Rattle.op_group.specs.State.{ShowsFrom, KeepsGroups, KeepsFields, None
 use crate::answer::{push_differences, rows_between};
 use crate::bags::{Bags, put_bag, take_changed};
 use crate::bound::first_open;
-use crate::cuts::{Cuts, add_row, cut_before, cut_from, cut_row};
+use crate::cuts::{Cuts, add_row, cut_row, edges_taken, first_touched, last_touched};
 use crate::extremes::Passing;
 use crate::forget::forget;
 use crate::points::{CutPoint, Points, find_touched, follow};
@@ -147,8 +147,9 @@ fn answer_in(
     ensures ordered { OnOk result (IsOrdered nat_cmp cuts.new) }
     ensures kept { take (length out.old.items) out.new.items ≡ out.old.items }
 {
-    let from = cut_before(cuts, change.sync());
-    let to = cut_from(cuts, change.row().end + 1);
+    let taken = edges_taken(change);
+    let from = first_touched(cuts, change.sync(), taken);
+    let to = last_touched(cuts, change.row().end, taken);
     let olds = rows_between(alloc, count, key, cuts, from, to)?;
     change_cuts(alloc, asked, cuts, change, living)?;
     let news = rows_between(alloc, count, key, cuts, from, to)?;
