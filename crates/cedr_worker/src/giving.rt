@@ -35,7 +35,8 @@ fn give_messages(alloc: Global, outlets: &mut Outlets, messages: Vec<Message>) -
     ensures bare { map bare outlets.new ≡ map bare outlets.old }
     ensures given { (given : List Sent) → AllTotal given outlets.old → AllStaged [] outlets.old → Passed (Ok messages) result given outlets.new }
 {
-    match outlets.stage_all(alloc, messages) {
+    let mut piece = messages;
+    match outlets.stage_all(alloc, &mut piece) {
         Ok(()) => {
             outlets.commit();
             None

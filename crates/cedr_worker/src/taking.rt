@@ -71,7 +71,7 @@ fn pass_on(
     ensures err { OnErr result (map total_of outlets.new ≡ map total_of outlets.old) }
 {
     take_on(alloc, node, port, message, piece)?;
-    outlets.stage_out(alloc, piece)?;
+    outlets.stage_all(alloc, piece)?;
     outlets.commit();
     Ok(())
 }

@@ -61,8 +61,8 @@ fn make_out_edges(alloc: Global) -> Result<OutEdges, OutOfMemory> {
     let (second, wide) = new_edge(alloc, 64)?;
     let edges = vec![in alloc; first, second]?;
     let mut outlets = Outlets::new(alloc, edges)?;
-    let piece = vec![in alloc; Message::Mark(1), Message::Mark(2)]?;
-    outlets.stage_all(alloc, piece)?;
+    let mut piece = vec![in alloc; Message::Mark(1), Message::Mark(2)]?;
+    outlets.stage_all(alloc, &mut piece)?;
     outlets.commit();
     outlets.close(Last::End);
     Ok(OutEdges {

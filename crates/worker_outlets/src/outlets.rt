@@ -74,19 +74,10 @@ impl Outlets {
         all_over(&self.list)
     }
 
-    /// Sets messages down at each edge, one after the other: copies of each, and at the last edge the message itself.
-    /// Where memory runs out some edges have some of them, and none is pending.
-    pub fn stage_all(&mut self, alloc: Global, piece: Vec<Message>) -> Result<(), OutOfMemory>
-        ensures bare { map bare self.new ≡ map bare self.old }
-        ensures totals { map total_of self.new ≡ map total_of self.old }
-        ensures ok { OnOk result (AllStaged [] self.old → AllStaged piece.items self.new) }
-    {
-        let mut messages = piece;
-        self.stage_out(alloc, &mut messages)
-    }
-
-    /// The same of messages that are moved out of their list, which keeps its room.
-    pub fn stage_out(&mut self, alloc: Global, piece: &mut Vec<Message>) -> Result<(), OutOfMemory>
+    /// Moves messages out of their list, which keeps its room, and sets them down at each edge, one after the other: copies
+    /// of each, and at the last edge the message itself. Where memory runs out some edges have some of them, and none is
+    /// pending.
+    pub fn stage_all(&mut self, alloc: Global, piece: &mut Vec<Message>) -> Result<(), OutOfMemory>
         ensures bare { map bare self.new ≡ map bare self.old }
         ensures totals { map total_of self.new ≡ map total_of self.old }
         ensures ok { OnOk result (AllStaged [] self.old → AllStaged piece.old.items self.new) }

@@ -17,5 +17,5 @@ returns-in-Ok-clause-given c = λ given all clean.
     let pending = c.commit.ensures.given given c.args.messages.items (totals_stay given _ _ c.stage_all.ensures.totals all) (c.in-Ok.ensures.ok clean) in
     inl (refl, pending.0, pending.1)
 
-pub returns-in-Err-clause-given : goal.returns-in-Err-clause-given
-returns-in-Err-clause-given c = λ given all clean. inr (refl, c.close.ensures.given given (totals_stay given _ _ c.stage_all.ensures.totals all))
+pub returns-clause-given : goal.returns-clause-given
+returns-clause-given c = λ given all clean. inr (refl, c.close.ensures.given given (totals_stay given _ _ c.stage_all.ensures.totals all))
