@@ -1,30 +1,162 @@
 -- What came of an output goes on.
-use Rattle.std.proofs.Common.{◌≡◌, true, ℕ, zero, suc, ◌<◌, List, [], ◌∷◌, ◌++◌, length, get_or, take, refl, ap, sym, ◌∙◌, subst, arith, append_assoc}
-use Rattle.std.specs.Prelude.{map}
+use Rattle.std.proofs.Common.{◌≡◌, true, false, ℕ, zero, suc, ◌+◌, ◌<◌, ◌≤◌, inl, inr, List, [], ◌∷◌, ◌++◌, Bool, cond, not, length, get_or, take, refl, ap, sym, ◌∙◌, subst, arith, append_assoc}
+use Rattle.std.specs.Prelude.{map, filter, nat_lt}
+use Rattle.std.proofs.lemmas.Bool.{cases_lt, ltb-true, ltb-false}
 use Rattle.std.proofs.lemmas.List.{append-nil}
 use Rattle.cedr_base.specs.declared.change.Change.{Change}
+use Rattle.cedr_base.specs.declared.change.Change.TheVariants.{Add, Cut}
 use Rattle.cedr_base.specs.declared.change.Message.{Message}
 use Rattle.cedr_base.specs.declared.change.Message.TheVariants as message
-use Rattle.cedr_base.specs.Messages.{changes_of, MayCome, IsLegalBehind}
+use Rattle.cedr_base.specs.declared.row.Row.{Row}
+use Rattle.cedr_base.specs.Changes.{IsChange, sync_of, puts, takes, all_takes, MayFollow}
+use Rattle.cedr_base.specs.Messages.{changes_of, mark_of, IsTableOf, MayCome, IsLegalBehind}
+use Rattle.cedr_base.specs.Rows.{count_of, in_order, SameRows}
+use Rattle.cedr_base.proofs.Bags.{count_of-append, one_if_same_exact}
+use Rattle.cedr_base.proofs.Sorting.{in_order_counts, same_in_order}
 use Rattle.change_laws.specs.Repairs.{IsMoved}
-use Rattle.change_laws.proofs.Legal.{changes-append, table_moved, table_stays}
+use Rattle.change_laws.proofs.Legal.{changes-append, mark-append, may_follow_table, table_moved, table_stays}
+use Rattle.change_laws.proofs.Moves.{row_came}
+use Rattle.cedr_table.specs.Counted.{ends_after}
+use Rattle.cedr_table.proofs.FilterLemmas.{count-filter}
 use Rattle.cedr_net.specs.declared.answer.Answer.{Answer}
-use Rattle.cedr_net.specs.Networks.{IsAnswerOf}
+use Rattle.cedr_net.specs.Networks.{AreAnswerRows, IsAnswerOf}
+use Rattle.cedr_net.proofs.FinalLemmas.{StandBefore, both_in_order, ends_before, passed}
+
+-- the rows that are final stand before the others
+final_first : (answer : Answer) (given : List Message) → IsAnswerOf answer given → StandBefore answer.final_rows.items answer.table
+final_first answer given a = λ x there q in_table. let low = a.below x there in let high = a.above q in_table in ends_before x q (omega arith)
+
+-- the same bag is the table of a list too
+same_table : (given : List Message) (xs ys : List Row) → IsTableOf given xs → SameRows ys xs → IsTableOf given ys
+same_table given xs ys table same = record {
+  sums = record {
+    each = λ r. let t = table.sums.each r in let e = same.each r in omega (arith, count_of-append r xs (all_takes (changes_of given)), count_of-append r ys (all_takes (changes_of given)));
+  };
+}
+
+-- the rows that are final, and then the others in order, are the table of the output in order
+pub rows_of_answer : (answer : Answer) (given : List Message) (rows : List Row) → IsAnswerOf answer given → rows ≡ answer.final_rows.items ++ in_order answer.table → AreAnswerRows given rows
+rows_of_answer answer given rows a is =
+    let final = answer.final_rows.items in
+    let whole = final ++ answer.table in
+    let ordered : rows ≡ in_order whole = is ∙ (ap (λ (rs : List Row). rs ++ in_order answer.table) (sym a.ordered) ∙ sym (both_in_order final answer.table (final_first answer given a))) in
+    let same : SameRows rows whole = record { each = λ r. ap (count_of r) ordered ∙ sym ((in_order_counts whole).each r) } in
+    record { table = same_table given whole rows a.table same; ordered = same_in_order rows whole same ∙ sym ordered }
+
+-- ---- changes
+
+-- a change behind a mark puts rows alone that end at the mark or later
+put_above : (c : Change) (mark : ℕ) (r : Row) → IsChange c → mark ≤ sync_of c → 0 < count_of r (puts c) → mark ≤ r.end
+put_above (Add a) mark r is late there = subst (λ (x : Row). mark ≤ x.end) (sym (one_if_same_exact r a (omega arith))) (let lives = is.lives in omega arith)
+put_above (Cut a e) mark r is late there = put_at (nat_lt a.begin e) there where
+  put_at : (b : Bool) → 0 < count_of r (cond b (record a { end = e } ∷ []) []) → mark ≤ r.end
+  put_at true one = subst (λ (x : Row). mark ≤ x.end) (sym (one_if_same_exact r (record a { end = e }) (omega arith))) late
+  put_at false none = absurd (omega arith)
+
+-- what follows in a list is a change
+is_change : (before : List Change) (c : Change) → MayFollow [] before c → IsChange c
+is_change before (Add a) may = may
+is_change before (Cut a e) may = may.0
+
+among_others : (c : Change) (mark : ℕ) (final others : List Row) → ((r : Row) → 0 < count_of r final → r.end < mark) → mark ≤ sync_of c → MayFollow (final ++ others) [] c → MayFollow others [] c
+among_others (Add a) mark final others below late may = may
+among_others (Cut a e) mark final others below late may = (
+  may.0,
+  elim (cases_lt 0 (count_of a final)) [
+    | inl there ↦ (let low = below a there in let shorter = may.0.2 in absurd (omega arith))
+    | inr none ↦ (let there = may.1 in omega (arith, count_of-append a final others))
+  ],
+)
+
+-- a change of an output names no row that is final
+pub follows_others : (answer : Answer) (given : List Message) (c : Change) → IsAnswerOf answer given → MayCome given (message.Change c) → MayFollow answer.table [] c
+follows_others answer given c a may =
+    among_others c (mark_of given) answer.final_rows.items answer.table a.below may.1.1 (may_follow_table given (answer.final_rows.items ++ answer.table) c a.table may.1.0)
 
 -- with one more change of an output, its answer has that change where changes are kept, and the table with its delta
-pub change_noted : (old new : Answer) (given : List Message) (c : Change) → IsAnswerOf old given → new.keeps ≡ old.keeps → (old.keeps ≡ true → new.changes.items ≡ old.changes.items ++ c ∷ []) → IsMoved c old.table new.table
-    → IsAnswerOf new (given ++ message.Change c ∷ [])
-change_noted old new given c a keeps kept moved = record {
-  changes_are = λ is. let was : old.keeps ≡ true = sym keeps ∙ is in kept was ∙ (ap (λ (cs : List Change). cs ++ c ∷ []) (a.changes_are was) ∙ sym (changes-append given (message.Change c ∷ [])));
-  table = table_moved given c old.table new.table a.table moved;
+pub change_noted : (old new : Answer) (given : List Message) (c : Change) → IsAnswerOf old given → MayCome given (message.Change c) → new.keeps ≡ old.keeps → (old.keeps ≡ true → new.changes.items ≡ old.changes.items ++ c ∷ []) → new.final_rows.items ≡ old.final_rows.items
+    → IsMoved c old.table new.table → IsAnswerOf new (given ++ message.Change c ∷ [])
+change_noted old new given c a may keeps kept final moved =
+    let was = old.final_rows.items in
+    let mark : mark_of (given ++ message.Change c ∷ []) ≡ mark_of given = omega (arith, mark-append given (message.Change c ∷ [])) in
+    let both : IsMoved c (was ++ old.table) (was ++ new.table) = record {
+      sums = record {
+        each = λ r. let m = moved.sums.each r in
+            omega (arith, count_of-append r (was ++ new.table) (takes c), count_of-append r was new.table, count_of-append r (was ++ old.table) (puts c), count_of-append r was old.table, count_of-append r new.table (takes c), count_of-append r old.table (puts c));
+      };
+    } in
+    record {
+      changes_are = λ is. let kept_before : old.keeps ≡ true = sym keeps ∙ is in kept kept_before ∙ (ap (λ (cs : List Change). cs ++ c ∷ []) (a.changes_are kept_before) ∙ sym (changes-append given (message.Change c ∷ [])));
+      table = subst (λ (rs : List Row). IsTableOf (given ++ message.Change c ∷ []) (rs ++ new.table)) (sym final) (table_moved given c (was ++ old.table) (was ++ new.table) a.table both);
+      ordered = subst (λ (rs : List Row). in_order rs ≡ rs) (sym final) a.ordered;
+      below = λ r there. let low = a.below r (subst (λ (rs : List Row). 0 < count_of r rs) final there) in omega arith;
+      above = λ r there. elim (row_came c old.table new.table r moved there) [
+        | inl stays ↦ (let high = a.above r stays in omega arith)
+        | inr put ↦ (let high = put_above c (mark_of given) r (is_change (changes_of given) c may.1.0) may.1.1 put in omega arith)
+      ];
+    }
+
+-- ---- marks
+
+split_at : (time : ℕ) (r : Row) (n : ℕ) (b : Bool) → ends_after time r ≡ b → cond (not b) n 0 + cond b n 0 ≡ n
+split_at time r n true is = omega arith
+split_at time r n false is = omega arith
+
+-- what ends at a time or before, in order, and the others are together the same bag
+pub split_same : (time : ℕ) (final table left : List Row) → SameRows left (filter (ends_after time) table) → SameRows ((final ++ in_order (filter (λ r. not (ends_after time r)) table)) ++ left) (final ++ table)
+split_same time final table left same = record {
+  each = λ r.
+      let gone = filter (λ x. not (ends_after time x)) table in
+      let e = same.each r in
+      let o = (in_order_counts gone).each r in
+      omega (arith, count_of-append r (final ++ in_order gone) left, count_of-append r final (in_order gone), count_of-append r final table, count-filter r (λ x. not (ends_after time x)) table, count-filter r (ends_after time) table, split_at time r (count_of r table) (ends_after time r) refl);
 }
 
--- with one more message of an output that is no change, its answer stays
-pub other_noted : (answer : Answer) (given : List Message) (m : Message) → IsAnswerOf answer given → changes_of (m ∷ []) ≡ [] → IsAnswerOf answer (given ++ m ∷ [])
-other_noted answer given m a none = record {
-  changes_are = λ is. a.changes_are is ∙ sym (changes-append given (m ∷ []) ∙ (ap (λ (cs : List Change). changes_of given ++ cs) none ∙ append-nil (changes_of given)));
-  table = table_stays given m answer.table a.table none;
-}
+not_false : (b : Bool) → not b ≡ true → b ≡ false
+not_false true h = cc
+not_false false h = refl
+
+-- with one more mark of an output, its rows that end below it are final
+pub mark_noted : (old new : Answer) (given : List Message) (mark time : ℕ) → IsAnswerOf old given → MayCome given (message.Mark mark) → time + 1 ≡ mark → new.keeps ≡ old.keeps → new.changes.items ≡ old.changes.items
+    → new.final_rows.items ≡ old.final_rows.items ++ in_order (filter (λ r. not (ends_after time r)) old.table) → SameRows new.table (filter (ends_after time) old.table) → IsAnswerOf new (given ++ message.Mark mark ∷ [])
+mark_noted old new given mark time a may next keeps changes taken left =
+    let was = old.final_rows.items in
+    let gone = filter (λ r. not (ends_after time r)) old.table in
+    let rise : mark_of (given ++ message.Mark mark ∷ []) ≡ mark = let later = may.1.0 in omega (arith, mark-append given (message.Mark mark ∷ [])) in
+    let first : StandBefore was (in_order gone) = λ x there q in_gone.
+    final_first old given a x there q (passed q (λ r. not (ends_after time r)) old.table (let e = (in_order_counts gone).each q in omega arith)).1 in
+    record {
+      changes_are = λ is. changes ∙ (a.changes_are (sym keeps ∙ is) ∙ sym (changes-append given (message.Mark mark ∷ []) ∙ append-nil (changes_of given)));
+      table = table_stays given (message.Mark mark) (new.final_rows.items ++ new.table)
+          (same_table given (was ++ old.table) (new.final_rows.items ++ new.table) a.table
+          (subst (λ (rs : List Row). SameRows (rs ++ new.table) (was ++ old.table)) (sym taken) (split_same time was old.table new.table left)))
+          refl;
+      ordered = subst (λ (rs : List Row). in_order rs ≡ rs) (sym taken)
+          (both_in_order was (in_order gone) first
+          ∙ (ap (λ (rs : List Row). rs ++ in_order (in_order gone)) a.ordered ∙ ap (λ (rs : List Row). was ++ rs) (sym (same_in_order gone (in_order gone) (in_order_counts gone)))));
+      below = λ r there. elim (cases_lt 0 (count_of r was)) [
+        | inl before ↦ (let low = a.below r before in let later = may.1.0 in omega arith)
+        | inr fresh ↦ (
+            let both : 0 < count_of r (was ++ in_order gone) = subst (λ (rs : List Row). 0 < count_of r rs) taken there in
+            let among : 0 < count_of r gone = let e = (in_order_counts gone).each r in omega (arith, count_of-append r was (in_order gone)) in
+            let ends = ltb-false time r.end (not_false (ends_after time r) (passed r (λ x. not (ends_after time x)) old.table among).0) in
+            omega arith
+            )
+      ];
+      above = λ r there. let stays = passed r (ends_after time) old.table (let e = left.each r in omega arith) in let high = ltb-true time r.end stays.0 in omega arith;
+    }
+
+-- with one more message of an output that is neither a change nor a mark, its answer stays
+pub other_noted : (answer : Answer) (given : List Message) (m : Message) → IsAnswerOf answer given → changes_of (m ∷ []) ≡ [] → mark_of (m ∷ []) ≡ 0 → IsAnswerOf answer (given ++ m ∷ [])
+other_noted answer given m a none unmarked =
+    let mark : mark_of (given ++ m ∷ []) ≡ mark_of given = omega (arith, mark-append given (m ∷ [])) in
+    record {
+      changes_are = λ is. a.changes_are is ∙ sym (changes-append given (m ∷ []) ∙ (ap (λ (cs : List Change). changes_of given ++ cs) none ∙ append-nil (changes_of given)));
+      table = table_stays given m (answer.final_rows.items ++ answer.table) a.table none;
+      ordered = a.ordered;
+      below = λ r there. let low = a.below r there in omega arith;
+      above = λ r there. let high = a.above r there in omega arith;
+    }
 
 may_come_at : (given piece : List Message) (i : ℕ) (d : Message) → IsLegalBehind given piece → i < length piece → MayCome (given ++ take i piece) (get_or piece i d)
 may_come_at given [] i d legal within = absurd (omega arith)

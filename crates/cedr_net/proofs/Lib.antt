@@ -3,6 +3,7 @@ pub mod FlowLemmas
 pub mod SettleLemmas
 pub mod RunLemmas
 pub mod NewLemmas
+pub mod FinalLemmas
 pub mod AnswerLemmas
 pub mod NetLemmas
 pub mod FeedLemmas

@@ -1,5 +1,5 @@
 -- A network to which nothing came.
-use Rattle.std.proofs.Common.{inl, inr, ◌≡◌, ℕ, zero, suc, ◌+◌, ◌<◌, List, [], ◌∷◌, ◌++◌, length, get_or, replicate, take, refl, ap, sym, ◌∙◌, subst, arith, ◌≢◌, true, false, Bool, cond, append_assoc}
+use Rattle.std.proofs.Common.{inl, inr, ◌≡◌, ℕ, zero, suc, ◌+◌, ◌<◌, List, [], ◌∷◌, ◌++◌, length, get_or, replicate, take, refl, ap, sym, ◌∙◌, subst, arith, ◌≢◌, false, Bool, cond, append_assoc}
 use Rattle.std.specs.Prelude.{map, All, Option, Some, IfSome}
 use Rattle.std.proofs.lemmas.List.{length-replicate, length-map, length-append, map-append, take_more, take_all}
 use Rattle.std.proofs.Math.Seq.{get_or-append_seam}
@@ -28,7 +28,6 @@ use Rattle.cedr_plan.proofs.PlaceLemmas.{node_is, output_stands, place_within}
 use Rattle.op_node.specs.Ready.{IsReady}
 use Rattle.op_node.specs.ReadyLaws.{node_ready}
 use Rattle.cedr_plan.specs.declared.plan.NodeKind.{NodeKind}
-use Rattle.cedr_plan.specs.declared.plan.NodeKind.TheVariants as kind
 
 -- nodes to which nothing came, and one more
 pub new_push : (nodes : List PlanNode) (works : List Work) (n : PlanNode) (w : Work) → AllNew nodes works → WorksAt w n (no_ports n) [] → AllNew (nodes ++ n ∷ []) (works ++ w ∷ [])

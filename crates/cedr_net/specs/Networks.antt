@@ -1,7 +1,9 @@
 -- A network, and the lists that went over it.
 use Rattle.std.specs.Prelude.{ℕ, ◌≡◌, ◌≢◌, ◌≤◌, ◌<◌, List, [], ◌∷◌, ◌++◌, length, slice_index_or, slice_set, Bool, true, false}
 use Rattle.cedr_base.specs.declared.change.Message.{Message}
+use Rattle.cedr_base.specs.declared.row.Row.{Row}
 use Rattle.cedr_base.specs.Messages.{changes_of, mark_of, IsTableOf}
+use Rattle.cedr_base.specs.Rows.{count_of, in_order}
 use Rattle.node_laws.specs.Lists.{Lists, list_at, with_more}
 use Rattle.cedr_plan.specs.declared.plan.PlanNode.{PlanNode}
 use Rattle.plan_runs.specs.Runs.{lists_at}
@@ -13,10 +15,19 @@ use Rattle.cedr_net.specs.Flows.{reads_of, Flows, IsSourceAt, PortAt, with_taken
 use Rattle.cedr_net.specs.Settling.{AreUpToPort, TakesPortByPort}
 use Rattle.cedr_plan.specs.Places.{is_source, output_place}
 
--- the table of a list and, where changes are kept, these
+-- the rows are the table of a list, in canonical order
+pub record AreAnswerRows (given : List Message) (rows : List Row) : Type 0 where
+  pub table : IsTableOf given rows
+  pub ordered : in_order rows ≡ rows
+
+-- The table of a list and, where changes are kept, these. Its rows that end below the list's mark stand in canonical order
+-- by themselves.
 pub record IsAnswerOf (answer : Answer) (given : List Message) : Type 0 where
   pub changes_are : answer.keeps ≡ true → answer.changes.items ≡ changes_of given
-  pub table : IsTableOf given answer.table
+  pub table : IsTableOf given (answer.final_rows.items ++ answer.table)
+  pub ordered : in_order answer.final_rows.items ≡ answer.final_rows.items
+  pub below : (r : Row) → 0 < count_of r answer.final_rows.items → r.end < mark_of given
+  pub above : (r : Row) → 0 < count_of r answer.table → mark_of given ≤ r.end
 
 -- a network stands for the lists that were taken on the ports of each node of a plan and the list that each node gave:
 -- its edges are those of the plan, and its answer and its reach are those of the output

@@ -1,20 +1,74 @@
-ghost use Rattle.std.specs.Prelude.{◌≡◌, ◌++◌, ◌∷◌, [], List, true, OnOk};
+ghost use Rattle.std.specs.Prelude.{◌≡◌, ◌<◌, ◌++◌, ◌∷◌, [], List, true, not, replicate, OnOk, IfOk};
+ghost use Rattle.std.specs.List.{filter};
 ghost use Rattle.cedr_base.specs.declared.change.Message.{Message};
 ghost use Rattle.cedr_base.specs.declared.change.Message.TheVariants as message;
 ghost use Rattle.cedr_base.specs.Messages.{MayCome, IsLegalBehind};
-ghost use Rattle.cedr_net.specs.Networks.{IsAnswerOf};
+ghost use Rattle.cedr_base.specs.Rows.{in_order, SameRows};
+ghost use Rattle.cedr_table.specs.Counted.{ends_after};
+ghost use Rattle.cedr_net.specs.Networks.{AreAnswerRows, IsAnswerOf};
 
-use cedr_base::{Change, Message, OutOfMemory};
+use cedr_base::{Change, Message, OutOfMemory, Row, Time};
 use cedr_table::{Table, apply_change};
 use std::alloc::Global;
 
 /// The table of the changes that came of an output and, where they are kept, these changes.
+///
+/// Of what ends below the last mark nothing changes any more, so these rows have left the ordered map of the others.
 #[derive(Drop)]
 pub(crate) struct Answer {
     pub(crate) keeps: bool,
     /// None where they aren't kept.
     pub(crate) changes: Vec<Change>,
+    /// The rows that end below the last mark, in canonical order.
+    pub(crate) final_rows: Vec<Row>,
+    /// The others.
     pub(crate) table: Table,
+}
+
+/// Appends copies of rows.
+fn push_rows(rows: &mut Vec<Row>, others: &[Row]) -> Result<(), OutOfMemory>
+    ensures { OnOk result (rows.new.items ≡ rows.old.items ++ others.now) }
+{
+    for row in others {
+        let copied = row.copy(*rows.allocator())?;
+        rows.push(copied)?;
+    }
+    Ok(())
+}
+
+/// Appends this many copies of a row, the last of which is the row itself.
+fn push_copies(rows: &mut Vec<Row>, row: Row, count: usize) -> Result<(), OutOfMemory>
+    requires { 0 < count }
+    ensures { OnOk result (rows.new.items ≡ rows.old.items ++ replicate count row) }
+{
+    for _ in 1..count {
+        let copied = row.copy(*rows.allocator())?;
+        rows.push(copied)?;
+    }
+    rows.push(row)?;
+    Ok(())
+}
+
+/// Takes the rows out of a table that end at a time or before, and appends them in canonical order. O(log n) for each of
+/// them that differs from the others, and for one that stays.
+fn take_ended(table: &mut Table, time: Time, rows: &mut Vec<Row>) -> Result<(), OutOfMemory>
+    ensures taken { OnOk result (rows.new.items ≡ rows.old.items ++ in_order (filter (λ r. not (ends_after time r)) table.old)) }
+    ensures left { OnOk result (SameRows table.new (filter (ends_after time) table.old)) }
+{
+    while let Some((row, count)) = table.pop_ended(time) {
+        push_copies(rows, row, count)?;
+    }
+    Ok(())
+}
+
+/// Takes all rows out of a table, and appends them in canonical order.
+fn take_rest(mut table: Table, rows: &mut Vec<Row>) -> Result<(), OutOfMemory>
+    ensures { OnOk result (rows.new.items ≡ rows.old.items ++ in_order table) }
+{
+    while let Some((row, count)) = table.pop_first() {
+        push_copies(rows, row, count)?;
+    }
+    Ok(())
 }
 
 impl Answer {
@@ -26,6 +80,7 @@ impl Answer {
         Answer {
             keeps,
             changes: Vec::new(alloc),
+            final_rows: Vec::new(alloc),
             table: Table::new(alloc),
         }
     }
@@ -33,7 +88,7 @@ impl Answer {
     /// Keeps a copy of a change, where changes are kept.
     fn keep(&mut self, change: &Change) -> Result<(), OutOfMemory>
         ensures kept { OnOk result (self.old.keeps ≡ true → self.new.changes.items ≡ self.old.changes.items ++ change.now ∷ []) }
-        ensures others { (self.new.keeps ≡ self.old.keeps) × (self.new.table ≡ self.old.table) }
+        ensures others { (self.new.keeps ≡ self.old.keeps) × (self.new.final_rows ≡ self.old.final_rows) × (self.new.table ≡ self.old.table) }
     {
         if self.keeps {
             let copied = change.copy(*self.changes.allocator())?;
@@ -52,6 +107,17 @@ impl Answer {
         Ok(())
     }
 
+    /// The rows that end below the mark are final: a change that comes behind it leaves no row with such an end, and takes
+    /// none. One that ends at the mark isn't, since a row may still be cut to that end, and stand before it.
+    fn note_mark(&mut self, mark: Time) -> Result<(), OutOfMemory>
+        requires { (given : List Message) × IsAnswerOf self.old given × MayCome given (message.Mark mark) }
+        ensures noted { OnOk result ((given : List Message) → IsAnswerOf self.old given → MayCome given (message.Mark mark) → IsAnswerOf self.new (given ++ message.Mark mark ∷ [])) }
+        ensures keeps { self.new.keeps ≡ self.old.keeps }
+    {
+        take_ended(&mut self.table, mark - 1, &mut self.final_rows)?;
+        Ok(())
+    }
+
     fn note(&mut self, message: Message) -> Result<(), OutOfMemory>
         requires { (given : List Message) × IsAnswerOf self.old given × MayCome given message }
         ensures noted { OnOk result ((given : List Message) → IsAnswerOf self.old given → MayCome given message → IsAnswerOf self.new (given ++ message ∷ [])) }
@@ -59,7 +125,7 @@ impl Answer {
     {
         match message {
             Message::Change(change) => self.note_change(change),
-            Message::Mark(_) => Ok(()),
+            Message::Mark(mark) => self.note_mark(mark),
             Message::End => Ok(()),
             Message::Broken => Ok(()),
         }
@@ -75,5 +141,31 @@ impl Answer {
             self.note(message)?;
         }
         Ok(())
+    }
+
+    /// Copies of the rows in canonical order.
+    pub(crate) fn rows(&self) -> Result<Vec<Row>, OutOfMemory>
+        ensures { IfOk result (λ rows. (given : List Message) → IsAnswerOf self.now given → AreAnswerRows given rows.items) }
+    {
+        let mut others = self.table.canonical()?;
+        let room = self.final_rows.len() + others.len();
+        let mut rows = Vec::with_capacity(*self.final_rows.allocator(), room)?;
+        push_rows(&mut rows, self.final_rows.as_slice())?;
+        rows.append(&mut others)?;
+        Ok(rows)
+    }
+
+    /// The rows in canonical order.
+    pub(crate) fn into_rows(self) -> Result<Vec<Row>, OutOfMemory>
+        ensures { IfOk result (λ rows. (given : List Message) → IsAnswerOf self given → AreAnswerRows given rows.items) }
+    {
+        let Answer {
+            keeps: _,
+            changes: _changes,
+            final_rows: mut rows,
+            table,
+        } = self;
+        take_rest(table, &mut rows)?;
+        Ok(rows)
     }
 }

@@ -1,5 +1,5 @@
 ghost use Rattle.std.specs.Prelude.{ℕ, ◌≡◌, ◌<◌, ◌↔◌, ◌++◌, ◌∷◌, [], List, All, true, false, OnOk, IfOk, IsErrOf, length, map, replicate};
-ghost use Rattle.cedr_base.specs.Messages.{MayCome, IsLegal, changes_of, mark_of, IsTableOf};
+ghost use Rattle.cedr_base.specs.Messages.{MayCome, IsLegal, changes_of, mark_of};
 ghost use Rattle.node_laws.specs.Kept.{forgot};
 ghost use Rattle.node_laws.specs.Lawful.{all_over};
 ghost use Rattle.node_laws.specs.Lists.{Lists, list_at, with_more};
@@ -9,13 +9,12 @@ ghost use Rattle.cedr_plan.specs.Places.{output_place};
 ghost use Rattle.plan_runs.specs.Runs.{lists_at};
 ghost use Rattle.cedr_net.specs.declared.net.NetFault.TheVariants.{OutOfMemory as NoMemory, Spent};
 ghost use Rattle.cedr_net.specs.Flows.{IsSourceAt, no_ports};
-ghost use Rattle.cedr_net.specs.Networks.{is_net_spent, keeps_changes, NetStands, HasPort, IsNetTurn, HasSettled, IsScheduled};
+ghost use Rattle.cedr_net.specs.Networks.{is_net_spent, keeps_changes, AreAnswerRows, NetStands, HasPort, IsNetTurn, HasSettled, IsScheduled};
 
 use crate::flow::Flow;
 use crate::work::{ended_at, forgotten_at};
-use cedr_base::{Change, Message, OutOfMemory, Time};
+use cedr_base::{Change, Message, OutOfMemory, Row, Time};
 use cedr_plan::Plan;
-use cedr_table::Table;
 use node_laws::Forgotten;
 use std::alloc::Global;
 use thiserror::Error;
@@ -173,11 +172,22 @@ impl SerialNet {
         Ok(())
     }
 
-    /// The table of what the output gave. It takes no memory.
-    pub fn answer(&self) -> &Table
-        ensures { (nodes : List PlanNode) (ports : List Lists) (given : Lists) → NetStands nodes self.now ports given → IsTableOf (list_at given (output_place nodes)) result.now }
+    /// The table of what the output gave: its rows in canonical order, copied. O(n).
+    pub fn rows(&self) -> Result<Vec<Row>, OutOfMemory>
+        ensures { IfOk result (λ rows. (nodes : List PlanNode) (ports : List Lists) (given : Lists) → NetStands nodes self.now ports given → AreAnswerRows (list_at given (output_place nodes)) rows.items) }
     {
-        &self.flow.answer.table
+        let rows = self.flow.answer.rows()?;
+        Ok(rows)
+    }
+
+    /// The same rows of a network that isn't needed any more. They are moved: those that end below the last mark of the
+    /// output at once, and the others in O(log n) each.
+    pub fn into_rows(self) -> Result<Vec<Row>, OutOfMemory>
+        ensures { IfOk result (λ rows. (nodes : List PlanNode) (ports : List Lists) (given : Lists) → NetStands nodes self ports given → AreAnswerRows (list_at given (output_place nodes)) rows.items) }
+    {
+        let SerialNet { flow, spent: _ } = self;
+        let rows = flow.answer.into_rows()?;
+        Ok(rows)
     }
 
     /// The changes that the output gave, in order, where the network was made by [`SerialNet::new`], which keeps them. It

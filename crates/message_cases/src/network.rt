@@ -88,7 +88,7 @@ fn tell(rt: &impl Print, net: &SerialNet, line: &str) -> Result<()> {
 /// Writes the rows of a network's answer, in canonical order.
 fn tell_rows(rt: &impl Print, net: &SerialNet, line: &str) -> Result<()> {
     println!(rt; "{line}")?;
-    let rows = net.answer().canonical()?;
+    let rows = net.rows()?;
     write_rows(rt, rows.as_slice())
 }
 

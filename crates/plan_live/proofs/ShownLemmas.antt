@@ -80,7 +80,7 @@ is_shown nodes player before shown text p t =
 pub shows_some : (nodes : List PlanNode) (player : Player) (before : Accepted) (shown : Lists) (p : PlaysStand nodes player before shown) → (text : List ℕ) × IsShown nodes shown before p.given text
 shows_some nodes player before shown p =
     let answer = p.settled.stands.stands.answer in
-    (_, is_shown nodes player before shown _ p (player.net.flow.answer.table, answer.table, refl))
+    (_, is_shown nodes player before shown _ p (player.net.flow.answer.final_rows.items ++ player.net.flow.answer.table, answer.table, refl))
 
 -- after it the lists go on from what was shown
 pub shown_on : (nodes : List PlanNode) (player : Player) (before : Accepted) (shown : Lists) (p : PlaysStand nodes player before shown) → PlaysStand nodes player before p.given

@@ -68,7 +68,7 @@ fn write_reach(reach: Time, out: &mut Vec<u8>) -> Result<(), OutOfMemory>
 fn shown_text(alloc: Global, net: &SerialNet) -> Result<Vec<u8>, OutOfMemory>
     ensures { IfOk result (λ text. (nodes : List PlanNode) (ports : List Lists) (given : Lists) → NetStands nodes net.now ports given → IsShownText nodes ports given text.items) }
 {
-    let rows = net.answer().canonical()?;
+    let rows = net.rows()?;
     let mut text = Vec::new(alloc);
     write_rows(rows.as_slice(), &mut text)?;
     write_reach(net.reach(), &mut text)?;

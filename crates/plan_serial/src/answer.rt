@@ -4,6 +4,7 @@ ghost use Rattle.cedr_base.specs.Messages.{IsTableOf};
 ghost use Rattle.cedr_base.specs.Rows.{in_order};
 ghost use Rattle.node_laws.specs.Lists.{Lists, list_at};
 ghost use Rattle.cedr_net.specs.Networks.{NetStands};
+ghost use Rattle.cedr_text.specs.Texts.{rows_text};
 ghost use Rattle.cedr_plan.specs.declared.plan.PlanNode.{PlanNode};
 ghost use Rattle.cedr_plan.specs.Places.{output_place};
 ghost use Rattle.plan_runs.specs.Runs.{lists_at};
@@ -50,23 +51,34 @@ pub(crate) fn write_tail(
     Ok(())
 }
 
+/// The rows of a network's answer in canonical order.
+fn write_table(net: SerialNet, out: &mut Vec<u8>) -> Result<(), OutOfMemory>
+    ensures { OnOk result ((nodes : List PlanNode) (ports : List Lists) (given : Lists) → NetStands nodes net ports given → (rows : List Row) × IsTableOf (list_at given (output_place nodes)) rows × (out.new.items ≡ out.old.items ++ rows_text (in_order rows))) }
+{
+    let rows = net.into_rows()?;
+    write_rows(rows.as_slice(), out)?;
+    Ok(())
+}
+
 /// Appends the rows of a network's answer in canonical order and, where `with_tail`, a line `--` and a line for each change
 /// that a port forgot: in the order of the nodes, then of their ports, then in the order in which the changes came. Where
-/// memory runs out some of the text may stand there. O(n log n) in the rows.
+/// memory runs out some of the text may stand there. The network goes, so that no row is copied. O(n log n) in the rows.
 pub fn write_answer(
     nodes: &[PlanNode],
-    net: &SerialNet,
+    net: SerialNet,
     with_tail: bool,
     out: &mut Vec<u8>,
 ) -> Result<(), OutOfMemory>
-    requires { (ports : List Lists) × (given : Lists) × NetStands nodes.now net.now ports given }
-    ensures { OnOk result ((ports : List Lists) (given : Lists) → NetStands nodes.now net.now ports given → (rows : List Row) × IsTableOf (list_at given (output_place nodes.now)) rows × (out.new.items ≡ out.old.items ++ answer_text with_tail nodes.now (in_order rows) (forgot_in nodes.now ports))) }
+    requires { (ports : List Lists) × (given : Lists) × NetStands nodes.now net ports given }
+    ensures { OnOk result ((ports : List Lists) (given : Lists) → NetStands nodes.now net ports given → (rows : List Row) × IsTableOf (list_at given (output_place nodes.now)) rows × (out.new.items ≡ out.old.items ++ answer_text with_tail nodes.now (in_order rows) (forgot_in nodes.now ports))) }
 {
-    let rows = net.answer().canonical()?;
-    write_rows(rows.as_slice(), out)?;
     if !with_tail {
+        write_table(net, out)?;
         return Ok(());
     }
-    write_tail(nodes, net, out)?;
+    let mut tail = Vec::new(*out.allocator());
+    write_tail(nodes, &net, &mut tail)?;
+    write_table(net, out)?;
+    out.append(&mut tail)?;
     Ok(())
 }

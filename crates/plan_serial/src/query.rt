@@ -61,7 +61,7 @@ pub fn answer_sources(
     let net = feed_sources(alloc, plan, left)?;
     let nodes = plan.nodes.as_slice();
     let mut text = Vec::new(alloc);
-    write_answer(nodes, &net, is_told(always, nodes), &mut text)?;
+    write_answer(nodes, net, is_told(always, nodes), &mut text)?;
     Ok(text)
 }
 
@@ -74,6 +74,6 @@ pub fn answer_rows(alloc: Global, plan: &Plan, left: Vec<Entries>) -> Result<Vec
 {
     network_runs();
     let net = feed_sources(alloc, plan, left)?;
-    let rows = net.answer().canonical()?;
+    let rows = net.into_rows()?;
     Ok(rows)
 }

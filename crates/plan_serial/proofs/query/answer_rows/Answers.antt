@@ -9,7 +9,8 @@ pub returns : goal.returns
 returns c = λ histories whole are remembers.
     let nodes = c.args.plan.now.nodes.items in
     let run = c.in_ok-net.ensures in
-    c.in_ok-rows.ensures
-    ∙ one_canonical c.answer.result.now _
+    let rows = c.in_ok-rows.ensures nodes run.ports run.given run.stands in
+    sym rows.ordered
+    ∙ one_canonical c.in_ok-rows.rows.items _
     (c.network_runs.ensures.query nodes c.in_ok-net.net run.ports run.given run.stands run.settled (subst (AllWhole (source_count nodes)) (sym run.sources) whole) remembers histories
-    (subst (λ (ls : Lists). AreTables ls histories) (sym run.sources) are) c.answer.result.now (c.answer.ensures nodes run.ports run.given run.stands))
+    (subst (λ (ls : Lists). AreTables ls histories) (sym run.sources) are) c.in_ok-rows.rows.items rows.table)
