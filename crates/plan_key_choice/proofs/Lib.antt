@@ -1,0 +1,4 @@
+pub mod Admitted
+pub mod Pinned
+pub mod Places
+pub mod Clamped
