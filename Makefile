@@ -6,6 +6,7 @@
 PREFIX = /usr/local
 TO = $(DESTDIR)$(PREFIX)
 PROGRAM = crates/cedr/out/cedr
+KEYS = crates/cedr_keys/out/cedr_keys
 TOOLS = $(notdir $(wildcard tools/cedr-*))
 
 # A build proves for half an hour the first time, so it is asked for by its name.
@@ -19,6 +20,7 @@ install:
 	@test -x $(PROGRAM) || { echo "$(PROGRAM) isn't there; it is built by: make build" >&2; exit 1; }
 	install -d $(TO)/bin $(TO)/share/cedr $(TO)/share/doc/cedr
 	install -m 755 $(PROGRAM) $(TO)/bin/cedr
+	test ! -x $(KEYS) || install -m 755 $(KEYS) $(TO)/bin/cedr_keys
 	cp -R tools/. $(TO)/share/cedr
 	for tool in $(TOOLS); do ln -sf ../share/cedr/$$tool $(TO)/bin/$$tool; done
 	cp -R README.md docs examples $(TO)/share/doc/cedr
@@ -28,7 +30,7 @@ install:
 	install -D -m 644 completion/_cedr $(TO)/share/zsh/site-functions/_cedr
 
 uninstall:
-	rm -f $(TO)/bin/cedr $(addprefix $(TO)/bin/,$(TOOLS)) $(TO)/share/man/man1/cedr.1
+	rm -f $(TO)/bin/cedr $(TO)/bin/cedr_keys $(addprefix $(TO)/bin/,$(TOOLS)) $(TO)/share/man/man1/cedr.1
 	rm -f $(TO)/share/bash-completion/completions/cedr $(TO)/share/bash-completion/completions/cedr-explain
 	rm -f $(TO)/share/zsh/site-functions/_cedr
 	rm -rf $(TO)/share/cedr $(TO)/share/doc/cedr

@@ -25,6 +25,7 @@ BUILD = re.compile(r"^\(cd (\S+) && (rt run [^)]*)\)$", re.MULTILINE)
 # What stands under share/, by where it is in the repository.
 SHARED = {"completion/cedr.bash": "bash-completion/completions/cedr-explain",
           "completion/_cedr": "zsh/site-functions/_cedr", "docs/guide.md": "doc/cedr/docs/guide.md"}
+KEYS = ROOT / "crates/cedr_keys/out/cedr_keys"
 PLAN = b'{"version":1,"nodes":[{"name":"s","op":"source","file":"s.csv","fields":["text"]}]}'
 
 
@@ -74,6 +75,9 @@ def check_installed(prefix: Prefix) -> int:
     prefix.expect(told == "", "make install", told)
     version = prefix.call("cedr", "--version")
     prefix.expect(version[0] == 0 and version[1].startswith("cedr "), "cedr --version", version)
+    if os.access(KEYS, os.X_OK):
+        keys = prefix.call("cedr_keys")
+        prefix.expect(keys == (1, "", "usage: cedr_keys PLAN\n"), "cedr_keys", keys)
     for tool in sorted(one.name for one in (ROOT / "tools").glob("cedr-*")):
         came = prefix.call(tool, "--help")
         prefix.expect(came[0] == 0 and tool in came[1] and not came[2], f"{tool} --help", came)

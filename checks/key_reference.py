@@ -1,5 +1,5 @@
 """Which columns the nodes of a plan can have so that each keeps the key, from the definition: every column of every node is
-tried, from the first node to the last."""
+tried, each node after those that it reads."""
 
 
 def nodes_of(document: dict) -> list:
@@ -58,15 +58,34 @@ def keeps(node: dict, columns: list, column: int) -> bool:
     return all(one == column for one in columns)
 
 
-def choice(nodes: list, sources: dict, columns: tuple = ()):
+def reading_order(nodes: list) -> list:
+    """The places of all nodes, each as late as may be before the node that reads it."""
+    order = []
+
+    def visit(place: int) -> None:
+        if place not in order:
+            for one in nodes[place]["inputs"]:
+                visit(one)
+            order.append(place)
+
+    for place in reversed(range(len(nodes))):
+        visit(place)
+    return order
+
+
+def choice(nodes: list, sources: dict):
     """Columns that all nodes keep, where some sources have these, or None."""
-    if len(columns) == len(nodes):
-        return columns
-    node = nodes[len(columns)]
-    mine = [columns[place] for place in node["inputs"]]
-    for column in range(max(1, node["width"])):
-        if sources.get(node["name"], column) == column and keeps(node, mine, column):
-            found = choice(nodes, sources, (*columns, column))
-            if found is not None:
-                return found
-    return None
+    order, columns = reading_order(nodes), [0] * len(nodes)
+
+    def found(done: int) -> bool:
+        if done == len(order):
+            return True
+        node = nodes[order[done]]
+        mine = [columns[place] for place in node["inputs"]]
+        for column in range(max(1, node["width"])):
+            columns[order[done]] = column
+            if sources.get(node["name"], column) == column and keeps(node, mine, column) and found(done + 1):
+                return True
+        return False
+
+    return tuple(columns) if found(0) else None

@@ -58,7 +58,8 @@ def check_cases(check: Check) -> int:
         check.compare(case.name, case.data, (case.status, case.out, case.err), answer(check, case.data))
         if case.status < 2:
             nodes = key_reference.nodes_of(json.loads(case.data))
-            check.compare(f"{case.name}, by the definition", case.data, (0, case.out, b""), by_definition(nodes, case.out))
+            if case.status == 0 or sum(node["op"] == "source" for node in nodes) <= MOST_SOURCES:
+                check.compare(f"{case.name}, by the definition", case.data, (0, case.out, b""), by_definition(nodes, case.out))
     return len(key_cases.all_cases())
 
 

@@ -137,6 +137,14 @@ def check_faults(check: ScaleCheck) -> int:
     return len(texts)
 
 
+def check_no_fields(check: ScaleCheck) -> None:
+    """Where a source has no fields its rows have no key, and are all in one part."""
+    nodes = [{**SOURCE, "fields": []}, {"name": "out", "op": "output", "from": ["s"]}]
+    files = {"plan.json": json.dumps({"version": 1, "nodes": nodes}).encode(), "s.csv": b"+,1,5,6\n+,2,0,9\n+,3,5,6\n-,2,1\n"}
+    expected = 0, b"0,1\n5,6\n5,6\n", b""
+    check.compare("a source without fields", files, expected, check.called(files, "scale", "plan.json", "3"))
+
+
 def check_example(check: ScaleCheck) -> None:
     """The example, as the page shows it, in several numbers of parts."""
     page = (ROOT / "docs/scale.md").read_text()
@@ -147,9 +155,9 @@ def check_example(check: ScaleCheck) -> None:
         shown = f"\n```{'json' if text.startswith(b'{') else 'text'}\n{text.decode()}```\n"
         check.compare("what docs/scale.md shows", files, (0, b"", b""), (0, b"" if shown in page else shown.encode(), b""))
     check.compare("the example as a whole", files, (0, files["answer.csv"], b""), check.called(files, "cedr", "run", "load.json"))
-    for parts in ("1", "2", "3", "6", "47"):
-        check.compare(f"the example in {parts} parts", files, (0, files["answer.csv"], b""),
-                      check.called(files, "scale", "load.json", parts))
+    for words in (["1"], ["2"], ["3"], ["6", "4"], ["47"]):
+        check.compare(f"the example, {' '.join(words)}", files, (0, files["answer.csv"], b""),
+                      check.called(files, "scale", "load.json", *words))
 
 
 def main() -> int:
@@ -164,6 +172,7 @@ def main() -> int:
         check_plans(check, PLANS, 0)
         faulty = check_plans(check, FAULTY_PLANS, ODD)
         refused = check_refusals(check) + check_faults(check)
+        check_no_fields(check)
         check_example(check)
         left = [one.name for one in Path(folder).iterdir() if one.name != "bin"]
         check.compare("what is left behind", {}, (0, b"", b""), (0, repr(left).encode() if left else b"", b""))

@@ -4,7 +4,8 @@ unless said otherwise, with 1, 2 and 4 of them at a time, and prints tables of w
 
 The events are those of `bench/whole/events.py`, of 1,000 machines. The plan asks which events of the first source aren't followed by one
 of the second of their machine within 1,000. Before, sources that one process still reads, 60 MiB each at most, are answered whole and
-in parts: the same bytes, or the status is 1. Status 2: a program isn't there. The files are made under $TMPDIR, some four times MIB.
+in parts: the same bytes, or the status is 1, as it is where an answer isn't the sum of those of the parts. Status 2: a program isn't
+there. The files are made under $TMPDIR, some four times MIB.
 
 usage: bench/scale/scale.py [CEDR [CEDR_KEYS [MIB [PARTS]]]]
 """
@@ -87,6 +88,14 @@ def divided(scale, sources: list, parts: int, jobs: int, folder: str) -> None:
         list(pool.map(scale.divide, [scale.Division(source, parts, folder) for source in sources]))
 
 
+def see_that_it_is_the_sum(parts: int, folder: str) -> None:
+    """The whole answer has the rows of the parts' answers, each as often."""
+    insertions = " ".join(f"{folder}/{part}.csv" for part in range(parts))
+    both = f"cmp <(cut -d, -f3- {insertions} | LC_ALL=C sort) <(LC_ALL=C sort answer.csv)"
+    if subprocess.run(["bash", "-c", both], check=False).returncode:
+        sys.exit("the answer isn't the sum of those of the parts")
+
+
 def in_parts(scale, parts: int, jobs: int) -> str:
     """A line of the table, and what the parts were."""
     plan, sources, types = scale.read_plan("plan.json")
@@ -99,6 +108,7 @@ def in_parts(scale, parts: int, jobs: int) -> str:
         scale.see_that_all_answered(sources, parts, folder)
         answer = sum(os.path.getsize(f"{folder}/{part}.csv") for part in range(parts)) / MIB
         steps.append(timed(merged, scale, types, parts, folder))
+        see_that_it_is_the_sum(parts, folder)
     wall = " | ".join(f"{one:.1f}" for one in [*(step.wall for step in steps), sum(step.wall for step in steps)])
     print(f"| {jobs} | {wall} | {', '.join(f'{step.processor:.0f}' for step in steps)} |", flush=True)
     peak = resource.getrusage(resource.RUSAGE_CHILDREN).ru_maxrss / 1_000

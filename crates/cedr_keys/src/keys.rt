@@ -34,12 +34,7 @@ pub(crate) fn keys<F: Files, K: Sink, E: Sink>(
 }
 
 /// Writes the lines of the plan in a file.
-fn answer<F: Files, K: Sink>(
-    alloc: Global,
-    file: &[u8],
-    files: &mut F,
-    out: &mut K,
-) -> KeysOutcome
+fn answer<F: Files, K: Sink>(alloc: Global, file: &[u8], files: &mut F, out: &mut K) -> KeysOutcome
     requires files_count { F.faults files.old < last_count }
     requires out_counts { K.faults out.old < last_count }
     ensures from { KeysFrom (F.content files.old file.now) (K.written out.old) (K.written out.new) result }

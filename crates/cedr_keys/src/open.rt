@@ -32,11 +32,7 @@ pub(crate) fn open_plan<F: Files>(
 }
 
 /// The bytes of a file, or its first ones where these pass the limit of a plan.
-fn read_file<F: Files>(
-    alloc: Global,
-    name: &[u8],
-    files: &mut F,
-) -> Result<Vec<u8>, OutsideFault>
+fn read_file<F: Files>(alloc: Global, name: &[u8], files: &mut F) -> Result<Vec<u8>, OutsideFault>
     requires { F.faults files.old < last_count }
     ensures bytes { IfOk result (λ bytes. IfSome (F.content files.old name.now) (λ all. IsPlanFront all bytes.items)) }
     ensures counted { Counts result (F.faults files.old) (F.faults files.new) }

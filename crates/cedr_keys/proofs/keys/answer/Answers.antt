@@ -15,10 +15,10 @@ returns-in-Err-Unkeyed-clause-from g c =
     let out = g.K.Sink.written c.args.out.now in
     elim c.match-unkeyed_text.branch [
       | in-Ok-unkeyed_text w ↦
-        subst (λ (went : KeysOutcome). KeysFrom content out out went) (sym w.result-is) (
-          Keeps-refl out,
-          unkeyed_known content c.in-Ok.plan c.as_slice-nodes.result.now c.in-Err-Unkeyed.field-0 c.in-Err-Unkeyed.node c.index-nodes-node.result w.in-Ok-unkeyed_text.said.items c.in-Ok.ensures.opened c.as_slice-nodes.ensures.value c.in-Err-Unkeyed.field-0-is c.in-Err-Unkeyed.ensures.fault c.index-nodes-node.is w.in-Ok-unkeyed_text.ensures,
-        )
+          subst (λ (went : KeysOutcome). KeysFrom content out out went) (sym w.result-is) (
+            Keeps-refl out,
+            unkeyed_known content c.in-Ok.plan c.as_slice-nodes.result.now c.in-Err-Unkeyed.field-0 c.in-Err-Unkeyed.node c.index-nodes-node.result w.in-Ok-unkeyed_text.said.items c.in-Ok.ensures.opened c.as_slice-nodes.ensures.value c.in-Err-Unkeyed.field-0-is c.in-Err-Unkeyed.ensures.fault c.index-nodes-node.is w.in-Ok-unkeyed_text.ensures,
+          )
       | in-Err-unkeyed_text w ↦ subst (λ (went : KeysOutcome). KeysFrom content out out went) (sym w.result-is) (inl (Keeps-refl out))
     ]
 
