@@ -138,9 +138,9 @@ def tried(kit, crate, edits: list):
             alone += together or left
         left = [edit for edit in left if edit not in refused and edit not in alone]
     for edit in alone:
-        is_well, text = kit.must_fail(crate, str(edit), JOBS, kept)
+        came, text = kit.must_fail(crate, str(edit), JOBS, kept)
         print(f"{crate.name}: {edit.stem} isn't seen among others, so it was tried alone: {text.partition(': ')[2]}", flush=True)
-        wrong += [] if is_well else [edit]
+        wrong += [] if came in (kit.REFUSED, kit.AT_LIMIT) else [edit]
     if kit.checked(crate, {}, JOBS, kept).returncode:
         print(f"{crate.name} isn't proved without an edit, so this says nothing of its edits")
         wrong = edits
