@@ -9,7 +9,7 @@
 
 use crate::Subject;
 use crate::words::{bytes, payload, payloads, types};
-use crate::written::write_fields;
+use crate::written::write_payload;
 use anyhow::{Context, Result, bail};
 use cedr_base::{FieldType, Payload, Text};
 use cedr_expr::{Keep, Op, Operand, Test, Tests};
@@ -150,5 +150,5 @@ fn write_kept(
 ) -> Result<()> {
     let keep = Keep::new(columns(alloc, list)?, types(alloc, letters)?.as_slice())?;
     let payload = payload(alloc, words)?;
-    write_fields(rt, keep.copy(alloc)?.apply(alloc, &payload)?.fields())
+    write_payload(rt, alloc, &keep.copy(alloc)?.apply(alloc, &payload)?)
 }

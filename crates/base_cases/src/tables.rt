@@ -20,11 +20,11 @@ use std::collections::btree_map::Range;
 impl Subject for Table {
     fn answer(&mut self, rt: &impl Print, alloc: Global, words: &[&str]) -> Option<Result<()>> {
         match words {
-            ["rows"] => Some(write_table(rt, self)),
+            ["rows"] => Some(write_table(rt, alloc, self)),
             ["+", ..] => Some(apply(rt, alloc, self, words)),
             ["-", ..] => Some(apply(rt, alloc, self, words)),
             [question, begin, end, fields @ ..] => match row(alloc, begin, end, fields) {
-                Ok(row) => answer_about(rt, self, question, row),
+                Ok(row) => answer_about(rt, alloc, self, question, row),
                 Err(fault) => Some(Err(fault)),
             },
             _ => None,
@@ -32,9 +32,9 @@ impl Subject for Table {
     }
 }
 
-fn write_table(rt: &impl Print, table: &Table) -> Result<()> {
+fn write_table(rt: &impl Print, alloc: Global, table: &Table) -> Result<()> {
     print!(rt; " {}:", table.len())?;
-    write_rows(rt, table.canonical()?.as_slice())
+    write_rows(rt, alloc, table.canonical()?.as_slice())
 }
 
 fn apply(rt: &impl Print, alloc: Global, table: &mut Table, words: &[&str]) -> Result<()> {
@@ -46,6 +46,7 @@ fn apply(rt: &impl Print, alloc: Global, table: &mut Table, words: &[&str]) -> R
 /// Answers a question about a row.
 fn answer_about(
     rt: &impl Print,
+    alloc: Global,
     table: &mut Table,
     question: &str,
     row: Row,
@@ -53,8 +54,8 @@ fn answer_about(
     match question {
         "count" => Some(write_count(rt, table.count(&row))),
         "take" => Some(take(rt, table, &row)),
-        "from" => Some(write_range(rt, table.range(row..))),
-        "below" => Some(write_range(rt, table.range(..row))),
+        "from" => Some(write_range(rt, alloc, table.range(row..))),
+        "below" => Some(write_range(rt, alloc, table.range(..row))),
         _ => None,
     }
 }
@@ -76,10 +77,10 @@ fn take(rt: &impl Print, table: &mut Table, row: &Row) -> Result<()> {
     Ok(())
 }
 
-fn write_range(rt: &impl Print, range: Range<'_, Row, usize>) -> Result<()> {
+fn write_range(rt: &impl Print, alloc: Global, range: Range<'_, Row, usize>) -> Result<()> {
     for (row, count) in range {
         print!(rt; " {count}")?;
-        write_row(rt, row)?;
+        write_row(rt, alloc, row)?;
     }
     Ok(())
 }

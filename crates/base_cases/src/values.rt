@@ -3,13 +3,14 @@
 //! - `later TIME BY`: the time that is so much later, as a number.
 //! - `order FIELD.. : FIELD.. : ..`: a copy of each payload in turn, compared with all of them.
 //! - `join FIELD.. : FIELD..`: the fields of the one payload and then those of the other.
+//! - `code FIELD.. : ..`: the code of each payload, two hexadecimal digits a byte.
 //! - `sort BEGIN END FIELD.. : ..`: rows in canonical order.
 //! - `message MESSAGE`: the message's copy, and of a change from when on it is seen. A message is `+ BEGIN END FIELD..`,
 //!   `- BEGIN END TO FIELD..`, `mark TIME`, `end` or `broken`.
 
 use crate::Subject;
 use crate::words::{change, payloads, row, time};
-use crate::written::{At, write_fields, write_row, write_rows};
+use crate::written::{At, write_payload, write_row, write_rows};
 use anyhow::{Result, bail};
 use cedr_base::{Change, FOREVER, Message, Payload, later, sort_rows};
 use std::alloc::Global;
@@ -27,6 +28,7 @@ impl Subject for Values {
             ["later", time, by] => Some(write_later(rt, time, by)),
             ["order", payloads @ ..] => Some(write_order(rt, alloc, payloads)),
             ["join", payloads @ ..] => Some(write_joined(rt, alloc, payloads)),
+            ["code", payloads @ ..] => Some(write_codes(rt, alloc, payloads)),
             ["sort", rows @ ..] => Some(write_sorted(rt, alloc, rows)),
             ["message", message @ ..] => Some(write_copy(rt, alloc, message)),
             _ => None,
@@ -72,7 +74,17 @@ fn write_joined(rt: &impl Print, alloc: Global, words: &[&str]) -> Result<()> {
     let [left, right] = payloads.as_slice() else {
         bail!("not two payloads");
     };
-    write_fields(rt, left.joined(alloc, right)?.fields())
+    write_payload(rt, alloc, &left.joined(alloc, right)?)
+}
+
+fn write_codes(rt: &impl Print, alloc: Global, words: &[&str]) -> Result<()> {
+    for payload in &payloads(alloc, words)? {
+        print!(rt; " ")?;
+        for byte in payload.code() {
+            print!(rt; "{byte:02x}")?;
+        }
+    }
+    Ok(())
 }
 
 fn write_sorted(rt: &impl Print, alloc: Global, words: &[&str]) -> Result<()> {
@@ -84,7 +96,7 @@ fn write_sorted(rt: &impl Print, alloc: Global, words: &[&str]) -> Result<()> {
         rows.push(row(alloc, begin, end, fields)?)?;
     }
     sort_rows(&mut rows)?;
-    write_rows(rt, rows.as_slice())
+    write_rows(rt, alloc, rows.as_slice())
 }
 
 fn message(alloc: Global, words: &[&str]) -> Result<Message> {
@@ -98,7 +110,7 @@ fn message(alloc: Global, words: &[&str]) -> Result<Message> {
 
 fn write_copy(rt: &impl Print, alloc: Global, words: &[&str]) -> Result<()> {
     match message(alloc, words)?.copy(alloc)? {
-        Message::Change(change) => write_change(rt, &change)?,
+        Message::Change(change) => write_change(rt, alloc, &change)?,
         Message::Mark(time) => print!(rt; " mark {}", At(time))?,
         Message::End => print!(rt; " end")?,
         Message::Broken => print!(rt; " broken")?,
@@ -106,12 +118,12 @@ fn write_copy(rt: &impl Print, alloc: Global, words: &[&str]) -> Result<()> {
     Ok(())
 }
 
-fn write_change(rt: &impl Print, change: &Change) -> Result<()> {
+fn write_change(rt: &impl Print, alloc: Global, change: &Change) -> Result<()> {
     match change {
         Change::Add(_) => print!(rt; " +")?,
         Change::Cut(_, end) => print!(rt; " - to {} of", At(*end))?,
     }
-    write_row(rt, change.row())?;
+    write_row(rt, alloc, change.row())?;
     print!(rt; ", seen from {}", At(change.sync()))?;
     Ok(())
 }

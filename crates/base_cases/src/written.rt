@@ -1,8 +1,9 @@
 //! Writes values, each after a blank.
 
 use anyhow::Result;
-use cedr_base::{FOREVER, Field, Row, Time};
+use cedr_base::{FOREVER, Field, FieldRef, Payload, Row, Time};
 use percent_encoding::{CONTROLS, PercentEncode, percent_encode};
+use std::alloc::Global;
 use std::fmt;
 
 /// A time as it is read.
@@ -23,27 +24,33 @@ pub(crate) fn encoded(bytes: &[u8]) -> PercentEncode<'_> {
     percent_encode(bytes, CONTROLS.add(b' ').add(b'%'))
 }
 
-/// Writes fields, texts in quotes.
-pub(crate) fn write_fields(rt: &impl Print, fields: &[Field]) -> Result<()> {
-    for field in fields {
-        match field {
-            Field::Number(number) => print!(rt; " {number}")?,
-            Field::Bytes(text) => print!(rt; " '{}'", encoded(text.bytes()))?,
-        }
+/// Writes a field, a text in quotes.
+fn write_field(rt: &impl Print, alloc: Global, field: &FieldRef<'_>) -> Result<()> {
+    let field = field.to_field(alloc)?;
+    match &field {
+        Field::Number(number) => print!(rt; " {number}")?,
+        Field::Bytes(text) => print!(rt; " '{}'", encoded(text.bytes()))?,
     }
     Ok(())
 }
 
-pub(crate) fn write_row(rt: &impl Print, row: &Row) -> Result<()> {
+pub(crate) fn write_payload(rt: &impl Print, alloc: Global, payload: &Payload) -> Result<()> {
+    for field in payload.fields() {
+        write_field(rt, alloc, &field)?;
+    }
+    Ok(())
+}
+
+pub(crate) fn write_row(rt: &impl Print, alloc: Global, row: &Row) -> Result<()> {
     print!(rt; " ({} {}", At(row.begin), At(row.end))?;
-    write_fields(rt, row.payload.fields())?;
+    write_payload(rt, alloc, &row.payload)?;
     print!(rt; ")")?;
     Ok(())
 }
 
-pub(crate) fn write_rows(rt: &impl Print, rows: &[Row]) -> Result<()> {
+pub(crate) fn write_rows(rt: &impl Print, alloc: Global, rows: &[Row]) -> Result<()> {
     for row in rows {
-        write_row(rt, row)?;
+        write_row(rt, alloc, row)?;
     }
     Ok(())
 }

@@ -122,10 +122,11 @@ impl Aligner {
     }
 
     /// Takes a message that may come after those before it, where it goes through: it is then all that is passed on.
-    /// Says whether it did, and where it didn't the aligner stays as it is. A change goes through where it isn't
-    /// forgotten, no row waits, and its own needn't; a mark where no row waits; and no other message does. Where memory
-    /// runs out the aligner is only to be dropped. O(1) where the memory has no limit, and else O(log n) in the rows that
-    /// are remembered, for the message and for each that is forgotten.
+    /// Says whether it did, and where it didn't the aligner stays as it is. `take` does the same with it, and for all
+    /// messages: this is the short way for a change that isn't forgotten, while no row waits and its own needn't, and for
+    /// a mark while no row waits. No clause says when it is taken. Where memory runs out the aligner is only to be
+    /// dropped. O(1) where the memory has no limit, and else O(log n) in the rows that are remembered, for the message and
+    /// for each that is forgotten.
     pub fn take_through(&mut self, alloc: Global, message: &Message) -> Result<bool, OutOfMemory>
         ensures through { IfOk result (λ went. went ≡ true → (ms : List Message) → Aligns self.old ms → MayCome ms message.now → IsTaken self.old self.new ms message.now [] (message.now ∷ []) fate.Kept) }
         ensures held { IfOk result (λ went. went ≡ true → (ms : List Message) → Aligns self.old ms → MayCome ms message.now → OnlyKeeps self.new (ms ++ message.now ∷ [])) }
@@ -204,31 +205,11 @@ impl Aligner {
         }
     }
 
-    /// Takes a message, and hands it on itself where it goes through. Where memory runs out some of what it passes on may
-    /// stand there.
-    fn take_either(
-        &mut self,
-        alloc: Global,
-        message: Message,
-        out: &mut Vec<Message>,
-    ) -> Result<Fate, OutOfMemory>
-        ensures taken { IfOk result (λ fate. (ms : List Message) → Aligns self.old ms → MayCome ms message → IsTaken self.old self.new ms message out.old.items out.new.items fate) }
-        ensures level { self.new.level ≡ self.old.level }
-        ensures kept { take (length out.old.items) out.new.items ≡ out.old.items }
-    {
-        if self.take_through(alloc, &message)? {
-            out.push(message)?;
-            return Ok(Fate::Kept);
-        }
-        self.take_message(alloc, message, out)
-    }
-
     /// Takes a message that may come after those before it, and appends what it passes on: a retraction of a row
     /// that passed, the rows that needn't wait any longer in canonical order, the front where it rose, and the end. A
     /// break passes on itself alone. Where memory runs out nothing is appended, and the aligner is only to be dropped.
     /// O(log n) in the rows that wait and those that are remembered, for the message and for each row that passes or is
-    /// forgotten; O(1) for a change that needn't wait, where no row does and the memory has no limit. A row that passes
-    /// is moved, and copied only where it must be remembered.
+    /// forgotten. A row that passes is moved, and copied only where it must be remembered.
     pub fn take(
         &mut self,
         alloc: Global,
@@ -241,7 +222,7 @@ impl Aligner {
         ensures err { OnErr result (out.new.items ≡ out.old.items) }
     {
         let before = out.len();
-        let result = self.take_either(alloc, message, out);
+        let result = self.take_message(alloc, message, out);
         if result.is_err() {
             out.truncate(before);
         }

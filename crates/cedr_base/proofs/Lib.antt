@@ -1,3 +1,7 @@
 pub mod RowLemmas
 pub mod Bags
 pub mod Sorting
+pub mod FieldBytes
+pub mod FieldReading
+pub mod StoredLemmas
+pub mod FieldLemmas

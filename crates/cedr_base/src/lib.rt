@@ -5,17 +5,28 @@
 #![tactic(auto)]
 
 mod change;
+mod code_buffer;
+mod code_bytes;
+mod code_law;
 mod field;
+mod field_code;
+mod field_ref;
+mod field_refs;
 mod interval;
 mod level;
 mod memory;
 mod payload;
 mod row;
 mod text;
+mod text_code;
 mod time;
+mod writer;
 
 pub use change::{BadCut, Change, Message};
+pub use code_law::payload_codes;
 pub use field::{Field, FieldType};
+pub use field_ref::FieldRef;
+pub use field_refs::FieldRefs;
 pub use interval::Interval;
 pub use level::Level;
 pub use memory::OutOfMemory;
@@ -23,3 +34,4 @@ pub use payload::Payload;
 pub use row::{Row, RowFault, canonical_order, sort_rows};
 pub use text::Text;
 pub use time::{FOREVER, Time, finite_times, later};
+pub use writer::PayloadWriter;

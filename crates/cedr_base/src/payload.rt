@@ -1,28 +1,37 @@
-ghost use Rattle.std.specs.Prelude.{◌≡◌, IfOk, OnOk, OnErr, ◌++◌, ◌∷◌, []};
+ghost use Rattle.std.specs.Prelude.{◌≡◌, IfOk, OnOk, OnErr, ◌++◌, ◌∷◌, [], List, length};
+ghost use Rattle.std.specs.List.{slice_get};
+ghost use Rattle.cedr_base.specs.declared.field.Field.{Field as AnyField};
+ghost use Rattle.cedr_base.specs.Stored.{StoresFields};
+ghost use Rattle.cedr_base.specs.StoredLaws.{stored_fields};
+ghost use Rattle.cedr_base.specs.FieldCodes.{payload_code, FitFields};
 
+use crate::code_buffer::CodeBuffer;
+use crate::code_bytes::CodeBytes;
 use crate::field::Field;
+use crate::field_ref::FieldRef;
+use crate::field_refs::FieldRefs;
 use crate::memory::OutOfMemory;
+use crate::writer::{PayloadWriter, together};
 use std::alloc::Global;
 use std::cmp::Ordering;
 use std::marker::Model;
-use std::sync::Arc;
 
 /// An event's values, one per column. Contracts see the list of its fields.
 ///
 /// Payloads compare field by field, and a prefix comes first. A copy shares the memory of its source.
 pub struct Payload {
     alloc: Global,
-    shared: Option<Arc<Vec<Field>>>,
+    bytes: CodeBytes,
+    ghost held: { (fields : List AnyField) × StoresFields bytes fields } by { stored_fields bytes },
 }
 
 impl Model for Payload {
     ghost use Rattle.std.specs.Prelude.{List};
     ghost use Rattle.cedr_base.specs.declared.field.Field.{Field};
-    ghost use Rattle.cedr_base.specs.Shared.{shared_items};
 
     ghost Value = { List Field };
 
-    ghost view = { λ p. shared_items p.shared };
+    ghost view = { λ p. p.held.0 };
 }
 
 impl Payload {
@@ -30,98 +39,105 @@ impl Payload {
     pub fn new(alloc: Global) -> Payload
         ensures { result ≡ [] }
     {
-        Payload {
-            alloc,
-            shared: None,
-        }
+        let bytes = CodeBytes::Short {
+            bytes: [0; 29],
+            len: 0,
+            width: 0,
+        };
+        Payload { alloc, bytes }
     }
 
-    /// A payload of these fields, which are moved. O(1).
+    /// The fields whose code is stored so.
+    pub(crate) fn stored(alloc: Global, bytes: CodeBytes) -> Payload
+        requires { (fields : List AnyField) × StoresFields bytes fields }
+        ensures { (fields : List AnyField) → StoresFields bytes fields → result ≡ fields }
+    {
+        Payload { alloc, bytes }
+    }
+
+    /// A payload of these fields. O(n) in what they hold. A [`PayloadWriter`] makes one without them.
     pub fn from_fields(alloc: Global, fields: Vec<Field>) -> Result<Payload, OutOfMemory>
         ensures { IfOk result (λ p. p ≡ fields.items) }
     {
-        let shared = Arc::new(alloc, fields)?;
-        Ok(Payload {
-            alloc,
-            shared: Some(shared),
-        })
+        let mut writer = PayloadWriter::new(alloc);
+        for field in &fields {
+            writer = writer.with_field(field)?;
+        }
+        writer.finish()
     }
 
-    /// Adds a field at the end. A field that finds no room is dropped. It copies the other fields: to make a payload of
-    /// several, gather them and use [`Payload::from_fields`].
+    /// Adds a field at the end. It copies the other fields: to make a payload of several, use a [`PayloadWriter`]. Where
+    /// memory runs out it is as before.
     pub fn push(&mut self, field: Field) -> Result<(), OutOfMemory>
         ensures ok { OnOk result (self.new ≡ self.old ++ field ∷ []) }
         ensures err { OnErr result (self.new ≡ self.old) }
     {
-        let mut all = Vec::with_capacity(self.alloc, self.fields().len() + 1)?;
-        push_copies(self.alloc, &mut all, self.fields())?;
-        all.push(field)?;
-        *self = Payload::from_fields(self.alloc, all)?;
+        *self = extended(self, &field)?;
         Ok(())
     }
 
-    pub fn fields(&self) -> &[Field]
-        ensures { result.now ≡ self.now }
+    /// How many fields it has. O(1).
+    pub fn len(&self) -> usize
+        ensures { result ≡ length self.now }
     {
-        match &self.shared {
-            None => &[],
-            Some(shared) => shared.as_slice(),
-        }
+        self.bytes.width()
     }
 
-    /// Appends copies of the fields. Where memory runs out a part may stand there. O(n) in what they hold.
-    pub fn copy_fields(&self, alloc: Global, all: &mut Vec<Field>) -> Result<(), OutOfMemory>
-        ensures { OnOk result (all.new.items ≡ all.old.items ++ self.now) }
+    /// The code of its fields, by which it compares. O(1).
+    pub fn code(&self) -> &[u8]
+        ensures code { result.now ≡ payload_code self.now }
+        ensures fits { FitFields self.now }
     {
-        push_copies(alloc, all, self.fields())
+        self.bytes.bytes()
+    }
+
+    /// Its fields, in their order. O(1).
+    pub fn fields(&self) -> FieldRefs<'_>
+        ensures { result ≡ self.now }
+    {
+        FieldRefs::new(self.code())
+    }
+
+    /// The field in a column, where there is one. O(n) in the fields before it. For several columns go over `fields`.
+    pub fn field(&self, column: usize) -> Option<FieldRef<'_>>
+        ensures { result ≡ slice_get self.now column }
+    {
+        self.fields().find_at(column)
     }
 
     /// The fields of this payload, and then those of the other. O(n) in what they hold.
     pub fn joined(&self, alloc: Global, other: &Payload) -> Result<Payload, OutOfMemory>
         ensures { IfOk result (λ p. p ≡ self.now ++ other.now) }
     {
-        let mut all = Vec::with_capacity(alloc, self.fields().len() + other.fields().len())?;
-        self.copy_fields(alloc, &mut all)?;
-        other.copy_fields(alloc, &mut all)?;
-        Payload::from_fields(alloc, all)
+        let width = together(self.len(), other.len())?;
+        let code = CodeBuffer::of_two(alloc, self.code(), other.code())?;
+        let bytes = code.finish(width)?;
+        Ok(Payload::stored(alloc, bytes))
     }
 
     /// A payload that shares the memory of this one. It takes none itself. O(1).
     pub fn copy(&self, alloc: Global) -> Result<Payload, OutOfMemory>
         ensures { IfOk result (λ p. p ≡ self.now) }
     {
-        match &self.shared {
-            None => Ok(Payload::new(alloc)),
-            Some(shared) => {
-                let shared = Arc::try_clone(shared)?;
-                Ok(Payload {
-                    alloc,
-                    shared: Some(shared),
-                })
-            }
-        }
+        let bytes = self.bytes.copy()?;
+        Ok(Payload::stored(alloc, bytes))
     }
+}
+
+/// The fields of a payload, and one more.
+fn extended(payload: &Payload, field: &Field) -> Result<Payload, OutOfMemory>
+    ensures { IfOk result (λ p. p ≡ payload.now ++ field.now ∷ []) }
+{
+    let writer = PayloadWriter::new(payload.alloc).with_all(payload)?;
+    writer.with_field(field)?.finish()
 }
 
 // By hand, as for each type that other crates hold in vectors, maps, options or boxes: a derived drop is proved anew in
 // each of those crates, and one by hand is called. The pattern names every field, by which the fields are dropped.
 impl Drop for Payload {
     fn drop(self) {
-        let Payload {
-            alloc: _,
-            shared: _,
-        } = self;
+        let Payload { alloc: _, bytes: _ } = self;
     }
-}
-
-fn push_copies(alloc: Global, all: &mut Vec<Field>, fields: &[Field]) -> Result<(), OutOfMemory>
-    ensures { OnOk result (all.new.items ≡ all.old.items ++ fields.now) }
-{
-    for field in fields {
-        let copied = field.copy(alloc)?;
-        all.push(copied)?;
-    }
-    Ok(())
 }
 
 impl PartialEq for Payload {
@@ -176,6 +192,6 @@ impl Ord for Payload {
     ghost matches_eq = { Prim.search (comparing, rules) };
 
     fn cmp(&self, other: &Payload) -> Ordering {
-        self.fields().cmp(&other.fields())
+        self.code().cmp(&other.code())
     }
 }

@@ -1,7 +1,7 @@
 -- Tags: numbers that are the same for a left and a right payload that pass tests together.
-use Rattle.std.specs.Prelude.{ℕ, ◌+◌, ◌*◌, ◌/◌, ◌%◌, List, [], ◌∷◌, length, unsigned_abs, nat_eq, if◌then◌else◌}
+use Rattle.std.specs.Prelude.{ℕ, ◌+◌, ◌*◌, ◌/◌, ◌%◌, List, [], ◌∷◌, length, nat_eq, if◌then◌else◌}
 use Rattle.cedr_base.specs.declared.field.Field.{Field}
-use Rattle.cedr_base.specs.declared.field.Field.TheVariants.{Number, Bytes}
+use Rattle.cedr_base.specs.FieldCodes.{field_code}
 use Rattle.cedr_expr.specs.declared.side.Side.{Side}
 use Rattle.cedr_expr.specs.declared.side.Side.TheVariants.{Left, Right}
 use Rattle.cedr_expr.specs.declared.test.Test.{Test}
@@ -16,10 +16,9 @@ abbrev pub all_mixed : ℕ → List ℕ → ℕ
 all_mixed h [] = h
 all_mixed h (n ∷ ns) = all_mixed (mixed h n) ns
 
--- a number into which a field is mixed
+-- a number into which a field is mixed: the bytes of its code, of which the last one is multiplied once more
 abbrev pub field_mixed : ℕ → Field → ℕ
-field_mixed h (Number n) = mixed h (unsigned_abs n % 2305843009213693952)
-field_mixed h (Bytes t) = all_mixed (mixed h (length t)) t
+field_mixed h f = mixed (all_mixed h (field_code f)) 0
 
 -- a number into which fields are mixed, one after the other
 abbrev pub fields_mixed : ℕ → List Field → ℕ

@@ -1,5 +1,5 @@
 -- When a pair of payloads passes tests.
-use Rattle.std.specs.Prelude.{Bool, false, List, Option, Some}
+use Rattle.std.specs.Prelude.{ℕ, ◌+◌, Bool, true, false, not, ◌&&◌, ◌||◌, nat_lt, List, length, Option, Some}
 use Rattle.std.specs.List.{list_all}
 use Rattle.std.specs.declared.cmp.Ordering.{Ordering}
 use Rattle.std.specs.Ordering.{is_eq, is_ne, is_lt, is_le, is_gt, is_ge, int_cmp}
@@ -46,3 +46,17 @@ test_holds test left right = both_pass test.op (column left right test.left) (op
 -- every test holds
 abbrev pub passes : List Test → List Field → List Field → Bool
 passes tests left right = list_all (λ test. test_holds test left right) tests
+
+-- the right side of a test is one of the first columns, of which there are so many, or a constant
+abbrev pub operand_within : ℕ → Operand → Bool
+operand_within columns (operand.Column place) = nat_lt place columns
+operand_within columns (operand.Number n) = true
+operand_within columns (operand.Bytes text) = true
+
+-- so are both sides of a test
+abbrev pub is_within : ℕ → Test → Bool
+is_within columns test = nat_lt test.left columns && operand_within columns test.right
+
+-- every test holds whose columns the two payloads have: more columns may come after them
+abbrev pub may_pass : List Test → List Field → List Field → Bool
+may_pass tests left right = list_all (λ test. not (is_within (length left + length right) test) || test_holds test left right) tests

@@ -1,5 +1,5 @@
 -- Which fields of a left and of a right payload tests want equal.
-use Rattle.std.specs.Prelude.{ℕ, List, [], ◌∷◌, Option, Some, None, nat_lt, nat_le, ◌-◌, ◌&&◌, if◌then◌else◌}
+use Rattle.std.specs.Prelude.{ℕ, List, Option, Some, None, nat_lt, nat_le, ◌-◌, ◌&&◌, if◌then◌else◌}
 use Rattle.std.specs.Option.{option_and_then}
 use Rattle.std.specs.List.{slice_get, filter_map}
 use Rattle.cedr_base.specs.declared.field.Field.{Field}

@@ -1,10 +1,10 @@
-ghost use Rattle.std.specs.Prelude.{◌≡◌, [], ◌∷◌, ◌++◌, IfOk, OnOk};
+ghost use Rattle.std.specs.Prelude.{◌≡◌, [], ◌∷◌, ◌++◌, IfOk};
 ghost use Rattle.std.specs.Result.{result_err};
 ghost use Rattle.cedr_expr.specs.Columns.{kept_columns};
 ghost use Rattle.cedr_expr.specs.Types.{first_past_end, keep_fault_of};
 
 use crate::fault::TypeFault;
-use cedr_base::{Field, FieldType, OutOfMemory, Payload};
+use cedr_base::{FieldType, OutOfMemory, Payload, PayloadWriter};
 use std::alloc::Global;
 use std::marker::Model;
 
@@ -52,12 +52,11 @@ impl Keep {
     pub fn apply(&self, alloc: Global, payload: &Payload) -> Result<Payload, OutOfMemory>
         ensures { IfOk result (λ fields. fields ≡ kept_columns self.now payload.now) }
     {
-        let fields = payload.fields();
-        let mut chosen = Vec::with_capacity(alloc, self.columns.len())?;
+        let mut chosen = PayloadWriter::new(alloc);
         for column in &self.columns {
-            push_column(alloc, &mut chosen, fields, *column)?;
+            chosen = with_column(chosen, payload, *column)?;
         }
-        Payload::from_fields(alloc, chosen)
+        chosen.finish()
     }
 
     pub fn copy(&self, alloc: Global) -> Result<Keep, OutOfMemory>
@@ -68,20 +67,18 @@ impl Keep {
     }
 }
 
-/// Adds a copy of the field at the column, where there is one.
-fn push_column(
-    alloc: Global,
-    chosen: &mut Vec<Field>,
-    fields: &[Field],
+/// With a copy of the field at the column, where there is one.
+fn with_column(
+    chosen: PayloadWriter,
+    payload: &Payload,
     column: usize,
-) -> Result<(), OutOfMemory>
-    ensures { OnOk result (chosen.new.items ≡ chosen.old.items ++ kept_columns (column ∷ []) fields.now) }
+) -> Result<PayloadWriter, OutOfMemory>
+    ensures { IfOk result (λ w. w ≡ chosen ++ kept_columns (column ∷ []) payload.now) }
 {
-    if let Some(field) = fields.get(column) {
-        let copied = field.copy(alloc)?;
-        chosen.push(copied)?;
+    match payload.field(column) {
+        Some(field) => chosen.with_copy(&field),
+        None => Ok(chosen),
     }
-    Ok(())
 }
 
 fn find_past_end(columns: &[usize], types: &[FieldType]) -> Option<usize>

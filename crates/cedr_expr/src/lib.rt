@@ -19,7 +19,7 @@ mod tie;
 
 pub use fault::TypeFault;
 pub use keep::Keep;
-pub use law::types_law;
+pub use law::{columns_law, types_law};
 pub use side::Side;
 pub use tag::field_tag;
 pub use test::{Op, Operand, Test};

@@ -1,9 +1,9 @@
-ghost use Rattle.std.specs.Prelude.{◌≡◌, IfOk};
+ghost use Rattle.std.specs.Prelude.{◌≡◌, ◌+◌, ◌||◌, not, nat_lt, length, IfOk};
 ghost use Rattle.cedr_base.specs.declared.field.Field.TheVariants.{Number, Bytes};
-ghost use Rattle.cedr_expr.specs.Tests.{accepts, compares, test_holds};
+ghost use Rattle.cedr_expr.specs.Tests.{accepts, compares, operand_within, is_within, test_holds};
 
-use crate::column::item_at;
-use cedr_base::{Field, OutOfMemory, Text};
+use crate::column::field_at;
+use cedr_base::{FieldRef, OutOfMemory, Payload, Text};
 use std::alloc::Global;
 use std::cmp::Ordering;
 
@@ -72,6 +72,15 @@ impl Operand {
             }
         }
     }
+
+    fn is_within(&self, left: usize, right: usize) -> bool
+        ensures { result ≡ operand_within (left + right) self.now }
+    {
+        match self {
+            Operand::Column(place) => is_column(*place, left, right),
+            Operand::Number(_) | Operand::Bytes(_) => true,
+        }
+    }
 }
 
 impl Test {
@@ -86,39 +95,62 @@ impl Test {
         })
     }
 
-    /// Whether the test holds for these fields. It takes no memory.
-    pub(crate) fn holds(&self, left: &[Field], right: &[Field]) -> bool
+    /// Whether the test holds for these payloads. It takes no memory.
+    pub(crate) fn holds(&self, left: &Payload, right: &Payload) -> bool
         ensures { result ≡ test_holds self.now left.now right.now }
     {
-        let Some(field) = item_at(left, right, self.left) else {
+        let Some(field) = field_at(left, right, self.left) else {
             return false;
         };
         match &self.right {
-            Operand::Column(place) => match item_at(left, right, *place) {
-                Some(Field::Number(number)) => number_passes(field, self.op, *number),
-                Some(Field::Bytes(text)) => text_passes(field, self.op, text),
+            Operand::Column(place) => match field_at(left, right, *place) {
+                Some(other) => field_passes(&field, self.op, &other),
                 None => false,
             },
-            Operand::Number(number) => number_passes(field, self.op, i128::from(*number)),
-            Operand::Bytes(text) => text_passes(field, self.op, text),
+            Operand::Number(number) => number_passes(&field, self.op, i128::from(*number)),
+            Operand::Bytes(text) => text_passes(&field, self.op, text),
         }
     }
+
+    /// Whether both sides are columns of payloads of so many fields, or constants.
+    fn is_within(&self, left: usize, right: usize) -> bool
+        ensures { result ≡ is_within (left + right) self.now }
+    {
+        is_column(self.left, left, right) && self.right.is_within(left, right)
+    }
+
+    /// Whether the test holds for these fields, or has a column that comes after them. It takes no memory.
+    pub(crate) fn may_hold(&self, left: &Payload, right: &Payload) -> bool
+        ensures { result ≡ (not (is_within (length left.now + length right.now) self.now) || test_holds self.now left.now right.now) }
+    {
+        !self.is_within(left.len(), right.len()) || self.holds(left, right)
+    }
 }
 
-fn number_passes(field: &Field, op: Op, other: i128) -> bool
+/// Whether a column is one of payloads of so many fields, whose number may be over what a `usize` holds.
+fn is_column(place: usize, left: usize, right: usize) -> bool
+    ensures { result ≡ nat_lt place (left + right) }
+{
+    place < left || place - left < right
+}
+
+#[tactic(auto, using(crate::proofs::CompareLemmas::compares_as))]
+fn field_passes(field: &FieldRef<'_>, op: Op, other: &FieldRef<'_>) -> bool
+    ensures { result ≡ compares field.now op other.now }
+{
+    field.is_number() == other.is_number() && op.accepts(field.cmp(other))
+}
+
+#[tactic(auto, using(crate::proofs::CompareLemmas::compares_as))]
+fn number_passes(field: &FieldRef<'_>, op: Op, other: i128) -> bool
     ensures { result ≡ compares field.now op (Number other) }
 {
-    match field {
-        Field::Number(number) => op.accepts(number.cmp(&other)),
-        Field::Bytes(_) => false,
-    }
+    field.is_number() && op.accepts(field.compare_number(other))
 }
 
-fn text_passes(field: &Field, op: Op, other: &Text) -> bool
+#[tactic(auto, using(crate::proofs::CompareLemmas::compares_as))]
+fn text_passes(field: &FieldRef<'_>, op: Op, other: &Text) -> bool
     ensures { result ≡ compares field.now op (Bytes other.now) }
 {
-    match field {
-        Field::Number(_) => false,
-        Field::Bytes(text) => op.accepts(text.cmp(other)),
-    }
+    !field.is_number() && op.accepts(field.compare_text(other.bytes()))
 }

@@ -1,7 +1,7 @@
 ghost use Rattle.std.specs.Prelude.{◌≡◌, IfOk};
 ghost use Rattle.std.specs.Result.{result_err};
 ghost use Rattle.cedr_expr.specs.Tags.{side_tag, tag_of};
-ghost use Rattle.cedr_expr.specs.Tests.{passes};
+ghost use Rattle.cedr_expr.specs.Tests.{passes, may_pass};
 ghost use Rattle.cedr_expr.specs.Types.{sides_of, has_two_types, first_bad_column, first_differing, type_fault_of};
 
 use crate::column::item_at;
@@ -54,13 +54,19 @@ impl Tests {
     }
 
     /// Whether the payloads pass every test. A test whose column isn't there, or whose sides differ in type,
-    /// doesn't hold. It takes no memory, and O(1) for each test but the comparison of texts.
+    /// doesn't hold. It takes no memory, and for each test O(n) in the fields before its columns and in its texts.
     pub fn holds(&self, left: &Payload, right: &Payload) -> bool
         ensures { result ≡ passes self.now left.now right.now }
     {
-        let left = left.fields();
-        let right = right.fields();
         self.tests.iter().all(|test| test.holds(left, right))
+    }
+
+    /// Whether the payloads pass every test whose columns they have. Where they don't, they fail whatever columns come after
+    /// them. It takes no memory, and what `holds` costs.
+    pub fn may_hold(&self, left: &Payload, right: &Payload) -> bool
+        ensures { result ≡ may_pass self.now left.now right.now }
+    {
+        self.tests.iter().all(|test| test.may_hold(left, right))
     }
 
     /// A number from 1 to 2^62 that is the same for a left payload of this many fields and a right payload where they
@@ -69,7 +75,7 @@ impl Tests {
     pub fn tag(&self, side: Side, width: usize, payload: &Payload) -> u64
         ensures { result ≡ tag_of side width self.now payload.now }
     {
-        tag_by(self.as_slice(), side, width, payload.fields())
+        tag_by(self.as_slice(), side, width, payload)
     }
 
     /// The tag of a payload beside left payloads of this many fields: 0 for a left payload of another number of them.
@@ -79,7 +85,7 @@ impl Tests {
     {
         match side {
             Side::Left => {
-                if payload.fields().len() == width {
+                if payload.len() == width {
                     self.tag(Side::Left, width, payload)
                 } else {
                     0

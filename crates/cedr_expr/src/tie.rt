@@ -1,10 +1,9 @@
 ghost use Rattle.std.specs.Prelude.{◌≡◌};
-ghost use Rattle.std.specs.Option.{option_copied};
 ghost use Rattle.cedr_expr.specs.Ties.{split, places, tied_field};
 
 use crate::side::Side;
 use crate::test::{Op, Operand, Test};
-use cedr_base::Field;
+use cedr_base::{FieldRef, Payload};
 
 /// The places in a left and in a right payload of two columns on different sides.
 fn split(width: usize, one: usize, other: usize) -> Option<(usize, usize)>
@@ -30,18 +29,19 @@ fn places(width: usize, test: &Test) -> Option<(usize, usize)>
 }
 
 /// The field of one side's payload that a test wants equal to a field of the other side, where left payloads have this
-/// many fields. None where the test wants nothing of the kind, or the payload lacks the field. It takes no memory. O(1).
+/// many fields. None where the test wants nothing of the kind, or the payload lacks the field. It takes no memory. O(n) in the
+/// fields before it.
 pub fn tied_field<'a>(
     side: Side,
     width: usize,
-    payload: &'a [Field],
+    payload: &'a Payload,
     test: &Test,
-) -> Option<&'a Field>
-    ensures { option_copied result ≡ tied_field side width payload.now test.now }
+) -> Option<FieldRef<'a>>
+    ensures { result ≡ tied_field side width payload.now test.now }
 {
     let (left, right) = places(width, test)?;
     match side {
-        Side::Left => payload.get(left),
-        Side::Right => payload.get(right),
+        Side::Left => payload.field(left),
+        Side::Right => payload.field(right),
     }
 }

@@ -10,3 +10,4 @@ pub mod RuleLemmas
 pub mod Searches
 pub mod SplitLemmas
 pub mod TextRowLemmas
+pub mod TypedLemmas

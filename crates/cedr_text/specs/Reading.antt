@@ -1,8 +1,7 @@
 -- The grammar of an event line.
-use Rattle.std.specs.Prelude.{ℕ, ◌≡◌, ◌==◌, ◌≤◌, ◌||◌, Bool, List, [], ◌∷◌, ◌++◌, length, map, nat_le, nat_lt, nat_eq, codes, if◌then◌else◌, option_map, Option, None, Some, Result, Ok, Err, Vec}
+use Rattle.std.specs.Prelude.{ℕ, ◌≡◌, ◌==◌, ◌≤◌, ◌||◌, Bool, List, [], ◌∷◌, ◌++◌, length, map, nat_le, nat_lt, nat_eq, codes, if◌then◌else◌, option_map, Option, None, Some, Result, Ok, Err}
 use Rattle.std.specs.List.{list_any, starts_with}
 use Rattle.std.specs.Str.{bytes_eq}
-use Rattle.std.specs.Global.{Global}
 use Rattle.cedr_base.specs.declared.time.TheConstants.{FOREVER}
 use Rattle.cedr_base.specs.declared.row.Row.{Row}
 use Rattle.cedr_base.specs.Rows.{IsRow}
@@ -162,10 +161,6 @@ abbrev pub onto : Option (List Field) → Result (Option (List Field)) LineFault
 onto front (Err fault) = Err fault
 onto (Some front) (Ok (Some fields)) = Ok (Some (front ++ fields))
 onto front (Ok fields) = Ok None
-
--- the fields of what was gathered
-abbrev pub items_in : Option (Vec Field Global) → Option (List Field)
-items_in fields = option_map (λ v. v.items) fields
 
 -- a payload with one field more at its end, where both are in their form
 abbrev pub pushed : Option (List Field) → Option Field → Option (List Field)

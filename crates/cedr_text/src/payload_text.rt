@@ -8,8 +8,9 @@ ghost use Rattle.cedr_text.specs.RowWriters.{text_of, IsInRow};
 
 use crate::parts::Parts;
 use crate::write::{put_payload, put_text};
-use cedr_base::{Field, OutOfMemory, Payload};
+use cedr_base::{FieldRef, FieldRefs, OutOfMemory, Payload};
 use csv::Writer;
+use std::alloc::Global;
 use std::cmp::Ordering;
 use std::marker::Model;
 
@@ -132,23 +133,20 @@ fn compare_bare(bare: &BareFields<'_>, other: &BareFields<'_>) -> Ordering
     }
 }
 
-fn compare_part_with_field(part: &[u8], field: &Field) -> Ordering
+fn compare_part_with_field(part: &[u8], field: &FieldRef<'_>) -> Ordering
     ensures { result ≡ field_cmp (Bytes part.now) field.now }
 {
-    match field {
-        Field::Number(_) => Ordering::Greater,
-        Field::Bytes(text) => part.cmp(&text.bytes()),
-    }
+    field.compare_text(part).reverse()
 }
 
-fn compare_parts_with_fields(mut parts: Parts<'_>, fields: &[Field]) -> Ordering
-    ensures { result ≡ payload_cmp (map (λ part. Bytes part) parts.entry) fields.now }
+fn compare_parts_with_fields(mut parts: Parts<'_>, fields: FieldRefs<'_>) -> Ordering
+    ensures { result ≡ payload_cmp (map (λ part. Bytes part) parts.entry) fields.entry }
 {
     for field in fields {
         let Some(part) = parts.next() else {
             return Ordering::Less;
         };
-        let compared = compare_part_with_field(part, field);
+        let compared = compare_part_with_field(part, &field);
         if compared != Ordering::Equal {
             return compared;
         }
@@ -159,12 +157,12 @@ fn compare_parts_with_fields(mut parts: Parts<'_>, fields: &[Field]) -> Ordering
     }
 }
 
-fn compare_bare_with_fields(bare: &BareFields<'_>, fields: &[Field]) -> Ordering
-    ensures { result ≡ payload_cmp bare.now fields.now }
+fn compare_bare_with_read(bare: &BareFields<'_>, read: &Payload) -> Ordering
+    ensures { result ≡ payload_cmp bare.now read.now }
 {
     match bare.text {
-        Some(text) => compare_parts_with_fields(Parts::new(text, b','), fields),
-        None if fields.is_empty() => Ordering::Equal,
+        Some(text) => compare_parts_with_fields(Parts::new(text, b','), read.fields()),
+        None if read.len() == 0 => Ordering::Equal,
         None => Ordering::Less,
     }
 }
@@ -224,10 +222,10 @@ impl Ord for PayloadText<'_> {
         match (&self.kind, &other.kind) {
             (PayloadKind::Bare(bare), PayloadKind::Bare(other)) => compare_bare(bare, other),
             (PayloadKind::Bare(bare), PayloadKind::Read(read)) => {
-                compare_bare_with_fields(bare, read.fields())
+                compare_bare_with_read(bare, read)
             }
             (PayloadKind::Read(read), PayloadKind::Bare(bare)) => {
-                compare_bare_with_fields(bare, read.fields()).reverse()
+                compare_bare_with_read(bare, read).reverse()
             }
             (PayloadKind::Read(read), PayloadKind::Read(other)) => read.cmp(other),
         }
@@ -236,6 +234,7 @@ impl Ord for PayloadText<'_> {
 
 /// Puts each field of the payload after a comma.
 pub(crate) fn put_payload_text(
+    alloc: Global,
     payload: &PayloadText<'_>,
     writer: &mut Writer<Vec<u8>>,
 ) -> Result<(), OutOfMemory>
@@ -245,7 +244,7 @@ pub(crate) fn put_payload_text(
 {
     match &payload.kind {
         PayloadKind::Bare(bare) => put_bare(bare, writer),
-        PayloadKind::Read(read) => put_payload(read.fields(), writer),
+        PayloadKind::Read(read) => put_payload(alloc, read, writer),
     }
 }
 

@@ -5,7 +5,7 @@ ghost use Rattle.cedr_text.specs.declared.fault.LineFault.TheVariants.{LineTooLo
 ghost use Rattle.cedr_text.specs.declared.lines.TheConstants.{LINE_LIMIT};
 ghost use Rattle.cedr_text.specs.EventTexts.{ReadsText};
 ghost use Rattle.cedr_text.specs.Quoting.{has_quote, line_fields};
-ghost use Rattle.cedr_text.specs.Reading.{breaks_form, Reads, reading, event_of, event_from, version_from, version_reading, inserted_by, revised_by, retraction, guarantee, retracted_by, promised_by, version_of, payload_of, typed_payload, field_value, items_in, pushed, IsEvent, SaysEvent};
+ghost use Rattle.cedr_text.specs.Reading.{breaks_form, Reads, reading, event_of, event_from, version_from, version_reading, inserted_by, revised_by, retraction, guarantee, retracted_by, promised_by, version_of, payload_of, typed_payload, field_value, pushed, IsEvent, SaysEvent};
 
 use crate::bare::read_bare;
 use crate::event_line::{EventLine, Shape};
@@ -15,7 +15,7 @@ use crate::lines::LINE_LIMIT;
 use crate::number::{read_begin, read_id, read_int, read_time};
 use crate::parts::Parts;
 use crate::quoting::join_fields;
-use cedr_base::{Field, FieldType, OutOfMemory, Payload, Row, Text, Time};
+use cedr_base::{FieldType, OutOfMemory, Payload, PayloadWriter, Row, Time};
 use memchr::{memchr, memchr2, memchr3};
 use std::alloc::Global;
 
@@ -222,14 +222,14 @@ fn read_payload(
 fn read_texts(alloc: Global, fields: Parts<'_>) -> Result<Option<Payload>, ReadLineFault>
     ensures { Reads result (payload_of AnyText fields.entry) }
 {
-    let mut texts = Vec::new(alloc);
+    let mut texts = PayloadWriter::new(alloc);
     for field in fields {
         if texts.len() == FIELD_LIMIT {
             return Err(ReadLineFault::Line(LineFault::BadForm));
         }
-        texts.push(Field::Bytes(Text::from_slice(alloc, field)?))?;
+        texts = texts.with_text(field)?;
     }
-    Ok(Some(Payload::from_fields(alloc, texts)?))
+    Ok(Some(texts.finish()?))
 }
 
 /// A payload of one field for each type, or nothing where one isn't in its form.
@@ -240,62 +240,55 @@ fn read_typed(
 ) -> Result<Option<Payload>, ReadLineFault>
     ensures { Reads result (typed_payload types.now fields.entry) }
 {
-    let mut read = Some(room_for(alloc, types.len())?);
+    let mut read = Some(PayloadWriter::new(alloc));
     for field_type in types {
         let Some(text) = fields.next() else {
             return Err(ReadLineFault::Line(LineFault::BadForm));
         };
-        let field = read_field(alloc, *field_type, text)?;
-        read = push_field(read, field)?;
+        read = with_read(read, *field_type, text)?;
     }
     match fields.next() {
-        None => Ok(payload_from(alloc, read)?),
+        None => Ok(payload_from(read)?),
         Some(_) => Err(ReadLineFault::Line(LineFault::BadForm)),
     }
 }
 
-fn read_field(
-    alloc: Global,
+/// With the field of a text, or nothing where one isn't in its form.
+fn with_read(
+    read: Option<PayloadWriter>,
     field_type: FieldType,
     text: &[u8],
-) -> Result<Option<Field>, OutOfMemory>
-    ensures { IfOk result (λ field. field ≡ field_value field_type text.now) }
+) -> Result<Option<PayloadWriter>, OutOfMemory>
+    ensures { IfOk result (λ after. after ≡ pushed read (field_value field_type text.now)) }
 {
-    match field_type {
-        FieldType::Number => Ok(read_int(text).map(Field::Number)),
-        FieldType::Bytes => Ok(Some(Field::Bytes(Text::from_slice(alloc, text)?))),
+    match read {
+        Some(read) => with_value(read, field_type, text),
+        None => Ok(None),
     }
 }
 
-/// No field yet, with room for so many.
-fn room_for(alloc: Global, count: usize) -> Result<Vec<Field>, OutOfMemory>
-    ensures { IfOk result (λ fields. fields.items ≡ []) }
+fn with_value(
+    read: PayloadWriter,
+    field_type: FieldType,
+    text: &[u8],
+) -> Result<Option<PayloadWriter>, OutOfMemory>
+    ensures { IfOk result (λ after. after ≡ pushed (Some read) (field_value field_type text.now)) }
 {
-    let fields = Vec::with_capacity(alloc, count)?;
-    Ok(fields)
-}
-
-fn push_field(
-    read: Option<Vec<Field>>,
-    field: Option<Field>,
-) -> Result<Option<Vec<Field>>, OutOfMemory>
-    ensures { IfOk result (λ after. items_in after ≡ pushed (items_in read) field) }
-{
-    match (read, field) {
-        (Some(mut read), Some(field)) => {
-            read.push(field)?;
-            Ok(Some(read))
-        }
-        _ => Ok(None),
+    match field_type {
+        FieldType::Number => match read_int(text) {
+            Some(number) => Ok(Some(read.with_number(number)?)),
+            None => Ok(None),
+        },
+        FieldType::Bytes => Ok(Some(read.with_text(text)?)),
     }
 }
 
 /// The payload of fields, where each is in its form.
-fn payload_from(alloc: Global, read: Option<Vec<Field>>) -> Result<Option<Payload>, OutOfMemory>
-    ensures { IfOk result (λ payload. payload ≡ items_in read) }
+fn payload_from(read: Option<PayloadWriter>) -> Result<Option<Payload>, OutOfMemory>
+    ensures { IfOk result (λ payload. payload ≡ read) }
 {
     match read {
-        Some(read) => Ok(Some(Payload::from_fields(alloc, read)?)),
+        Some(read) => Ok(Some(read.finish()?)),
         None => Ok(None),
     }
 }

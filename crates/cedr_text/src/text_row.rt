@@ -7,6 +7,7 @@ use crate::payload_text::{PayloadText, put_payload_text};
 use crate::write::{append_written, end_row, put_times, row_writer};
 use cedr_base::{OutOfMemory, Time, canonical_order};
 use csv::Writer;
+use std::alloc::Global;
 use std::cmp::Ordering;
 use std::marker::Model;
 
@@ -104,27 +105,36 @@ pub fn write_text_rows(rows: &[TextRow<'_>], out: &mut Vec<u8>) -> Result<(), Ou
     ensures ok { OnOk result (out.new.items ≡ out.old.items ++ rows_text rows.now) }
     ensures err { OnErr result (out.new.items ≡ out.old.items) }
 {
-    let mut writer = row_writer(*out.allocator());
-    put_text_rows(rows, &mut writer)?;
+    let alloc = *out.allocator();
+    let mut writer = row_writer(alloc);
+    put_text_rows(alloc, rows, &mut writer)?;
     append_written(writer, out)
 }
 
-fn put_text_rows(rows: &[TextRow<'_>], writer: &mut Writer<Vec<u8>>) -> Result<(), OutOfMemory>
+fn put_text_rows(
+    alloc: Global,
+    rows: &[TextRow<'_>],
+    writer: &mut Writer<Vec<u8>>,
+) -> Result<(), OutOfMemory>
     requires { IsAtRow writer.old }
     ensures text { OnOk result (text_of writer.new ≡ text_of writer.old ++ rows_text rows.now) }
 {
     for row in rows {
-        put_text_row(row, writer)?;
+        put_text_row(alloc, row, writer)?;
     }
     Ok(())
 }
 
-fn put_text_row(row: &TextRow<'_>, writer: &mut Writer<Vec<u8>>) -> Result<(), OutOfMemory>
+fn put_text_row(
+    alloc: Global,
+    row: &TextRow<'_>,
+    writer: &mut Writer<Vec<u8>>,
+) -> Result<(), OutOfMemory>
     requires { IsAtRow writer.old }
     ensures text { OnOk result (text_of writer.new ≡ text_of writer.old ++ row_text row.now) }
     ensures at_row { OnOk result (IsAtRow writer.new) }
 {
     put_times(row.begin, row.end, writer)?;
-    put_payload_text(&row.payload, writer)?;
+    put_payload_text(alloc, &row.payload, writer)?;
     end_row(writer)
 }

@@ -4,7 +4,7 @@ ghost use Rattle.csv.specs.Writing.{writer_setup, fields_written, next_sep};
 ghost use Rattle.cedr_text.specs.Texts.{comma, line_feed, time_text, text_text, field_text, payload_text, row_text, rows_text};
 ghost use Rattle.cedr_text.specs.RowWriters.{row_setup, text_of, IsAtRow, IsInRow};
 
-use cedr_base::{FOREVER, Field, OutOfMemory, Row, Time};
+use cedr_base::{FOREVER, Field, FieldRef, OutOfMemory, Payload, Row, Time};
 use csv::{Writer, WriterBuilder};
 use itoa::{Buffer, Integer};
 use std::alloc::Global;
@@ -50,8 +50,9 @@ pub fn write_rows(rows: &[Row], out: &mut Vec<u8>) -> Result<(), OutOfMemory>
     ensures ok { OnOk result (out.new.items ≡ out.old.items ++ rows_text rows.now) }
     ensures err { OnErr result (out.new.items ≡ out.old.items) }
 {
-    let mut writer = row_writer(*out.allocator());
-    put_rows(rows, &mut writer)?;
+    let alloc = *out.allocator();
+    let mut writer = row_writer(alloc);
+    put_rows(alloc, rows, &mut writer)?;
     append_written(writer, out)
 }
 
@@ -82,23 +83,23 @@ pub(crate) fn append_written(writer: Writer<Vec<u8>>, out: &mut Vec<u8>) -> Resu
     Ok(())
 }
 
-fn put_rows(rows: &[Row], writer: &mut Writer<Vec<u8>>) -> Result<(), OutOfMemory>
+fn put_rows(alloc: Global, rows: &[Row], writer: &mut Writer<Vec<u8>>) -> Result<(), OutOfMemory>
     requires { IsAtRow writer.old }
     ensures text { OnOk result (text_of writer.new ≡ text_of writer.old ++ rows_text rows.now) }
 {
     for row in rows {
-        put_row(row, writer)?;
+        put_row(alloc, row, writer)?;
     }
     Ok(())
 }
 
-fn put_row(row: &Row, writer: &mut Writer<Vec<u8>>) -> Result<(), OutOfMemory>
+fn put_row(alloc: Global, row: &Row, writer: &mut Writer<Vec<u8>>) -> Result<(), OutOfMemory>
     requires { IsAtRow writer.old }
     ensures text { OnOk result (text_of writer.new ≡ text_of writer.old ++ row_text row.now) }
     ensures at_row { OnOk result (IsAtRow writer.new) }
 {
     put_times(row.begin, row.end, writer)?;
-    put_payload(row.payload.fields(), writer)?;
+    put_payload(alloc, &row.payload, writer)?;
     end_row(writer)
 }
 
@@ -117,13 +118,17 @@ pub(crate) fn put_times(
 }
 
 /// Puts each field after a comma.
-pub(crate) fn put_payload(fields: &[Field], writer: &mut Writer<Vec<u8>>) -> Result<(), OutOfMemory>
+pub(crate) fn put_payload(
+    alloc: Global,
+    payload: &Payload,
+    writer: &mut Writer<Vec<u8>>,
+) -> Result<(), OutOfMemory>
     requires { IsInRow writer.old }
-    ensures text { OnOk result (text_of writer.new ≡ text_of writer.old ++ payload_text fields.now) }
+    ensures text { OnOk result (text_of writer.new ≡ text_of writer.old ++ payload_text payload.now) }
     ensures in_row { OnOk result (IsInRow writer.new) }
 {
-    for field in fields {
-        put_field(field, writer)?;
+    for field in payload.fields() {
+        put_field(alloc, &field, writer)?;
     }
     Ok(())
 }
@@ -139,7 +144,23 @@ pub(crate) fn end_row(writer: &mut Writer<Vec<u8>>) -> Result<(), OutOfMemory>
     Ok(())
 }
 
-fn put_field(field: &Field, writer: &mut Writer<Vec<u8>>) -> Result<(), OutOfMemory>
+fn put_field(
+    alloc: Global,
+    field: &FieldRef<'_>,
+    writer: &mut Writer<Vec<u8>>,
+) -> Result<(), OutOfMemory>
+    requires { IsInRow writer.old }
+    ensures text { OnOk result (text_of writer.new ≡ text_of writer.old ++ comma ∷ field_text field.now) }
+    ensures in_row { OnOk result (IsInRow writer.new) }
+{
+    match field.plain_text() {
+        Some(text) => put_text(text, writer),
+        None => put_copy(&field.to_field(alloc)?, writer),
+    }
+}
+
+/// Puts a number, or a text that has no plain form in its payload.
+fn put_copy(field: &Field, writer: &mut Writer<Vec<u8>>) -> Result<(), OutOfMemory>
     requires { IsInRow writer.old }
     ensures text { OnOk result (text_of writer.new ≡ text_of writer.old ++ comma ∷ field_text field.now) }
     ensures in_row { OnOk result (IsInRow writer.new) }

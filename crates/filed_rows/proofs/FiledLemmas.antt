@@ -99,14 +99,14 @@ module _ (tag : List Field → ℕ) (c : Change) where
       only = λ q r apart. only_at q r apart (cases_eq q own);
     }
 
-under_first : (e : ℕ × List Row) (es : FiledRows) → under (e ∷ es) e.0 ≡ e.1
+pub under_first : (e : ℕ × List Row) (es : FiledRows) → under (e ∷ es) e.0 ≡ e.1
 under_first e es = ap (λ b. unwrap_or (cond b (Some e.1) (lookup (is_at (nat_cmp e.0)) es)) []) (itself e.0)
 
-under_later : (e : ℕ × List Row) (es : FiledRows) (q : ℕ) → q ≢ e.0 → under (e ∷ es) q ≡ under es q
+pub under_later : (e : ℕ × List Row) (es : FiledRows) (q : ℕ) → q ≢ e.0 → under (e ∷ es) q ≡ under es q
 under_later e es q other = ap (λ b. unwrap_or (cond b (Some e.1) (lookup (is_at (nat_cmp q)) es)) []) (differs q e.0 (λ same. other (sym same)))
 
 -- no row is under a tag below all tags
-beyond : (x : ℕ) (es : FiledRows) → AllByRecursion (λ y. nat_cmp x y ≡ Less) (keys_of es) → under es x ≡ []
+pub beyond : (x : ℕ) (es : FiledRows) → AllByRecursion (λ y. nat_cmp x y ≡ Less) (keys_of es) → under es x ≡ []
 beyond x [] h = refl
 beyond x (e ∷ es) h = ap (λ o. unwrap_or (cond (is_eq o) (Some e.1) (lookup (is_at (nat_cmp x)) es)) []) h.0 ∙ beyond x es h.1
 

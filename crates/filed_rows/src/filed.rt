@@ -1,17 +1,18 @@
-ghost use Rattle.std.specs.Prelude.{ℕ, ◌≡◌, ◌≢◌, ◌<◌, ◌++◌, ◌∷◌, [], true, IfOk, OnOk};
-ghost use Rattle.std.specs.List.{filter};
+ghost use Rattle.std.specs.Prelude.{ℕ, ◌≡◌, ◌≢◌, ◌<◌, ◌≤◌, ◌++◌, ◌∷◌, [], true, false, IfOk, OnOk};
+ghost use Rattle.std.specs.List.{filter, Contains};
 ghost use Rattle.std.specs.BTreeMap.{IsOrdered};
 ghost use Rattle.std.specs.Ordering.{nat_cmp};
+ghost use Rattle.cedr_base.specs.declared.time.TheConstants.{FOREVER};
 ghost use Rattle.cedr_base.specs.declared.row.Row.{Row as RowValue};
 ghost use Rattle.cedr_base.specs.Rows.{count_of, SameRows};
 ghost use Rattle.cedr_base.specs.Changes.{puts, takes, remnant};
 ghost use Rattle.cedr_table.specs.Counted.{LacksRow, ends_after};
 ghost use Rattle.filed_rows.specs.Filed.{under, all_under};
-ghost use Rattle.filed_rows.specs.Ends.{end_row, end_rows, AreEnds};
+ghost use Rattle.filed_rows.specs.Ends.{AreEnds};
 
 use crate::spans::Spans;
-use cedr_base::{Change, OutOfMemory, Payload, Row, Time};
-use cedr_table::Table;
+use cedr_base::{Change, FOREVER, OutOfMemory, Row, Time};
+use due_tags::DueTags;
 use std::alloc::Global;
 use std::collections::BTreeMap;
 use std::collections::btree_map::Entry;
@@ -19,11 +20,11 @@ use std::collections::btree_map::Entry;
 /// Rows by their tags. No tag stands there without a row.
 pub type ByTag = BTreeMap<u64, Spans>;
 
-/// Rows by their tags, and the ends of all of them in order of time, each with its row's tag: by these the rows that
-/// ended are found without a look at the others.
+/// Rows by their tags, and the ends of those that end, each with its row's tag: by these the rows that ended are found
+/// without a look at the others. The end of a row that was cut or taken away stays there until it is due.
 pub struct Filed {
     pub by_tag: ByTag,
-    pub ends: Table,
+    pub ends: DueTags,
 }
 
 impl Drop for Filed {
@@ -90,31 +91,31 @@ fn note_row(alloc: Global, by_tag: &mut ByTag, tag: u64, change: Change) -> Resu
     }
 }
 
-/// The end of a row, with its tag.
-fn end_row(alloc: Global, tag: u64, time: Time) -> Row
-    ensures { result ≡ end_row tag time }
+/// Notes the end of a row under a tag, where it ends.
+fn push_end(ends: &mut DueTags, tag: u64, end: Time) -> Result<(), OutOfMemory>
+    ensures there { OnOk result (end < FOREVER → Contains ends.new (end, tag)) }
+    ensures others { OnOk result ((due : ℕ × ℕ) → Contains ends.old due → Contains ends.new due) }
 {
-    Row {
-        end: time,
-        begin: tag,
-        payload: Payload::new(alloc),
+    if end < FOREVER {
+        ends.push(end, tag)
+    } else {
+        Ok(())
     }
 }
 
-/// Applies a change to the ends of the rows under its row's tag. Where memory runs out an end may be lost.
-/// O(log n) comparisons.
-fn note_end(alloc: Global, ends: &mut Table, tag: u64, change: &Change) -> Result<(), OutOfMemory>
-    requires { (r : RowValue) → 0 < count_of r (takes change.now) → 0 < count_of (end_row tag r.end) ends.old }
-    ensures { OnOk result (SameRows (ends.new ++ end_rows tag (takes change.now)) (ends.old ++ end_rows tag (puts change.now))) }
+/// Notes the end of the row under a tag that a change puts.
+fn note_end(ends: &mut DueTags, tag: u64, change: &Change) -> Result<(), OutOfMemory>
+    ensures there { OnOk result ((r : RowValue) → 0 < count_of r (puts change.now) → r.end < FOREVER → Contains ends.new (r.end, tag)) }
+    ensures others { OnOk result ((due : ℕ × ℕ) → Contains ends.old due → Contains ends.new due) }
 {
     match change {
-        Change::Add(row) => ends.insert(end_row(alloc, tag, row.end)),
+        Change::Add(row) => push_end(ends, tag, row.end),
         Change::Cut(row, end) => {
-            ends.take(&end_row(alloc, tag, row.end));
             if row.begin < *end {
-                ends.insert(end_row(alloc, tag, *end))?;
+                push_end(ends, tag, *end)
+            } else {
+                Ok(())
             }
-            Ok(())
         }
     }
 }
@@ -128,7 +129,7 @@ impl Filed {
     {
         Filed {
             by_tag: BTreeMap::new(alloc),
-            ends: Table::new(alloc),
+            ends: DueTags::new(alloc),
         }
     }
 
@@ -142,13 +143,13 @@ impl Filed {
         ensures ends { OnOk result (AreEnds self.new.by_tag.entries self.new.ends) }
         ensures ordered { OnOk result (IsOrdered nat_cmp self.new.by_tag) }
     {
-        note_end(alloc, &mut self.ends, tag, &change)?;
+        note_end(&mut self.ends, tag, &change)?;
         note_row(alloc, &mut self.by_tag, tag, change)?;
         Ok(())
     }
 
-    /// Forgets the rows that end at a time or before. It takes no memory. O(log n) comparisons for each of them, and a
-    /// look at the first end where there is none.
+    /// Forgets the rows that end at a time or before. It takes no memory. O(log n) comparisons for each end that is due,
+    /// and a look at the first one where none is. At `FOREVER` it goes through all tags.
     pub fn forget_ended(&mut self, time: Time)
         requires ends { AreEnds self.old.by_tag.entries self.old.ends }
         requires ordered { IsOrdered nat_cmp self.old.by_tag }
@@ -156,10 +157,45 @@ impl Filed {
         ensures ends { AreEnds self.new.by_tag.entries self.new.ends }
         ensures ordered { IsOrdered nat_cmp self.new.by_tag }
     {
-        while let Some((due, _)) = self.ends.pop_ended(time) {
-            forget_under(&mut self.by_tag, due.begin, due.end);
+        if time < FOREVER {
+            forget_due(&mut self.by_tag, &mut self.ends, time);
+        } else {
+            forget_all(&mut self.by_tag, time);
+            self.ends.clear();
         }
     }
+}
+
+/// Forgets the rows that end at a time or before: each has its end among these.
+fn forget_due(by_tag: &mut ByTag, ends: &mut DueTags, time: Time)
+    requires time { time < FOREVER }
+    requires ends { AreEnds by_tag.old.entries ends.old }
+    requires ordered { IsOrdered nat_cmp by_tag.old }
+    ensures kept { (q : ℕ) → SameRows (under by_tag.new.entries q) (filter (ends_after time) (under by_tag.old.entries q)) }
+    ensures ends { AreEnds by_tag.new.entries ends.new }
+    ensures ordered { IsOrdered nat_cmp by_tag.new }
+{
+    while let Some((_, tag)) = ends.pop_due(time) {
+        forget_under(by_tag, tag, time);
+    }
+}
+
+/// Forgets the rows of each tag that end at a time or before.
+fn forget_all(by_tag: &mut ByTag, time: Time)
+    requires { IsOrdered nat_cmp by_tag.old }
+    ensures kept { (q : ℕ) → SameRows (under by_tag.new.entries q) (filter (ends_after time) (under by_tag.old.entries q)) }
+    ensures ordered { IsOrdered nat_cmp by_tag.new }
+{
+    by_tag.retain(|_tag, rows| shorten(rows, time));
+}
+
+/// Forgets the rows that end at a time or before, and says whether one is left.
+fn shorten(rows: &mut Spans, time: Time) -> bool
+    ensures left { SameRows rows.new (filter (ends_after time) rows.old) }
+    ensures emptied { result ≡ false → rows.new ≡ [] }
+{
+    rows.forget_ended(time);
+    !rows.is_empty()
 }
 
 /// Forgets the rows under a tag that end at a time or before.
@@ -181,10 +217,7 @@ fn shorten_under(by_tag: &mut ByTag, tag: u64, time: Time) -> bool
     ensures ordered { IsOrdered nat_cmp by_tag.new }
 {
     match by_tag.get_mut(&tag) {
-        Some(rows) => {
-            rows.forget_ended(time);
-            rows.is_empty()
-        }
+        Some(rows) => !shorten(rows, time),
         None => false,
     }
 }

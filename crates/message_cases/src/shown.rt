@@ -1,5 +1,5 @@
 use anyhow::Result;
-use cedr_base::{Change, FOREVER, Field, Message, Row, Time};
+use cedr_base::{Change, FOREVER, FieldRef, Message, Row, Time};
 use node_laws::{Cause, Forgotten};
 use std::fmt;
 use test_feeding::{Brief, brief_of, brief_of_change};
@@ -43,20 +43,20 @@ impl fmt::Display for Valid<'_> {
     fn fmt<W: fmt::Write>(&self, f: &mut fmt::Formatter<W>) -> fmt::Result {
         write!(f, "{} {}", self.0.begin, Moment(self.0.end))?;
         for field in self.0.payload.fields() {
-            write_field(f, field)?;
+            write_field(f, &field)?;
         }
         Ok(())
     }
 }
 
-/// A field behind a blank. A text that isn't UTF-8 is refused, since no line could bring it.
-fn write_field<W: fmt::Write>(f: &mut fmt::Formatter<W>, field: &Field) -> fmt::Result {
-    match field {
-        Field::Number(number) => write!(f, " {number}"),
-        Field::Bytes(text) => match std::str::from_utf8(text.bytes()) {
-            Ok(text) => write!(f, " {text}"),
-            Err(_) => Err(fmt::Error),
-        },
+/// A field behind a blank. A text that isn't UTF-8, or that has a byte 0 or 1, is refused, since no line brings it.
+fn write_field<W: fmt::Write>(f: &mut fmt::Formatter<W>, field: &FieldRef<'_>) -> fmt::Result {
+    if let Some(number) = field.number() {
+        return write!(f, " {number}");
+    }
+    match std::str::from_utf8(field.plain_text().ok_or(fmt::Error)?) {
+        Ok(text) => write!(f, " {text}"),
+        Err(_) => Err(fmt::Error),
     }
 }
 

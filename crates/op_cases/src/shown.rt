@@ -1,4 +1,4 @@
-use cedr_base::{Change, FOREVER, Field, Row, Time};
+use cedr_base::{Change, FOREVER, FieldRef, Row, Time};
 use std::fmt;
 
 /// A time is shown as before `inf` where it is no more than this before it.
@@ -21,18 +21,18 @@ impl fmt::Display for ShownTime {
     }
 }
 
-/// A field, as a line has it.
+/// A field, as a line has it. A text that isn't UTF-8, or that has a byte 0 or 1, is refused, since no line brings it.
 #[derive(Clone, Copy)]
-struct ShownField<'a>(&'a Field);
+struct ShownField<'a>(&'a FieldRef<'a>);
 
 impl fmt::Display for ShownField<'_> {
     fn fmt<W: fmt::Write>(&self, f: &mut fmt::Formatter<W>) -> fmt::Result {
-        match self.0 {
-            Field::Number(number) => write!(f, "{number}"),
-            Field::Bytes(text) => match std::str::from_utf8(text.bytes()) {
-                Ok(text) => write!(f, "'{text}"),
-                Err(_) => Err(fmt::Error),
-            },
+        if let Some(number) = self.0.number() {
+            return write!(f, "{number}");
+        }
+        match std::str::from_utf8(self.0.plain_text().ok_or(fmt::Error)?) {
+            Ok(text) => write!(f, "'{text}"),
+            Err(_) => Err(fmt::Error),
         }
     }
 }
@@ -44,7 +44,7 @@ struct ShownFields<'a>(&'a Row);
 impl fmt::Display for ShownFields<'_> {
     fn fmt<W: fmt::Write>(&self, f: &mut fmt::Formatter<W>) -> fmt::Result {
         for field in self.0.payload.fields() {
-            write!(f, " {}", ShownField(field))?;
+            write!(f, " {}", ShownField(&field))?;
         }
         Ok(())
     }

@@ -169,7 +169,7 @@ impl Except {
         ensures err { OnErr result (take (length out.old.items) out.new.items ≡ out.old.items) }
     {
         let row = change.row();
-        self.settle(row.payload.fields().len())?;
+        self.settle(row.payload.len())?;
         let tag = self.tests.side_tag(Side::Left, self.width, &row.payload);
         let found = parts_around(
             alloc,

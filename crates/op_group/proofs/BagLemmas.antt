@@ -71,16 +71,6 @@ goes_both a b c xs ys one two = record {
 pub lives_append : (xs ys : List ℕ) (r : Row) → field_lives (xs ++ ys) r ≡ field_lives xs r ++ field_lives ys r
 lives_append xs ys r = filter_map-append (life_in r) xs ys
 
--- a payload has a field that is found in it
-pub got_some : (xs ys : List Field) (i : ℕ) (x : Field) → xs ≡ ys → true ≡ nat_lt i (length xs) → x ≡ get_or xs i x → slice_get ys i ≡ Some x
-got_some xs ys i x same less is =
-    let within = ltb-true i (length xs) (sym less) in
-    ap (λ zs. slice_get zs i) (sym same) ∙ (slice_get-get_or xs i x within ∙ ap (λ y. Some y) (sym is))
-
--- and none where none is
-pub got_none : (xs ys : List Field) (i : ℕ) → xs ≡ ys → false ≡ nat_lt i (length xs) → slice_get ys i ≡ None
-got_none xs ys i same past = ap (λ zs. slice_get zs i) (sym same) ∙ slice_get_past xs i (ltb-false i (length xs) (sym past))
-
 module _ (but columns : List ℕ) (i column : ℕ) (less : i < length columns) (is : column ≡ get_or columns i column) where
   next_columns : columns_but but (take (i + 1) columns) ≡ columns_but but (take i columns) ++ columns_but but (column ∷ [])
   next_columns =

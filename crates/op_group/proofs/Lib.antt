@@ -25,3 +25,4 @@ pub mod HeldLaw
 pub mod Standing
 pub mod AgreeLemmas
 pub mod RowsMade
+pub mod FieldNumbers

@@ -10,7 +10,7 @@ ghost use Rattle.op_group.specs.Cuts.{row_begun, ended_at, rows_of_cuts, withdra
 
 use crate::cuts::Cuts;
 use crate::segment::Segment;
-use cedr_base::{Change, OutOfMemory, Payload, Row, Time};
+use cedr_base::{Change, OutOfMemory, Payload, PayloadWriter, Row, Time};
 use std::alloc::Global;
 
 /// The row of the result that begins at a cut point, without its end.
@@ -26,10 +26,8 @@ fn begun(
     if segment.living == 0 {
         return Ok(None);
     }
-    let mut fields = Vec::with_capacity(alloc, key.fields().len() + 2)?;
-    key.copy_fields(alloc, &mut fields)?;
-    segment.push_to(alloc, counted, &mut fields)?;
-    let payload = Payload::from_fields(alloc, fields)?;
+    let fields = PayloadWriter::new(alloc).with_all(key)?;
+    let payload = segment.write_to(counted, fields)?.finish()?;
     Ok(Some((at, payload)))
 }
 

@@ -54,8 +54,11 @@ fn add_field(
 ) -> Result<(), OutOfMemory>
     ensures { OnOk result (ComesTo living.old living.new (field_lives (column ∷ []) (record row.now { end = end }))) }
 {
-    match row.payload.fields().get(column) {
-        Some(field) => living.add(alloc, column, row.begin, end, field),
+    match row.payload.field(column) {
+        Some(field) => {
+            let copied = field.to_field(alloc)?;
+            living.add(alloc, column, row.begin, end, &copied)
+        }
         None => Ok(()),
     }
 }
@@ -103,8 +106,11 @@ fn take_field(
 ) -> Result<(), OutOfMemory>
     ensures { OnOk result (GoesFrom living.old living.new (field_lives (column ∷ []) row.now)) }
 {
-    match row.payload.fields().get(column) {
-        Some(field) => living.take(alloc, column, row.begin, row.end, field),
+    match row.payload.field(column) {
+        Some(field) => {
+            let copied = field.to_field(alloc)?;
+            living.take(alloc, column, row.begin, row.end, &copied)
+        }
         None => Ok(()),
     }
 }

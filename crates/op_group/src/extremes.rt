@@ -146,13 +146,14 @@ fn renew(
     ensures came { OnOk result (passing.now.up ≡ true → extreme.new ≡ met_side side (slice_get passing.now.payload side.column) extreme.old) }
     ensures went { OnOk result (passing.now.up ≡ false → (lives : List Living) → KeepsLives living.now lives → living.now.from ≤ at → extreme.old ≡ met_side side (slice_get passing.now.payload side.column) (extreme_at side at lives) → extreme.new ≡ extreme_at side at lives) }
 {
-    let Some(field) = passing.payload.fields().get(side.column) else {
+    let Some(field) = passing.payload.field(side.column) else {
         return Ok(());
     };
+    let copied = field.to_field(alloc)?;
     if passing.up {
-        meet(alloc, side, field, extreme)
+        meet(alloc, side, &copied, extreme)
     } else {
-        part(alloc, side, at, field, living, extreme)
+        part(alloc, side, at, &copied, living, extreme)
     }
 }
 

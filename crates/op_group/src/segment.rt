@@ -1,5 +1,5 @@
-ghost use Rattle.std.specs.Prelude.{◌≡◌, ◌+◌, ◌-◌, ◌%◌, ◌^◌, ◌<◌, ◌++◌, List, ℕ, IfOk, OnOk, OnErr, Some, None, false, length, map, replicate};
-ghost use Rattle.std.specs.List.{slice_get, filter_map};
+ghost use Rattle.std.specs.Prelude.{◌≡◌, ◌+◌, ◌-◌, ◌%◌, ◌^◌, ◌<◌, ◌++◌, [], List, ℕ, IfOk, OnOk, OnErr, Some, None, false, length, map, replicate};
+ghost use Rattle.std.specs.List.{slice_get, filter_map, cons_option};
 ghost use Rattle.op_group.specs.Groups.{field_number};
 ghost use Rattle.std.specs.Int.{w128, cast_signed};
 ghost use Rattle.cedr_base.specs.declared.time.TheConstants.{FOREVER};
@@ -10,7 +10,7 @@ ghost use Rattle.op_group.specs.Measures.{extremes_of, no_totals};
 ghost use Rattle.op_group.specs.Sides.{Passes, Tells};
 
 use crate::extremes::{Passing, renew_all};
-use cedr_base::{Field, OutOfMemory, Payload, Time};
+use cedr_base::{Field, FieldRef, OutOfMemory, Payload, PayloadWriter, Time};
 use cedr_expr::Keep;
 use cedr_living::LivingFields;
 use std::alloc::Global;
@@ -83,12 +83,12 @@ impl Totals {
         Ok(Totals { sums, extremes })
     }
 
-    /// Appends the sums as fields, and then the least and the greatest fields that are there.
-    fn push_to(&self, alloc: Global, fields: &mut Vec<Field>) -> Result<(), OutOfMemory>
-        ensures { OnOk result (fields.new.items ≡ fields.old.items ++ totals false 0 self.now) }
+    /// With the sums as fields at the end, and then the least and the greatest fields that are there.
+    fn write_to(&self, fields: PayloadWriter) -> Result<PayloadWriter, OutOfMemory>
+        ensures { IfOk result (λ w. w ≡ fields ++ totals false 0 self.now) }
     {
-        push_sums(self.sums.as_slice(), fields)?;
-        push_extremes(alloc, self.extremes.as_slice(), fields)
+        let fields = with_sums(self.sums.as_slice(), fields)?;
+        with_extremes(self.extremes.as_slice(), fields)
     }
 }
 
@@ -132,34 +132,41 @@ fn add_numbers(sums: &mut Vec<u128>, numbers: &[u128])
     }
 }
 
-/// Appends sums as fields.
-fn push_sums(sums: &[u128], fields: &mut Vec<Field>) -> Result<(), OutOfMemory>
-    ensures { OnOk result (fields.new.items ≡ fields.old.items ++ map (λ n. Number (cast_signed w128 n)) sums.now) }
+/// With sums as fields at the end.
+fn with_sums(sums: &[u128], fields: PayloadWriter) -> Result<PayloadWriter, OutOfMemory>
+    ensures { IfOk result (λ w. w ≡ fields ++ map (λ n. Number (cast_signed w128 n)) sums.now) }
 {
+    let mut written = fields;
     for sum in sums {
-        fields.push(Field::Number(sum.cast_signed()))?;
+        written = written.with_number(sum.cast_signed())?;
     }
-    Ok(())
+    Ok(written)
 }
 
-/// Appends those of the least and the greatest fields that are there.
-fn push_extremes(
-    alloc: Global,
+/// With those of the least and the greatest fields that are there.
+fn with_extremes(
     extremes: &[Option<Field>],
-    fields: &mut Vec<Field>,
-) -> Result<(), OutOfMemory>
-    ensures { OnOk result (fields.new.items ≡ fields.old.items ++ filter_map (λ extreme. extreme) extremes.now) }
+    fields: PayloadWriter,
+) -> Result<PayloadWriter, OutOfMemory>
+    ensures { IfOk result (λ w. w ≡ fields ++ filter_map (λ extreme. extreme) extremes.now) }
 {
+    let mut written = fields;
     for extreme in extremes {
-        match extreme {
-            Some(field) => {
-                let copied = field.copy(alloc)?;
-                fields.push(copied)?;
-            }
-            None => {}
-        }
+        written = with_extreme(extreme, written)?;
     }
-    Ok(())
+    Ok(written)
+}
+
+fn with_extreme(
+    extreme: &Option<Field>,
+    fields: PayloadWriter,
+) -> Result<PayloadWriter, OutOfMemory>
+    ensures { IfOk result (λ w. w ≡ fields ++ cons_option extreme.now []) }
+{
+    match extreme {
+        Some(field) => fields.with_field(field),
+        None => Ok(fields),
+    }
 }
 
 impl Segment {
@@ -201,30 +208,40 @@ impl Segment {
         renew_all(alloc, asked, at, passing, living, &mut self.totals.extremes)
     }
 
-    /// Appends the count, where it is asked for, then the sums, and then the least and the greatest fields.
-    pub(crate) fn push_to(
+    /// With the count at the end, where it is asked for, then the sums, and then the least and the greatest fields.
+    pub(crate) fn write_to(
         &self,
-        alloc: Global,
         counted: bool,
-        fields: &mut Vec<Field>,
-    ) -> Result<(), OutOfMemory>
-        ensures { OnOk result (fields.new.items ≡ fields.old.items ++ totals counted self.now.living self.now.totals) }
+        fields: PayloadWriter,
+    ) -> Result<PayloadWriter, OutOfMemory>
+        ensures { IfOk result (λ w. w ≡ fields ++ totals counted self.now.living self.now.totals) }
     {
         if counted {
             let count = self.living as u128;
-            fields.push(Field::Number(count.cast_signed()))?;
+            self.totals
+                .write_to(fields.with_number(count.cast_signed())?)
+        } else {
+            self.totals.write_to(fields)
         }
-        self.totals.push_to(alloc, fields)
     }
 }
 
 /// What a field adds to a sum, modulo 2^128: nothing where it isn't there or isn't a number.
-fn number(fields: &[Field], column: usize) -> u128
-    ensures { result ≡ field_number (slice_get fields.now column) }
+fn number(payload: &Payload, column: usize) -> u128
+    ensures { result ≡ field_number (slice_get payload.now column) }
 {
-    match fields.get(column) {
-        Some(Field::Number(n)) => n.cast_unsigned(),
-        _ => 0,
+    match payload.field(column) {
+        Some(field) => own_number(&field),
+        None => 0,
+    }
+}
+
+fn own_number(field: &FieldRef<'_>) -> u128
+    ensures { result ≡ field_number (Some field.now) }
+{
+    match field.number() {
+        Some(n) => n.cast_unsigned(),
+        None => 0,
     }
 }
 
@@ -237,10 +254,9 @@ pub(crate) fn numbers(
 ) -> Result<Vec<u128>, OutOfMemory>
     ensures { IfOk result (λ v. v.items ≡ map (λ column. shifted_by up (field_number (slice_get payload.now column))) columns.now) }
 {
-    let fields = payload.fields();
     let mut all = Vec::new(alloc);
     for column in columns {
-        let number = number(fields, *column);
+        let number = number(payload, *column);
         let shift = if up { number } else { number.wrapping_neg() };
         all.push(shift)?;
     }

@@ -87,7 +87,7 @@ impl Join {
     {
         let row = change.row();
         if port == 0 {
-            self.settle(row.payload.fields().len())?;
+            self.settle(row.payload.len())?;
             let tag = self.tests.side_tag(Side::Left, self.width, &row.payload);
             repair_right(alloc, &self.tests, &change, &self.right.by_tag, tag, out)?;
             self.left.note(alloc, tag, change)?;

@@ -89,7 +89,7 @@ impl Pairs {
         ensures ok { OnOk result (IsKeptStep (crossed_rows self.old) (crossed_rows self.new) port change.now) }
         ensures tags { OnOk result (AreAllCrossed tests.now self.new) }
     {
-        self.settle(tests, change.row().payload.fields().len());
+        self.settle(tests, change.row().payload.len());
         self.ports[port].apply(alloc, tests, self.width, change)
     }
 

@@ -25,10 +25,10 @@ use std::alloc::Global;
 /// begins with it. A change of a row looks only at rows that begin less than a scope before or after it. Of two ports it
 /// looks only at those that have the fields that equality tests between the two compare: O(log n), and a step and the
 /// tests for each of them. Of more ports it takes O(log n) and the rows that may be the next one for each ascending choice
-/// of the ports but the last in which it may stand, and each row more of such a choice costs a new payload. On the last
-/// port the tests come first, once for all copies of a row, and a payload is joined only for what passes them. Where the
-/// payloads of all ports have one width, and equality tests want one of their columns to be the same in all of them, only
-/// rows with the changed row's field in it are looked at. A retraction that leaves something of its row takes O(1).
+/// of rows of the first ports in which it may stand and that passes the tests whose columns it has. On each port the tests
+/// come first, once for all copies of a row, and a payload is joined only for what passes them. Where the payloads of all
+/// ports have one width, and equality tests want one of their columns to be the same in all of them, only rows with the
+/// changed row's field in it are looked at. A retraction that leaves something of its row takes O(1).
 pub struct Sequence {
     scope: u64,
     tests: Tests,

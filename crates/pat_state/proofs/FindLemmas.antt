@@ -8,16 +8,18 @@ use Rattle.pat_state.specs.declared.keyed.Keyed.{Keyed}
 use Rattle.pat_state.specs.Groups.{seen, all_seen}
 use Rattle.pat_state.specs.Tags.{has_tag_within}
 use Rattle.std.proofs.lemmas.Bool.{ltb-true, ltb-false, leb-false, lt-ltb, le-ltb, and_parts, and_cases, and_left, and_right, ne_eqb, eq-eqb, cases_lt}
+use Rattle.cedr_base.specs.declared.field.Field.{Field}
 use Rattle.cedr_base.specs.declared.row.Row.{Row}
 use Rattle.cedr_table.specs.Operators.{Tables, table_at}
 use Rattle.cedr_table.specs.Counted.{spread}
 use Rattle.cedr_expr.specs.declared.test.Test.{Test}
-use Rattle.cedr_expr.specs.Tests.{passes}
+use Rattle.cedr_expr.specs.Tests.{passes, may_pass}
 use Rattle.pat_state.specs.Starts.{begins_within}
 use Rattle.pat_state.proofs.FlatLemmas.{flat_map-filter, no_copies as no_such_copies}
 use Rattle.pat_state.specs.Steps.{begun, follows, next_passing, grown, grown_passing, grown_all, near, near_at, firsts, picked, is_match, matches}
 use Rattle.pat_state.proofs.MatchLemmas.{longer}
-use Rattle.pat_state.proofs.PassingLemmas.{all_pass, matching_grown}
+use Rattle.pat_state.proofs.PassingLemmas.{matching_grown}
+use Rattle.pat_state.proofs.BoundLemmas.{pruned}
 
 map_copies : (scope count : ℕ) (row : Row) (rows : List Row) → map (begun scope) (replicate count row ++ rows) ≡ replicate count (begun scope row) ++ map (begun scope) rows
 map_copies scope zero row rows = refl
@@ -32,21 +34,21 @@ begun_step scope found found' all entries entries' row count is pushed so_far =
     ∙ (ap (λ rows. found ++ rows) (sym (map_copies scope count row (spread entries')) ∙ sym (ap (λ es. map (begun scope) (spread es)) is))
     ∙ so_far))
 
-may_follow : (tests : List Test) (p r : Row) (b : Bool) → follows tests p r ≡ b → next_passing tests p r ≡ cond b (longer p r ∷ []) []
-may_follow tests p r b is = ap {B = List Row} (λ test. cond test (longer p r ∷ []) []) is
+may_follow : (test : List Field → List Field → Bool) (p r : Row) (b : Bool) → follows test p r ≡ b → next_passing test p r ≡ cond b (longer p r ∷ []) []
+may_follow test p r b is = ap {B = List Row} (λ b. cond b (longer p r ∷ []) []) is
 
 -- a row that fails the tests with the row so far isn't the next one
-pub fails_none : (tests : List Test) (p r : Row) → passes tests p.payload r.payload ≡ false → next_passing tests p r ≡ []
-fails_none tests p r h = may_follow tests p r false (and_right (nat_lt p.begin r.begin && nat_lt r.begin p.end) (passes tests p.payload r.payload) h)
+pub fails_none : (test : List Field → List Field → Bool) (p r : Row) → test p.payload r.payload ≡ false → next_passing test p r ≡ []
+fails_none test p r h = may_follow test p r false (and_right (nat_lt p.begin r.begin && nat_lt r.begin p.end) (test p.payload r.payload) h)
 
 -- copies of a row that may be the next one
-pub next_copies : (tests : List Test) (p r : Row) (count : ℕ) → follows tests p r ≡ true → flat_map (next_passing tests p) (replicate count r) ≡ replicate count (longer p r)
-next_copies tests p r zero may = refl
-next_copies tests p r (suc count) may = λ i. may_follow tests p r true may i ++ next_copies tests p r count may i
+pub next_copies : (test : List Field → List Field → Bool) (p r : Row) (count : ℕ) → follows test p r ≡ true → flat_map (next_passing test p) (replicate count r) ≡ replicate count (longer p r)
+next_copies test p r zero may = refl
+next_copies test p r (suc count) may = λ i. may_follow test p r true may i ++ next_copies test p r count may i
 
 -- copies of a row that may not be the next one make no longer row so far
-pub no_copies : (tests : List Test) (p r : Row) (count : ℕ) → follows tests p r ≡ false → flat_map (next_passing tests p) (replicate count r) ≡ []
-no_copies tests p r count not = no_such_copies (next_passing tests p) count r (may_follow tests p r false not)
+pub no_copies : (test : List Field → List Field → Bool) (p r : Row) (count : ℕ) → follows test p r ≡ false → flat_map (next_passing test p) (replicate count r) ≡ []
+no_copies test p r count not = no_such_copies (next_passing test p) count r (may_follow test p r false not)
 
 -- near a changed row there are as many tables as ports
 pub length-near : (x : Row) (port : ℕ) (ts : Tables) → length (near x port ts) ≡ length ts
@@ -75,17 +77,17 @@ near_behind x zero (suc port) (t ∷ ts) behind = refl
 near_behind x (suc changed) (suc port) (t ∷ ts) behind = near_behind x changed port ts (omega arith)
 
 -- a row that isn't later or isn't within the scope can't be the next one, whatever the tests say
-passing_none : (tests : List Test) (p r : Row) → (r.begin ≤ p.begin) ⊎ (p.end ≤ r.begin) → next_passing tests p r ≡ []
-passing_none tests p r (inl early) =
-    may_follow tests p r false (and_left (nat_lt p.begin r.begin && nat_lt r.begin p.end) (passes tests p.payload r.payload) (and_left (nat_lt p.begin r.begin) (nat_lt r.begin p.end) (le-ltb p.begin r.begin early)))
-passing_none tests p r (inr late) =
-    may_follow tests p r false (and_left (nat_lt p.begin r.begin && nat_lt r.begin p.end) (passes tests p.payload r.payload) (and_right (nat_lt p.begin r.begin) (nat_lt r.begin p.end) (le-ltb r.begin p.end late)))
+passing_none : (test : List Field → List Field → Bool) (p r : Row) → (r.begin ≤ p.begin) ⊎ (p.end ≤ r.begin) → next_passing test p r ≡ []
+passing_none test p r (inl early) =
+    may_follow test p r false (and_left (nat_lt p.begin r.begin && nat_lt r.begin p.end) (test p.payload r.payload) (and_left (nat_lt p.begin r.begin) (nat_lt r.begin p.end) (le-ltb p.begin r.begin early)))
+passing_none test p r (inr late) =
+    may_follow test p r false (and_left (nat_lt p.begin r.begin && nat_lt r.begin p.end) (test p.payload r.payload) (and_right (nat_lt p.begin r.begin) (nat_lt r.begin p.end) (le-ltb r.begin p.end late)))
 
 -- nor can one that doesn't begin within the row so far's times
-pub outside : (tests : List Test) (p r : Row) → begins_within p.begin p.end r ≡ false → next_passing tests p r ≡ []
-outside tests p r h = elim (and_cases (nat_le p.begin r.begin) (nat_lt r.begin p.end) h) [
-  | inl early ↦ let before = leb-false p.begin r.begin early in passing_none tests p r (inl (omega arith))
-  | inr late ↦ passing_none tests p r (inr (ltb-false r.begin p.end late))
+pub outside : (test : List Field → List Field → Bool) (p r : Row) → begins_within p.begin p.end r ≡ false → next_passing test p r ≡ []
+outside test p r h = elim (and_cases (nat_le p.begin r.begin) (nat_lt r.begin p.end) h) [
+  | inl early ↦ let before = leb-false p.begin r.begin early in passing_none test p r (inl (omega arith))
+  | inr late ↦ passing_none test p r (inr (ltb-false r.begin p.end late))
 ]
 
 near_cond : (x : Row) (rows : List Row) (place changed : ℕ) (b c : Bool) → nat_eq place changed ≡ b → nat_lt place changed ≡ c → near_at x changed place rows ≡ cond b (x ∷ []) (cond c (filter (λ r. nat_lt r.begin x.begin) rows) rows)
@@ -112,41 +114,43 @@ near_table x changed place ts within = elim (cases_lt place changed) [
 ]
 
 -- after the changed row's place, the rows within the scope are all that may be the next ones
-pub behind_rows : (tests : List Test) (x p : Row) (changed place : ℕ) (rows : List Row) → changed < place → flat_map (next_passing tests p) (filter (begins_within p.begin p.end) rows) ≡ flat_map (next_passing tests p) (near_at x changed place rows)
-behind_rows tests x p changed place rows behind =
-    flat_map-filter (next_passing tests p) (next_passing tests p) (begins_within p.begin p.end) rows (λ r may. refl) (λ r not. sym (outside tests p r not))
-    ∙ ap (flat_map (next_passing tests p)) (sym (at_behind x changed place rows behind))
+pub behind_rows : (test : List Field → List Field → Bool) (x p : Row) (changed place : ℕ) (rows : List Row) → changed < place → flat_map (next_passing test p) (filter (begins_within p.begin p.end) rows) ≡ flat_map (next_passing test p) (near_at x changed place rows)
+behind_rows test x p changed place rows behind =
+    flat_map-filter (next_passing test p) (next_passing test p) (begins_within p.begin p.end) rows (λ r may. refl) (λ r not. sym (outside test p r not))
+    ∙ ap (flat_map (next_passing test p)) (sym (at_behind x changed place rows behind))
 
-outside_both : (tests : List Test) (x p r : Row) (b : Bool) → nat_lt r.begin x.begin ≡ b → begins_within p.begin (min p.end x.begin) r ≡ false → [] ≡ cond b (next_passing tests p r) []
-outside_both tests x p r false is h = refl
-outside_both tests x p r true is h =
+outside_both : (test : List Field → List Field → Bool) (x p r : Row) (b : Bool) → nat_lt r.begin x.begin ≡ b → begins_within p.begin (min p.end x.begin) r ≡ false → [] ≡ cond b (next_passing test p r) []
+outside_both test x p r false is h = refl
+outside_both test x p r true is h =
     let early = ltb-true r.begin x.begin is in
     elim (and_cases (nat_le p.begin r.begin) (nat_lt r.begin (min p.end x.begin)) h) [
-      | inl low ↦ let before = leb-false p.begin r.begin low in sym (passing_none tests p r (inl (omega arith)))
-      | inr high ↦ let late = ltb-false r.begin (min p.end x.begin) high in sym (passing_none tests p r (inr (omega arith)))
+      | inl low ↦ let before = leb-false p.begin r.begin low in sym (passing_none test p r (inl (omega arith)))
+      | inr high ↦ let late = ltb-false r.begin (min p.end x.begin) high in sym (passing_none test p r (inr (omega arith)))
     ]
 
-inside_both : (tests : List Test) (x p r : Row) → begins_within p.begin (min p.end x.begin) r ≡ true → next_passing tests p r ≡ cond (nat_lt r.begin x.begin) (next_passing tests p r) []
-inside_both tests x p r h =
+inside_both : (test : List Field → List Field → Bool) (x p r : Row) → begins_within p.begin (min p.end x.begin) r ≡ true → next_passing test p r ≡ cond (nat_lt r.begin x.begin) (next_passing test p r) []
+inside_both test x p r h =
     let below = ltb-true r.begin (min p.end x.begin) (and_parts (nat_le p.begin r.begin) (nat_lt r.begin (min p.end x.begin)) h).1 in
-    sym (ap (λ b. cond b (next_passing tests p r) []) (lt-ltb r.begin x.begin (omega arith)))
+    sym (ap (λ b. cond b (next_passing test p r) []) (lt-ltb r.begin x.begin (omega arith)))
 
 -- before it, so are those that begin before the changed row
-pub before_rows : (tests : List Test) (x p : Row) (changed place before : ℕ) (rows : List Row) → before ≡ min p.end x.begin → place < changed
-    → flat_map (next_passing tests p) (filter (begins_within p.begin before) rows) ≡ flat_map (next_passing tests p) (near_at x changed place rows)
-before_rows tests x p changed place before rows least early =
-    let both = λ (r : Row). cond (nat_lt r.begin x.begin) (next_passing tests p r) [] in
-    ap (λ (time : ℕ). flat_map (next_passing tests p) (filter (begins_within p.begin time) rows)) least
-    ∙ (flat_map-filter (next_passing tests p) both (begins_within p.begin (min p.end x.begin)) rows (λ r may. inside_both tests x p r may) (λ r not. outside_both tests x p r (nat_lt r.begin x.begin) refl not)
-    ∙ (sym (flat_map-filter (next_passing tests p) both (λ r. nat_lt r.begin x.begin) rows (λ r may. sym (ap (λ b. cond b (next_passing tests p r) []) may)) (λ r not. sym (ap (λ b. cond b (next_passing tests p r) []) not)))
-    ∙ ap (flat_map (next_passing tests p)) (sym (at_before x changed place rows early))))
+pub before_rows : (test : List Field → List Field → Bool) (x p : Row) (changed place before : ℕ) (rows : List Row) → before ≡ min p.end x.begin → place < changed
+    → flat_map (next_passing test p) (filter (begins_within p.begin before) rows) ≡ flat_map (next_passing test p) (near_at x changed place rows)
+before_rows test x p changed place before rows least early =
+    let both = λ (r : Row). cond (nat_lt r.begin x.begin) (next_passing test p r) [] in
+    ap (λ (time : ℕ). flat_map (next_passing test p) (filter (begins_within p.begin time) rows)) least
+    ∙ (flat_map-filter (next_passing test p) both (begins_within p.begin (min p.end x.begin)) rows (λ r may. inside_both test x p r may) (λ r not. outside_both test x p r (nat_lt r.begin x.begin) refl not)
+    ∙ (sym (flat_map-filter (next_passing test p) both (λ r. nat_lt r.begin x.begin) rows (λ r may. sym (ap (λ b. cond b (next_passing test p r) []) may)) (λ r not. sym (ap (λ b. cond b (next_passing test p r) []) not)))
+    ∙ ap (flat_map (next_passing test p)) (sym (at_before x changed place rows early))))
 
--- one port more, where there are no tests to pass yet
-pub grown_step : (so_far found : List Row) (port : ℕ) (us : Tables) (all : List Row) → port < length us → found ≡ grown_passing [] so_far (table_at us port) → grown_all so_far (drop port us) ≡ all → grown_all found (drop (port + 1) us) ≡ all
-grown_step so_far found port us all within is was =
-    ap (λ rows. grown_all rows (drop (port + 1) us)) (is ∙ all_pass so_far (table_at us port))
-    ∙ (ap (λ n. grown_all (grown so_far (table_at us port)) (drop n us)) (add-one port)
-    ∙ (sym (ap (grown_all so_far) (drop-cons us port [] within)) ∙ was))
+-- one port more, where what can't pass the tests goes
+pub grown_step : (tests : List Test) (so_far found : List Row) (port : ℕ) (us : Tables) (all : List Row) → port < length us → found ≡ grown_passing (may_pass tests) so_far (table_at us port)
+    → filter (is_match tests) (grown_all so_far (drop port us)) ≡ all → filter (is_match tests) (grown_all found (drop (port + 1) us)) ≡ all
+grown_step tests so_far found port us all within is was =
+    ap (λ rows. filter (is_match tests) (grown_all rows (drop (port + 1) us))) is
+    ∙ (pruned tests so_far (table_at us port) (drop (port + 1) us)
+    ∙ (ap (λ n. filter (is_match tests) (grown_all (grown so_far (table_at us port)) (drop n us))) (add-one port)
+    ∙ (sym (ap (λ (vs : Tables). filter (is_match tests) (grown_all so_far vs)) (drop-cons us port [] within)) ∙ was)))
 
 -- the last port
 grown_last : (so_far : List Row) (port : ℕ) (us : Tables) → length us ≡ port + 1 → grown_all so_far (drop port us) ≡ grown so_far (table_at us port)
@@ -189,12 +193,12 @@ firsts_later scope x port rows later = ap (λ b. cond b (x ∷ []) (filter (begi
 
 -- what the search ends with: the rows that pass the tests on the last port
 pub found_is : (scope : ℕ) (tests : List Test) (x : Row) (changed last : ℕ) (ts : Tables) (rows found : List Row) → length ts ≡ last + 1
-    → grown_all rows (drop last (near x changed ts)) ≡ grown_all (map (begun scope) (firsts scope x changed (table_at ts 0))) (drop 1 (near x changed ts))
-    → found ≡ grown_passing tests rows (table_at (near x changed ts) last) → found ≡ matches scope tests x changed ts
+    → filter (is_match tests) (grown_all rows (drop last (near x changed ts))) ≡ matches scope tests x changed ts
+    → found ≡ grown_passing (passes tests) rows (table_at (near x changed ts) last) → found ≡ matches scope tests x changed ts
 found_is scope tests x changed last ts rows found size was is =
     is
     ∙ (sym (matching_grown tests rows (table_at (near x changed ts) last))
-    ∙ ap (filter (is_match tests)) (sym (grown_last rows last (near x changed ts) (length-near x changed ts ∙ size)) ∙ was))
+    ∙ (ap (filter (is_match tests)) (sym (grown_last rows last (near x changed ts) (length-near x changed ts ∙ size))) ∙ was))
 
 -- the choices of one port
 pub alone_is : (scope : ℕ) (tests : List Test) (x : Row) (changed : ℕ) (order : List ℕ) (ts : Tables) (found : List Row) → length order ≡ 1 → changed < length order → found ≡ filter (is_match tests) (begun scope x ∷ []) → found ≡ matches scope tests x changed (picked order ts)

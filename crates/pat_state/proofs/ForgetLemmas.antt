@@ -1,16 +1,19 @@
 -- Rows whose scope ended by a time leave a bag, or all ports.
-use Rattle.std.proofs.Common.{◌≡◌, ℕ, zero, suc, ◌<◌, ◌≤◌, inl, inr, List, [], ◌∷◌, Bool, true, false, cond, not, length, refl, ap, sym, ◌∙◌, arith}
-use Rattle.std.specs.Prelude.{map, filter}
+use Rattle.std.proofs.Common.{◌≡◌, ℕ, zero, suc, ◌+◌, ◌*◌, ◌<◌, ◌≤◌, ◌⊎◌, inl, inr, List, [], ◌∷◌, Bool, true, false, cond, not, length, refl, ap, sym, ◌∙◌, arith, Option, Some, None, replicate}
+use Rattle.std.specs.Prelude.{map, filter, IfSome}
+use Rattle.std.proofs.lemmas.List.Folds.{sum_by-replicate}
 use Rattle.std.specs.declared.cmp.Ordering.TheVariants.{Equal, Greater}
 use Rattle.std.specs.Ordering.{is_le, nat_cmp, ordering_then}
 use Rattle.std.specs.Cmp.{nat_cmp_is}
 use Rattle.std.proofs.lemmas.Bool.{cases_lt, lt-ltb, ltb-true, not-false}
 use Rattle.cedr_base.specs.declared.row.Row.{Row}
 use Rattle.cedr_base.specs.Order.{payload_cmp}
-use Rattle.cedr_base.specs.Rows.{row_cmp, count_of, SameRows}
+use Rattle.cedr_base.specs.declared.time.TheConstants.{FOREVER}
+use Rattle.cedr_base.specs.Rows.{row_cmp, count_of, one_if_same, SameRows}
+use Rattle.cedr_base.proofs.Bags.{count_of-append, one_of_itself}
 use Rattle.change_laws.specs.Times.{later}
 use Rattle.change_laws.proofs.BagSums.{same_itself}
-use Rattle.cedr_table.specs.Counted.{IsFirst}
+use Rattle.cedr_table.specs.Counted.{IsFirst, IsTakenOut}
 use Rattle.cedr_table.specs.Operators.{Tables, table_at, least_of, AllRise, SameTables}
 use Rattle.cedr_table.proofs.FilterLemmas.{count-filter, among_along, among_filter}
 use Rattle.pat_state.specs.Starts.{endless, all_endless, endless_tables, scope_reaches, AreEndless}
@@ -48,6 +51,26 @@ first_passed scope time a b rows endless_rows first there passed = passed_at (sc
 -- what never ends does so where fewer rows are left
 pub endless_left : (rows left : List Row) → ((r : Row) → count_of r left ≤ count_of r rows) → AreEndless rows → AreEndless left
 endless_left rows left fewer endless_rows = λ r there. endless_rows r (let few = fewer r in omega arith)
+
+-- of rows that never end all copies of one are taken, so that none with its begin and its payload is left
+pub taken_alone : (goes : Row → Bool) (old new : List Row) (out : Option (Row × ℕ)) → AreEndless old → IsTakenOut goes old new out → IfSome out (λ gone. (r : Row) → r.begin ≡ gone.0.begin → r.payload ≡ gone.0.payload → count_of r new ≡ 0)
+taken_alone goes old new None endless_rows out = tt
+taken_alone goes old new (Some p) endless_rows out = λ r begins pays. none_left r (cases_lt 0 (count_of r new)) begins pays where
+  parts : (r : Row) → count_of r old ≡ p.1 * one_if_same r p.0 + count_of r new
+  parts r = omega (arith, out.3.each r, count_of-append r (replicate p.1 p.0) new, sum_by-replicate (one_if_same r) p.1 p.0)
+
+  its_end : p.0.end ≡ FOREVER
+  its_end = let some = out.1 in let count = out.2 in endless_rows p.0 (omega (arith, some, count))
+
+  gone_all : count_of p.0 new ≡ 0
+  gone_all = let count = out.2 in omega (arith, count, parts p.0, ap (λ n. p.1 * n) (one_of_itself p.0))
+
+  none_left : (r : Row) → (0 < count_of r new) ⊎ (count_of r new ≤ 0) → r.begin ≡ p.0.begin → r.payload ≡ p.0.payload → count_of r new ≡ 0
+  none_left r (inr none) begins pays = omega (arith, none)
+  none_left r (inl there) begins pays =
+      let ends : r.end ≡ p.0.end = endless_rows r (omega (arith, there, parts r)) ∙ sym its_end in
+      let same : r ≡ p.0 = (λ i. record { end = ends i; begin = begins i; payload = pays i }) in
+      ap (λ (x : Row). count_of x new) same ∙ gone_all
 
 filter_endless_at : (scope time : ℕ) (x : Row) (xs : List Row) (b : Bool) → all_endless (filter (scope_reaches scope time) xs) ≡ filter (scope_reaches scope time) (all_endless xs)
     → all_endless (cond b (x ∷ filter (scope_reaches scope time) xs) (filter (scope_reaches scope time) xs)) ≡ cond b (endless x ∷ filter (scope_reaches scope time) (all_endless xs)) (filter (scope_reaches scope time) (all_endless xs))

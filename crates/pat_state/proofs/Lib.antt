@@ -7,6 +7,7 @@ pub mod AnswerLemmas
 pub mod TagLemmas
 pub mod MatchLemmas
 pub mod PassingLemmas
+pub mod BoundLemmas
 pub mod FindLemmas
 pub mod ReachLemmas
 pub mod PairLemmas

@@ -27,7 +27,7 @@ chosen-cons f t ts =
 abbrev pub completed : List Test → Row → List Row → List Row
 completed tests p rs = cond (ascends p.begin p.end rs && passes tests (p.payload ++ payloads_joined rs) []) (record { end = p.end; begin = last_begin p.begin rs; payload = p.payload ++ payloads_joined rs } ∷ []) []
 
-abbrev completions : List Test → Tables → Row → List Row
+abbrev pub completions : List Test → Tables → Row → List Row
 completions tests ts p = chosen (completed tests p) ts
 
 -- nothing ascends from a limit on
@@ -86,7 +86,7 @@ finished tests [] = refl
 finished tests (p ∷ ps) = one_kept (is_match tests p) p (filter (is_match tests) ps) ∙ (λ i. finished_one tests p i ++ finished tests ps i)
 
 -- the rows that grow port by port are those of the choices that go on from the first ones
-grown_complete : (tests : List Test) (ts : Tables) (ps : List Row) → filter (is_match tests) (grown_all ps ts) ≡ flat_map (completions tests ts) ps
+pub grown_complete : (tests : List Test) (ts : Tables) (ps : List Row) → filter (is_match tests) (grown_all ps ts) ≡ flat_map (completions tests ts) ps
 grown_complete tests [] ps = finished tests ps
 grown_complete tests (t ∷ ts) ps =
     grown_complete tests ts (grown ps t)

@@ -18,34 +18,34 @@ use Rattle.pat_state.proofs.FindLemmas.{fails_none, outside}
 use Rattle.pat_state.proofs.PassingLemmas.{matching_grown}
 
 -- copies of a row that fails the tests make nothing
-pub fails_copies : (tests : List Test) (p r : Row) (count : ℕ) → passes tests p.payload r.payload ≡ false → flat_map (next_passing tests p) (replicate count r) ≡ []
-fails_copies tests p r count h = no_copies (next_passing tests p) count r (fails_none tests p r h)
+pub fails_copies : (tests : List Test) (p r : Row) (count : ℕ) → passes tests p.payload r.payload ≡ false → flat_map (next_passing (passes tests) p) (replicate count r) ≡ []
+fails_copies tests p r count h = no_copies (next_passing (passes tests) p) count r (fails_none (passes tests) p r h)
 
 -- copies of a first row make as much as copies of the second one
-pub first_copies : (scope : ℕ) (tests : List Test) (first second : Row) (count : ℕ) → flat_map (λ r. next_passing tests (begun scope r) second) (replicate count first) ≡ flat_map (next_passing tests (begun scope first)) (replicate count second)
+pub first_copies : (scope : ℕ) (tests : List Test) (first second : Row) (count : ℕ) → flat_map (λ r. next_passing (passes tests) (begun scope r) second) (replicate count first) ≡ flat_map (next_passing (passes tests) (begun scope first)) (replicate count second)
 first_copies scope tests first second zero = refl
-first_copies scope tests first second (suc count) = ap (λ rows. next_passing tests (begun scope first) second ++ rows) (first_copies scope tests first second count)
+first_copies scope tests first second (suc count) = ap (λ rows. next_passing (passes tests) (begun scope first) second ++ rows) (first_copies scope tests first second count)
 
-second_sought : (scope : ℕ) (tests : List Test) (x q : Row) → IsSought (λ fields. passes tests x.payload fields) (λ r. count_of q (next_passing tests (begun scope x) r))
-second_sought scope tests x q = record { endless = λ r end. refl; none = λ r h. ap (count_of q) (fails_none tests (begun scope x) r h) }
+second_sought : (scope : ℕ) (tests : List Test) (x q : Row) → IsSought (λ fields. passes tests x.payload fields) (λ r. count_of q (next_passing (passes tests) (begun scope x) r))
+second_sought scope tests x q = record { endless = λ r end. refl; none = λ r h. ap (count_of q) (fails_none (passes tests) (begun scope x) r h) }
 
-first_sought : (scope : ℕ) (tests : List Test) (x q : Row) → IsSought (λ fields. passes tests fields x.payload) (λ r. count_of q (next_passing tests (begun scope r) x))
-first_sought scope tests x q = record { endless = λ r end. refl; none = λ r h. ap (count_of q) (fails_none tests (begun scope r) x h) }
+first_sought : (scope : ℕ) (tests : List Test) (x q : Row) → IsSought (λ fields. passes tests fields x.payload) (λ r. count_of q (next_passing (passes tests) (begun scope r) x))
+first_sought scope tests x q = record { endless = λ r end. refl; none = λ r h. ap (count_of q) (fails_none (passes tests) (begun scope r) x h) }
 
 -- the matches of a changed first row
-seconds_match : (scope : ℕ) (tests : List Test) (x : Row) (lefts rights : List Row) → matches scope tests x 0 (lefts ∷ rights ∷ []) ≡ flat_map (next_passing tests (begun scope x)) rights
-seconds_match scope tests x lefts rights = matching_grown tests (begun scope x ∷ []) rights ∙ append-nil (flat_map (next_passing tests (begun scope x)) rights)
+seconds_match : (scope : ℕ) (tests : List Test) (x : Row) (lefts rights : List Row) → matches scope tests x 0 (lefts ∷ rights ∷ []) ≡ flat_map (next_passing (passes tests) (begun scope x)) rights
+seconds_match scope tests x lefts rights = matching_grown tests (begun scope x ∷ []) rights ∙ append-nil (flat_map (next_passing (passes tests) (begun scope x)) rights)
 
 -- the rows of the choices with a changed first row are found among those beside it
-pub seconds_found : (scope : ℕ) (tests : List Test) (x p : Row) (lefts rights found : List Row) (some : List (Row × ℕ)) → p ≡ begun scope x → found ≡ flat_map (next_passing tests p) (spread some)
+pub seconds_found : (scope : ℕ) (tests : List Test) (x p : Row) (lefts rights found : List Row) (some : List (Row × ℕ)) → p ≡ begun scope x → found ≡ flat_map (next_passing (passes tests) p) (spread some)
     → ((weight : Row → ℕ) → IsSought (λ fields. passes tests x.payload fields) weight → sum_by weight (spread some) ≡ sum_by weight (filter (begins_within p.begin p.end) rights))
     → SameRows found (matches scope tests x 0 (lefts ∷ rights ∷ []))
 seconds_found scope tests x p lefts rights found some is were sums = record {
   each = λ q.
-      let f = next_passing tests (begun scope x) in
+      let f = next_passing (passes tests) (begun scope x) in
       let within = ap (λ (r : Row). filter (begins_within r.begin r.end) rights) is in
-      let first = ap (count_of q) (were ∙ ap (λ (r : Row). flat_map (next_passing tests r) (spread some)) is) in
-      let inside = flat_map-filter f f (begins_within (begun scope x).begin (begun scope x).end) rights (λ r may. refl) (λ r not. sym (outside tests (begun scope x) r not)) in
+      let first = ap (count_of q) (were ∙ ap (λ (r : Row). flat_map (next_passing (passes tests) r) (spread some)) is) in
+      let inside = flat_map-filter f f (begins_within (begun scope x).begin (begun scope x).end) rights (λ r may. refl) (λ r not. sym (outside (passes tests) (begun scope x) r not)) in
       let last = ap (count_of q) (ap (flat_map f) within ∙ (inside ∙ sym (seconds_match scope tests x lefts rights))) in
       omega (
         arith,
@@ -58,20 +58,20 @@ seconds_found scope tests x p lefts rights found some is were sums = record {
 }
 
 -- the matches of a changed second row
-firsts_match : (scope : ℕ) (tests : List Test) (x : Row) (lefts rights : List Row) → matches scope tests x 1 (lefts ∷ rights ∷ []) ≡ flat_map (λ r. next_passing tests (begun scope r) x) (filter (begins_within (x.begin + 1 - scope) x.begin) lefts)
+firsts_match : (scope : ℕ) (tests : List Test) (x : Row) (lefts rights : List Row) → matches scope tests x 1 (lefts ∷ rights ∷ []) ≡ flat_map (λ r. next_passing (passes tests) (begun scope r) x) (filter (begins_within (x.begin + 1 - scope) x.begin) lefts)
 firsts_match scope tests x lefts rights =
     matching_grown tests (map (begun scope) (filter (begins_within (x.begin + 1 - scope) x.begin) lefts)) (x ∷ [])
-    ∙ (flat_map-map (λ p. flat_map (next_passing tests p) (x ∷ [])) (begun scope) (filter (begins_within (x.begin + 1 - scope) x.begin) lefts)
-    ∙ flat_map-like (λ r. flat_map (next_passing tests (begun scope r)) (x ∷ [])) (λ r. next_passing tests (begun scope r) x) (filter (begins_within (x.begin + 1 - scope) x.begin) lefts) (λ r. append-nil (next_passing tests (begun scope r) x)))
+    ∙ (flat_map-map (λ p. flat_map (next_passing (passes tests) p) (x ∷ [])) (begun scope) (filter (begins_within (x.begin + 1 - scope) x.begin) lefts)
+    ∙ flat_map-like (λ r. flat_map (next_passing (passes tests) (begun scope r)) (x ∷ [])) (λ r. next_passing (passes tests) (begun scope r) x) (filter (begins_within (x.begin + 1 - scope) x.begin) lefts) (λ r. append-nil (next_passing (passes tests) (begun scope r) x)))
 
 -- the rows of the choices with a changed second row are found among those beside it
 pub firsts_found : (scope : ℕ) (tests : List Test) (x : Row) (from : ℕ) (lefts rights found : List Row) (tagged others : List (Row × ℕ)) → from ≡ x.begin + 1 - scope
-    → found ≡ flat_map (λ r. next_passing tests (begun scope r) x) (spread tagged) ++ flat_map (λ r. next_passing tests (begun scope r) x) (spread others)
+    → found ≡ flat_map (λ r. next_passing (passes tests) (begun scope r) x) (spread tagged) ++ flat_map (λ r. next_passing (passes tests) (begun scope r) x) (spread others)
     → ((weight : Row → ℕ) → IsSought (λ fields. passes tests fields x.payload) weight → sum_by weight (spread tagged) + sum_by weight (spread others) ≡ sum_by weight (filter (begins_within from x.begin) lefts))
     → SameRows found (matches scope tests x 1 (lefts ∷ rights ∷ []))
 firsts_found scope tests x from lefts rights found tagged others is were sums = record {
   each = λ q.
-      let f = λ (r : Row). next_passing tests (begun scope r) x in
+      let f = λ (r : Row). next_passing (passes tests) (begun scope r) x in
       let first = ap (count_of q) were in
       let last = ap (count_of q) (ap (λ (time : ℕ). flat_map f (filter (begins_within time x.begin) lefts)) is ∙ sym (firsts_match scope tests x lefts rights)) in
       omega (

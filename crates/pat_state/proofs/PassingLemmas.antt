@@ -2,7 +2,6 @@
 use Rattle.std.proofs.Common.{◌≡◌, List, [], ◌∷◌, ◌++◌, Bool, true, false, cond, refl, ap, sym, ◌∙◌}
 use Rattle.std.specs.Prelude.{nat_lt, ◌&&◌}
 use Rattle.std.specs.List.{flat_map, filter, slice_get}
-use Rattle.std.proofs.Math.Bool.{and-true}
 use Rattle.std.proofs.lemmas.Bool.{and_parts}
 use Rattle.std.proofs.lemmas.List.{append-nil}
 use Rattle.std.proofs.lemmas.List.Elements.{filter-append}
@@ -12,7 +11,6 @@ use Rattle.cedr_expr.specs.declared.test.Operand.{Operand}
 use Rattle.cedr_expr.specs.declared.test.Operand.TheVariants as operand
 use Rattle.cedr_expr.specs.declared.test.Test.{Test}
 use Rattle.cedr_expr.specs.Tests.{passes, test_holds, operand_value, both_pass}
-use Rattle.pat_state.proofs.FlatLemmas.{flat_map-like}
 use Rattle.pat_state.specs.Steps.{next, next_passing, grown, grown_passing, is_match}
 use Rattle.pat_state.proofs.MatchLemmas.{longer}
 
@@ -41,7 +39,7 @@ match_longer tests p r true may =
     λ i. cond {A = List Row} (within i && sym (passes_joined tests p.payload r.payload) i) (longer p r ∷ []) []
 match_longer tests p r false may = refl
 
-matching_next : (tests : List Test) (p r : Row) → filter (is_match tests) (next p r) ≡ next_passing tests p r
+matching_next : (tests : List Test) (p r : Row) → filter (is_match tests) (next p r) ≡ next_passing (passes tests) p r
 matching_next tests p r = match_longer tests p r (nat_lt p.begin r.begin && nat_lt r.begin p.end) refl
 
 -- what a test keeps of lists that follow one another
@@ -50,11 +48,6 @@ filter-flat_map test f g [] same = refl
 filter-flat_map test f g (x ∷ xs) same = filter-append test (f x) (flat_map f xs) ∙ (λ i. same x i ++ filter-flat_map test f g xs same i)
 
 -- the matches among the rows so far with one row more are those of the rows that pass
-pub matching_grown : (tests : List Test) (so_far rows : List Row) → filter (is_match tests) (grown so_far rows) ≡ grown_passing tests so_far rows
-matching_grown tests so_far rows = filter-flat_map (is_match tests) (λ p. flat_map (next p) rows) (λ p. flat_map (next_passing tests p) rows) so_far
-    (λ p. filter-flat_map (is_match tests) (next p) (next_passing tests p) rows (λ r. matching_next tests p r))
-
--- where there is no test, all pass
-pub all_pass : (so_far rows : List Row) → grown_passing [] so_far rows ≡ grown so_far rows
-all_pass so_far rows = flat_map-like (λ p. flat_map (next_passing [] p) rows) (λ p. flat_map (next p) rows) so_far
-    (λ p. flat_map-like (next_passing [] p) (next p) rows (λ r. ap {B = List Row} (λ b. cond b (longer p r ∷ []) []) (and-true (nat_lt p.begin r.begin && nat_lt r.begin p.end))))
+pub matching_grown : (tests : List Test) (so_far rows : List Row) → filter (is_match tests) (grown so_far rows) ≡ grown_passing (passes tests) so_far rows
+matching_grown tests so_far rows = filter-flat_map (is_match tests) (λ p. flat_map (next p) rows) (λ p. flat_map (next_passing (passes tests) p) rows) so_far
+    (λ p. filter-flat_map (is_match tests) (next p) (next_passing (passes tests) p) rows (λ r. matching_next tests p r))

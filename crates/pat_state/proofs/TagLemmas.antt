@@ -1,9 +1,10 @@
 -- Bags of rows, each with a tag.
-use Rattle.std.proofs.Common.{◌≡◌, ℕ, zero, suc, ◌+◌, ◌-◌, ◌<◌, ◌≤◌, inl, inr, List, [], ◌∷◌, ◌++◌, Bool, true, false, cond, length, refl, ap, sym, subst, ◌∙◌, arith}
+use Rattle.std.proofs.Common.{◌≡◌, ℕ, zero, suc, ◌+◌, ◌*◌, ◌≤◌, inl, inr, List, [], ◌∷◌, ◌++◌, Bool, true, false, cond, length, refl, ap, sym, subst, ◌∙◌, arith}
 use Rattle.std.specs.Prelude.{sum_by, nat_eq, ◌&&◌, map, replicate}
 use Rattle.std.specs.List.{filter}
 use Rattle.std.proofs.lemmas.Bool.{cases_lt, eq-eqb, eqb-true, ne_eqb}
 use Rattle.std.proofs.lemmas.List.Sums.{sum_by-cons, sum_by-append}
+use Rattle.std.proofs.lemmas.List.Folds.{sum_by-replicate}
 use Rattle.cedr_base.specs.declared.field.Field.{Field}
 use Rattle.cedr_base.specs.declared.row.Row.{Row}
 use Rattle.cedr_base.specs.declared.change.Change.{Change}
@@ -39,16 +40,12 @@ sum_by-both : (v w u : Row → ℕ) (xs : List Row) → ((x : Row) → v x + w x
 sum_by-both v w u [] each = refl
 sum_by-both v w u (x ∷ xs) each = omega (arith, sum_by-cons v x xs, sum_by-cons w x xs, sum_by-cons u x xs, each x, sum_by-both v w u xs each)
 
--- of some copies of a row one more is taken
-pub copy_taken : (row : Row) (n i : ℕ) (rows rows' rest : List Row) → i < n → SameRows rows (replicate (n - i) row ++ rest) → (0 < count_of row rows → SameRows (row ∷ rows') rows) → SameRows rows' (replicate (n - (i + 1)) row ++ rest)
-copy_taken row n i rows rows' rest within was taken =
-    let one : n - i ≡ suc (n - (i + 1)) = omega arith in
-    let more : replicate (n - i) row ≡ row ∷ replicate (n - (i + 1)) row = ap (λ k. replicate k row) one in
-    let here = λ (r : Row). ap (λ (xs : List Row). count_of r (xs ++ rest)) more in
-    let first = here row in
-    let out = taken (omega (arith, was.each row, first, count_of-cons row row (replicate (n - (i + 1)) row ++ rest), one_of_itself row)) in
+-- where all copies of a row are taken, the others are left
+pub all_gone : (row : Row) (count n : ℕ) (old new rest : List Row) → n ≡ count_of row old → SameRows (replicate n row ++ new) old → count_of row rest ≡ 0 → SameRows old (replicate count row ++ rest) → SameRows new rest
+all_gone row count n old new rest is out none was =
+    let size : n ≡ count = omega (arith, is, none, was.each row, count_of-append row (replicate count row) rest, sum_by-replicate (one_if_same row) count row, ap (λ k. count * k) (one_of_itself row)) in
     record {
-      each = λ r. let k = here r in omega (arith, k, was.each r, out.each r, count_of-cons r row (replicate (n - (i + 1)) row ++ rest), count_of-cons r row rows');
+      each = λ r. omega (arith, out.each r, was.each r, count_of-append r (replicate n row) new, count_of-append r (replicate count row) rest, ap (λ k. count_of r (replicate k row)) size);
     }
 
 module _ (tag : List Field → ℕ) where
@@ -126,6 +123,22 @@ module _ (tag : List Field → ℕ) where
     at_least : (xs : List Row) → count_of (endless row) xs ≤ sum_by (weight (marked t row)) xs
     at_least [] = omega arith
     at_least (x ∷ xs) = omega (arith, count_of-cons (endless row) x xs, sum_by-cons (weight (marked t row)) x xs, one_at_least x, at_least xs)
+
+  -- where no row has a begin and a payload, none is tagged with them
+  pub none_marked : (t : ℕ) (row : Row) (rows : List Row) → ((r : Row) → r.begin ≡ row.begin → r.payload ≡ row.payload → count_of r rows ≡ 0) → count_of (marked t row) (map with_tag rows) ≡ 0
+  none_marked t row [] alone = refl
+  none_marked t row (x ∷ xs) alone = omega (
+    arith,
+    count_of-cons (marked t row) (with_tag x) (map with_tag xs),
+    apart (same_row (marked t row) (with_tag x)) refl,
+    none_marked t row xs (λ r begins pays. let all = alone r begins pays in omega (arith, all, count_of-cons r x xs)),
+  ) where
+    apart : (b : Bool) → same_row (marked t row) (with_tag x) ≡ b → one_if_same (marked t row) (with_tag x) ≡ 0
+    apart true same =
+        let is = same_row_exact (marked t row) (with_tag x) same in
+        let none = alone x (sym (ap (λ (r : Row). r.begin) is)) (sym (ap (λ (r : Row). r.payload) is)) in
+        absurd (omega (arith, none, count_of-cons x x xs, one_of_itself x))
+    apart false same = ap {B = ℕ} (λ b. cond b 1 0) same
 
   sum_by-copies : (r row : Row) (t n : ℕ) → tag row.payload ≡ t → sum_by (weight r) (replicate n row) ≡ sum_by (one_if_same r) (replicate n (marked t row))
   sum_by-copies r row t zero at = refl

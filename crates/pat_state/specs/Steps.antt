@@ -1,13 +1,14 @@
 -- How the choices with one changed row are found, port by port.
-use Rattle.std.specs.Prelude.{ℕ, zero, suc, ◌<◌, ◌++◌, ◌+◌, ◌-◌, List, [], ◌∷◌, Bool, ◌&&◌, nat_lt, nat_eq, drop, if◌then◌else◌, map, length, slice_index, Option, unwrap_or}
-use Rattle.std.specs.Option.{option_copied}
-use Rattle.std.proofs.Common.{Bor}
+use Rattle.std.specs.Prelude.{ℕ, zero, suc, ◌<◌, ◌++◌, ◌+◌, ◌-◌, List, [], ◌∷◌, Bool, ◌&&◌, nat_lt, nat_eq, drop, if◌then◌else◌, map, length, slice_index}
 use Rattle.std.specs.List.{flat_map, filter}
+use Rattle.cedr_base.specs.declared.field.Field.{Field}
 use Rattle.cedr_base.specs.declared.row.Row.{Row}
 use Rattle.change_laws.specs.Times.{later}
 use Rattle.cedr_table.specs.Operators.{Tables, table_at}
 use Rattle.cedr_expr.specs.declared.test.Test.{Test}
-use Rattle.cedr_expr.specs.Tests.{passes}
+use Rattle.cedr_expr.specs.Tests.{passes, may_pass}
+use Rattle.pat_state.specs.declared.matches.Stage.{Stage}
+use Rattle.pat_state.specs.declared.matches.Stage.TheVariants.{Before, Last}
 use Rattle.pat_state.specs.Starts.{begins_within}
 
 -- the row so far of a choice that begins with this row
@@ -22,21 +23,22 @@ next so_far e = if nat_lt so_far.begin e.begin && nat_lt e.begin so_far.end then
 abbrev pub grown : List Row → List Row → List Row
 grown so_far rows = flat_map (λ p. flat_map (next p) rows) so_far
 
--- the tests, and none where there is no list of them
-abbrev pub tests_in : Option (Bor (List Test)) → List Test
-tests_in tests = unwrap_or (option_copied tests) []
+-- What payloads have to pass: with the last row all tests, and before it those of which they have the columns.
+abbrev pub stage_tests : Stage → List Test → List Field → List Field → Bool
+stage_tests Before tests left right = may_pass tests left right
+stage_tests Last tests left right = passes tests left right
 
--- the row may be the next one: it begins later and within the scope, and with the row so far it passes the tests
-abbrev pub follows : List Test → Row → Row → Bool
-follows tests so_far e = (nat_lt so_far.begin e.begin && nat_lt e.begin so_far.end) && passes tests so_far.payload e.payload
+-- the row may be the next one: it begins later and within the scope, and with the row so far it passes a test
+abbrev pub follows : (List Field → List Field → Bool) → Row → Row → Bool
+follows test so_far e = (nat_lt so_far.begin e.begin && nat_lt e.begin so_far.end) && test so_far.payload e.payload
 
 -- the row so far with one row more, where that may be the next one
-abbrev pub next_passing : List Test → Row → Row → List Row
-next_passing tests so_far e = if follows tests so_far e then record { end = so_far.end; begin = e.begin; payload = so_far.payload ++ e.payload } ∷ [] else []
+abbrev pub next_passing : (List Field → List Field → Bool) → Row → Row → List Row
+next_passing test so_far e = if follows test so_far e then record { end = so_far.end; begin = e.begin; payload = so_far.payload ++ e.payload } ∷ [] else []
 
 -- the rows so far with one row more of a table that may be the next one
-abbrev pub grown_passing : List Test → List Row → List Row → List Row
-grown_passing tests so_far rows = flat_map (λ p. flat_map (next_passing tests p) rows) so_far
+abbrev pub grown_passing : (List Field → List Field → Bool) → List Row → List Row → List Row
+grown_passing test so_far rows = flat_map (λ p. flat_map (next_passing test p) rows) so_far
 
 -- the rows so far with one row more of each of some tables
 abbrev pub grown_all : List Row → Tables → List Row

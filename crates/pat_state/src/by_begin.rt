@@ -1,7 +1,8 @@
-ghost use Rattle.std.specs.Prelude.{◌≡◌, ◌++◌, [], length, not, OnOk, OnErr, IfOk};
+ghost use Rattle.std.specs.Prelude.{◌≡◌, ◌++◌, [], length, not, OnOk, OnErr, IfOk, IfSome};
 ghost use Rattle.std.specs.List.{filter};
 ghost use Rattle.cedr_base.specs.declared.time.TheConstants.{FOREVER};
-ghost use Rattle.cedr_base.specs.Rows.{in_order, SameRows};
+ghost use Rattle.cedr_base.specs.declared.row.Row.{Row as RowValue};
+ghost use Rattle.cedr_base.specs.Rows.{in_order, count_of, SameRows};
 ghost use Rattle.cedr_base.specs.Changes.{puts, takes};
 ghost use Rattle.cedr_table.specs.Counted.{spread, IsTakenOut};
 ghost use Rattle.pat_state.specs.Starts.{endless, all_endless, begins_within, scope_reaches, AreEndless, AreInScope, HasRow};
@@ -137,7 +138,8 @@ impl ByBegin {
     /// Takes the first row away, all copies of it, where its scope, which begins with it, ends by a time, and gives it with
     /// their number. It takes no memory. O(log n).
     pub(crate) fn pop_passed(&mut self, scope: u64, time: Time) -> Option<(Row, usize)>
-        ensures { IsTakenOut (λ r. not (scope_reaches scope time r)) self.old self.new result }
+        ensures taken { IsTakenOut (λ r. not (scope_reaches scope time r)) self.old self.new result }
+        ensures alone { IfSome result (λ gone. (r : RowValue) → r.begin ≡ gone.0.begin → r.payload ≡ gone.0.payload → count_of r self.new ≡ 0) }
     {
         pop_passed(&mut self.rows, scope, time)
     }

@@ -1,4 +1,4 @@
-ghost use Rattle.std.specs.Prelude.{◌≡◌, ◌<◌, ◌∷◌, ◌++◌, [], List, true, replicate, OnOk, IfOk};
+ghost use Rattle.std.specs.Prelude.{ℕ, ◌≡◌, ◌<◌, ◌∷◌, ◌++◌, [], List, true, replicate, OnOk, IfOk};
 ghost use Rattle.std.specs.List.{filter};
 ghost use Rattle.cedr_base.specs.declared.row.Row.{Row as RowValue};
 ghost use Rattle.cedr_base.specs.Rows.{count_of, SameRows};
@@ -83,17 +83,15 @@ impl ByTag {
         Ok(())
     }
 
-    /// Takes so many copies of a row with a tag away, and gives the row with the tag back. It takes no memory. O(log n)
-    /// comparisons in the different rows for each.
-    pub(crate) fn take_copies(&mut self, tag: u64, row: Row, count: usize) -> Row
+    /// Takes all copies of a row with a tag away, and gives the row with the tag back. It takes no memory. O(log n)
+    /// comparisons in the different rows, and one search.
+    pub(crate) fn remove_copies(&mut self, tag: u64, row: Row) -> Row
         ensures row { result ≡ marked tag row }
-        ensures left { (rest : List RowValue) → SameRows self.old (replicate count (marked tag row) ++ rest) → SameRows self.new rest }
+        ensures left { (count : ℕ) (rest : List RowValue) → count_of (marked tag row) rest ≡ 0 → SameRows self.old (replicate count (marked tag row) ++ rest) → SameRows self.new rest }
     {
         let mut marked = row;
         marked.end = tag;
-        for _ in 0..count {
-            self.rows.take(&marked);
-        }
+        self.rows.remove(&marked);
         marked
     }
 

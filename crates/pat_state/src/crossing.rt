@@ -55,11 +55,11 @@ fn forget_crossed(
     ensures second { IsTagged (right_tag width tests.now) rows.new second_tags.new }
     ensures left { SameRows rows.new (filter (scope_reaches scope time) rows.old) }
 {
-    while let Some((row, count)) = rows.pop_passed(scope, time) {
+    while let Some((row, _)) = rows.pop_passed(scope, time) {
         let first = tests.side_tag(Side::Left, width, &row.payload);
         let second = tests.side_tag(Side::Right, width, &row.payload);
-        let row = first_tags.take_copies(first, row, count);
-        second_tags.take_copies(second, row, count);
+        let row = first_tags.remove_copies(first, row);
+        second_tags.remove_copies(second, row);
     }
 }
 

@@ -119,7 +119,7 @@ impl Grouped {
         ensures ok { OnOk result (IsKeptStep (grouped_rows self.old) (grouped_rows self.new) port change.now) }
         ensures tags { OnOk result (AreGrouped tests.now self.new) }
     {
-        self.settle(alloc, tests, change.row().payload.fields().len())?;
+        self.settle(alloc, tests, change.row().payload.len())?;
         self.ports[port].apply(alloc, self.width, self.column, change)
     }
 
@@ -130,7 +130,7 @@ impl Grouped {
         ensures tag { IfSome result (λ tag. tag ≡ key_tag self.now.width self.now.column row.now.payload) }
         ensures others { IfSome result (λ tag. All LacksOthers self.now.ports.items) }
     {
-        let payload = row.payload.fields();
+        let payload = &row.payload;
         if number != self.number || payload.len() != self.width || !self.lacks_others() {
             return None;
         }

@@ -2,7 +2,7 @@ ghost use Rattle.std.specs.Prelude.{ℕ, ◌≡◌, List, [], All, true, OnOk, I
 ghost use Rattle.cedr_expr.specs.declared.test.Test.{Test};
 ghost use Rattle.pat_state.specs.Keys.{IsWanted, AreEqual, AreAllEqual, IsKey, key_tag};
 
-use cedr_base::{Field, OutOfMemory};
+use cedr_base::{OutOfMemory, Payload};
 use cedr_expr::{Op, Operand, Test, Tests, field_tag};
 use std::alloc::Global;
 
@@ -112,15 +112,15 @@ pub(crate) fn find_key(
 }
 
 /// The tag of a payload: 0 where it has another width.
-pub(crate) fn key_tag(width: usize, column: Option<usize>, payload: &[Field]) -> u64
+pub(crate) fn key_tag(width: usize, column: Option<usize>, payload: &Payload) -> u64
     ensures { result ≡ key_tag width column payload.now }
 {
     if payload.len() != width {
         return 0;
     }
     match column {
-        Some(column) => match payload.get(column) {
-            Some(field) => field_tag(field),
+        Some(column) => match payload.field(column) {
+            Some(field) => field_tag(&field),
             None => 1,
         },
         None => 1,

@@ -42,9 +42,9 @@ fn forget_keyed(
     ensures tagged { IsTagged (key_tag width column) rows.new tags.new }
     ensures left { SameRows rows.new (filter (scope_reaches scope time) rows.old) }
 {
-    while let Some((row, count)) = rows.pop_passed(scope, time) {
-        let tag = key_tag(width, column, row.payload.fields());
-        tags.take_copies(tag, row, count);
+    while let Some((row, _)) = rows.pop_passed(scope, time) {
+        let tag = key_tag(width, column, &row.payload);
+        tags.remove_copies(tag, row);
     }
 }
 
@@ -81,7 +81,7 @@ impl Keyed {
         ensures keyed { OnOk result (IsKeyed width column self.new) }
         ensures rows { OnOk result (SameRows (self.new.rows ++ all_endless (takes change.now)) (self.old.rows ++ all_endless (puts change.now))) }
     {
-        let tag = key_tag(width, column, change.row().payload.fields());
+        let tag = key_tag(width, column, &change.row().payload);
         apply_tagged(alloc, &mut self.tags, tag, change)?;
         self.rows.apply(alloc, change)
     }

@@ -3,12 +3,21 @@ ghost use Rattle.std.specs.List.{flat_map, filter};
 ghost use Rattle.cedr_base.specs.declared.time.TheConstants.{FOREVER};
 ghost use Rattle.pat_state.specs.Starts.{begins_within};
 ghost use Rattle.pat_state.specs.Groups.{seen, all_seen};
-ghost use Rattle.pat_state.specs.Steps.{begun, tests_in, follows, next_passing, grown_passing, near_at, firsts, picked, is_match, matches, AreAmongPorts};
+ghost use Rattle.pat_state.specs.Steps.{begun, stage_tests, follows, next_passing, grown_passing, near_at, firsts, picked, is_match, matches, AreAmongPorts};
 
 use crate::keyed::Keyed;
 use cedr_base::{OutOfMemory, Payload, Row, Time, later};
 use cedr_expr::Tests;
 use std::alloc::Global;
+
+/// Which tests a row has to pass with the row so far of a choice.
+#[derive(Clone, Copy, PartialEq, Eq)]
+pub(crate) enum Stage {
+    /// Those of which the two have the columns, since more rows come after it.
+    Before,
+    /// All of them, since it is the last one.
+    Last,
+}
 
 /// The row so far of a choice that begins with this row: it ends when the scope does.
 pub(crate) fn begun(alloc: Global, scope: u64, row: &Row) -> Result<Row, OutOfMemory>
@@ -108,31 +117,32 @@ fn push_joined(
 }
 
 /// Whether a row may be the next one of a choice: it begins later and within the scope, and with the row so far it
-/// passes the tests, where there are some.
-fn follows(tests: Option<&Tests>, so_far: &Row, row: &Row) -> bool
-    ensures { result ≡ follows (tests_in tests.entry) so_far.now row.now }
+/// passes what it has to.
+fn follows(tests: &Tests, stage: Stage, so_far: &Row, row: &Row) -> bool
+    ensures { result ≡ follows (stage_tests stage tests.now) so_far.now row.now }
 {
     if so_far.begin >= row.begin || row.begin >= so_far.end {
         return false;
     }
-    match tests {
-        Some(tests) => tests.holds(&so_far.payload, &row.payload),
-        None => true,
+    match stage {
+        Stage::Before => tests.may_hold(&so_far.payload, &row.payload),
+        Stage::Last => tests.holds(&so_far.payload, &row.payload),
     }
 }
 
 /// Appends the row so far with one row more where that may be the next one, once for each copy of the row.
 pub(crate) fn push_next(
     alloc: Global,
-    tests: Option<&Tests>,
+    tests: &Tests,
+    stage: Stage,
     so_far: &Row,
     row: &Row,
     count: usize,
     rows: &mut Vec<Row>,
 ) -> Result<(), OutOfMemory>
-    ensures { OnOk result (rows.new.items ≡ rows.old.items ++ flat_map (next_passing (tests_in tests.entry) so_far.now) (replicate count row.now)) }
+    ensures { OnOk result (rows.new.items ≡ rows.old.items ++ flat_map (next_passing (stage_tests stage tests.now) so_far.now) (replicate count row.now)) }
 {
-    if follows(tests, so_far, row) {
+    if follows(tests, stage, so_far, row) {
         push_joined(alloc, so_far, row, count, rows)
     } else {
         Ok(())
@@ -142,17 +152,18 @@ pub(crate) fn push_next(
 /// The same for each row that begins before a time.
 fn push_before(
     alloc: Global,
-    tests: Option<&Tests>,
+    tests: &Tests,
+    stage: Stage,
     kept: &Keyed,
     tag: Option<u64>,
     so_far: &Row,
     before: Time,
     rows: &mut Vec<Row>,
 ) -> Result<(), OutOfMemory>
-    ensures { OnOk result (rows.new.items ≡ rows.old.items ++ flat_map (next_passing (tests_in tests.entry) so_far.now) (filter (begins_within so_far.now.begin before) (seen tag kept.now))) }
+    ensures { OnOk result (rows.new.items ≡ rows.old.items ++ flat_map (next_passing (stage_tests stage tests.now) so_far.now) (filter (begins_within so_far.now.begin before) (seen tag kept.now))) }
 {
     for (row, count) in kept.within(alloc, tag, so_far.begin, before) {
-        push_next(alloc, tests, so_far, row, *count, rows)?;
+        push_next(alloc, tests, stage, so_far, row, *count, rows)?;
     }
     Ok(())
 }
@@ -161,7 +172,8 @@ fn push_before(
 /// begin before it.
 fn push_port(
     alloc: Global,
-    tests: Option<&Tests>,
+    tests: &Tests,
+    stage: Stage,
     kept: &Keyed,
     tag: Option<u64>,
     changed: usize,
@@ -170,22 +182,23 @@ fn push_port(
     so_far: &Row,
     rows: &mut Vec<Row>,
 ) -> Result<(), OutOfMemory>
-    ensures { OnOk result (rows.new.items ≡ rows.old.items ++ flat_map (next_passing (tests_in tests.entry) so_far.now) (near_at row.now changed place (seen tag kept.now))) }
+    ensures { OnOk result (rows.new.items ≡ rows.old.items ++ flat_map (next_passing (stage_tests stage tests.now) so_far.now) (near_at row.now changed place (seen tag kept.now))) }
 {
     if place == changed {
-        push_next(alloc, tests, so_far, row, 1, rows)
+        push_next(alloc, tests, stage, so_far, row, 1, rows)
     } else if place < changed {
         let before = so_far.end.min(row.begin);
-        push_before(alloc, tests, kept, tag, so_far, before, rows)
+        push_before(alloc, tests, stage, kept, tag, so_far, before, rows)
     } else {
-        push_before(alloc, tests, kept, tag, so_far, so_far.end, rows)
+        push_before(alloc, tests, stage, kept, tag, so_far, so_far.end, rows)
     }
 }
 
-/// The rows so far with one row more of a port, with which they pass the tests, where there are some.
+/// The rows so far with one row more of a port, with which they pass what they have to.
 fn grown(
     alloc: Global,
-    tests: Option<&Tests>,
+    tests: &Tests,
+    stage: Stage,
     kept: &Keyed,
     tag: Option<u64>,
     changed: usize,
@@ -193,12 +206,12 @@ fn grown(
     place: usize,
     so_far: &[Row],
 ) -> Result<Vec<Row>, OutOfMemory>
-    ensures { IfOk result (λ rows. rows.items ≡ grown_passing (tests_in tests.entry) so_far.now (near_at row.now changed place (seen tag kept.now))) }
+    ensures { IfOk result (λ rows. rows.items ≡ grown_passing (stage_tests stage tests.now) so_far.now (near_at row.now changed place (seen tag kept.now))) }
 {
     let mut rows = Vec::new(alloc);
     for partial in so_far {
         push_port(
-            alloc, tests, kept, tag, changed, row, place, partial, &mut rows,
+            alloc, tests, stage, kept, tag, changed, row, place, partial, &mut rows,
         )?;
     }
     Ok(rows)
@@ -221,9 +234,9 @@ fn find_alone(alloc: Global, scope: u64, tests: &Tests, row: &Row) -> Result<Vec
 /// The rows of the choices of one row of each of some ports, begun one after the other in their order, with a changed row on
 /// its place among them: all rows of the ports, or those that have a tag.
 ///
-/// Only rows are looked at that begin less than the scope before or after it. On each port but the last it joins the
-/// payloads of the rows so far, as the next port has to see them. On the last one it runs the tests first, on the payload
-/// so far and that of the last row, and joins only what passes.
+/// Only rows are looked at that begin less than the scope before or after it. On each port it runs the tests first, on the
+/// payload so far and that of the next row, and joins only what passes: on the last port all tests, and before it those of
+/// which the two have the columns, since a choice that fails one of them fails it whatever rows come after.
 pub(crate) fn find_among(
     alloc: Global,
     scope: u64,
@@ -247,12 +260,23 @@ pub(crate) fn find_among(
     let mut rows = first_rows(alloc, scope, &kept[order[0]], tag, changed, row)?;
     for place in 1..last {
         let bag = &kept[order[place]];
-        rows = grown(alloc, None, bag, tag, changed, row, place, rows.as_slice())?;
+        rows = grown(
+            alloc,
+            tests,
+            Stage::Before,
+            bag,
+            tag,
+            changed,
+            row,
+            place,
+            rows.as_slice(),
+        )?;
     }
     let bag = &kept[order[last]];
     grown(
         alloc,
-        Some(tests),
+        tests,
+        Stage::Last,
         bag,
         tag,
         changed,

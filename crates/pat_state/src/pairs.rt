@@ -6,13 +6,14 @@ ghost use Rattle.cedr_table.specs.Counted.{spread};
 ghost use Rattle.pat_state.specs.Starts.{AreInScope};
 ghost use Rattle.cedr_base.specs.declared.row.Row.{Row as RowValue};
 ghost use Rattle.cedr_expr.specs.Tags.{left_tag, right_tag};
+ghost use Rattle.cedr_expr.specs.Tests.{passes};
 ghost use Rattle.pat_state.specs.Tags.{IsTagged};
 ghost use Rattle.pat_state.specs.Tied.{AreTied};
 ghost use Rattle.pat_state.specs.Steps.{begun, next_passing, matches};
 
 use crate::by_begin::ByBegin;
 use crate::by_tag::ByTag;
-use crate::matches::{begun, push_next};
+use crate::matches::{Stage, begun, push_next};
 use crate::tied::{Tied, beside_left, beside_right};
 use cedr_base::{OutOfMemory, Row};
 use cedr_expr::Tests;
@@ -27,10 +28,10 @@ fn push_seconds(
     some: Range<'_, Row, usize>,
     rows: &mut Vec<Row>,
 ) -> Result<(), OutOfMemory>
-    ensures { OnOk result (rows.new.items ≡ rows.old.items ++ flat_map (next_passing tests.now so_far.now) (spread some.entry)) }
+    ensures { OnOk result (rows.new.items ≡ rows.old.items ++ flat_map (next_passing (passes tests.now) so_far.now) (spread some.entry)) }
 {
     for (row, count) in some {
-        push_next(alloc, Some(tests), so_far, row, *count, rows)?;
+        push_next(alloc, tests, Stage::Last, so_far, row, *count, rows)?;
     }
     Ok(())
 }
@@ -47,13 +48,13 @@ fn push_first(
 ) -> Result<(), OutOfMemory>
     requires begin { first.now.begin ≤ FOREVER }
     requires scope { scope ≤ 2 ^ 40 }
-    ensures { OnOk result (rows.new.items ≡ rows.old.items ++ flat_map (next_passing tests.now (begun scope first.now)) (replicate count second.now)) }
+    ensures { OnOk result (rows.new.items ≡ rows.old.items ++ flat_map (next_passing (passes tests.now) (begun scope first.now)) (replicate count second.now)) }
 {
     if !tests.holds(&first.payload, &second.payload) {
         return Ok(());
     }
     let so_far = begun(alloc, scope, first)?;
-    push_next(alloc, Some(tests), &so_far, second, count, rows)
+    push_next(alloc, tests, Stage::Last, &so_far, second, count, rows)
 }
 
 /// The same for each of some first rows.
@@ -67,7 +68,7 @@ fn push_firsts(
 ) -> Result<(), OutOfMemory>
     requires scope { scope ≤ 2 ^ 40 }
     requires within { (from before : ℕ) × (before ≤ FOREVER) × AreInScope from before some }
-    ensures { OnOk result (rows.new.items ≡ rows.old.items ++ flat_map (λ r. next_passing tests.now (begun scope r) second.now) (spread some.entry)) }
+    ensures { OnOk result (rows.new.items ≡ rows.old.items ++ flat_map (λ r. next_passing (passes tests.now) (begun scope r) second.now) (spread some.entry)) }
 {
     for (first, count) in some {
         push_first(alloc, scope, tests, first, *count, second, rows)?;

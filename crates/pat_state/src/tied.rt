@@ -99,9 +99,9 @@ fn forget_side(
     ensures tagged { IsTagged (side_tag side width tests.now) rows.new tags.new }
     ensures left { SameRows rows.new (filter (scope_reaches scope time) rows.old) }
 {
-    while let Some((row, count)) = rows.pop_passed(scope, time) {
+    while let Some((row, _)) = rows.pop_passed(scope, time) {
         let tag = tests.side_tag(side, width, &row.payload);
-        tags.take_copies(tag, row, count);
+        tags.remove_copies(tag, row);
     }
 }
 
@@ -166,7 +166,7 @@ impl Tied {
         ensures right { self.new.right ≡ self.old.right }
     {
         let payload = &change.row().payload;
-        self.settle(alloc, tests, payload.fields().len())?;
+        self.settle(alloc, tests, payload.len())?;
         let tag = tests.side_tag(Side::Left, self.width, payload);
         apply_tagged(alloc, &mut self.left_tags, tag, change)?;
         self.left.apply(alloc, change)
@@ -271,7 +271,7 @@ pub(crate) fn beside_left<'a>(
     ensures within { AreInScope from before result }
     ensures rows { (weight : RowValue → ℕ) → IsSought (λ (fields : List Field). passes tests.now payload.now fields) weight → sum_by weight (spread result) ≡ sum_by weight (filter (begins_within from before) rows.now) }
 {
-    if payload.fields().len() == width {
+    if payload.len() == width {
         let tag = tests.tag(Side::Left, width, payload);
         tags.within(alloc, tag, from, before)
     } else {

@@ -7,8 +7,8 @@ use thiserror::Error;
 /// Why there is no choice of columns.
 #[derive(Clone, Copy, Debug, PartialEq, Eq, Error)]
 pub enum KeyFault {
-    /// No columns are kept by all nodes. Of the choices that were tried one that came nearest to a source failed at the node
-    /// at this place, counted from 0.
+    /// No columns are kept by all nodes. The place is that of a node of the plan, counted from 0: one that didn't keep the
+    /// columns that were tried, of the choices that came nearest to a source. No clause says more of it than that it is there.
     #[error("no column of the output is kept by all nodes (node {node})")]
     Unkeyed { node: usize },
     #[error("out of memory")]

@@ -41,9 +41,9 @@ pub fn message_of(alloc: Global, brief: Brief) -> Result<Message, OutOfMemory> {
 
 /// The first number of a row's payload, and -1 where its first field is none.
 fn number_of(row: &Row) -> i128 {
-    match row.payload.fields().first() {
-        Some(Field::Number(number)) => *number,
-        _ => -1,
+    match row.payload.field(0) {
+        Some(field) => field.number().unwrap_or(-1),
+        None => -1,
     }
 }
 

@@ -6,6 +6,6 @@ abbrev pub invariant-loop-field : goal.invariant-loop-field
 invariant-loop-field l = record {
   can_next : (goal.iterator-loop-field).can_next l.field-iterator;
   is_finite : (goal.iterator-loop-field).is_finite l.field-iterator;
-  few : length l.texts.items ≤ 16;
-  all : l.texts.items ++ map (λ text. Bytes text) l.field-iterator ≡ map (λ text. Bytes text) l.fn.fields;
+  few : length l.texts ≤ 16;
+  all : l.texts ++ map (λ text. Bytes text) l.field-iterator ≡ map (λ text. Bytes text) l.fn.fields;
 }

@@ -2,6 +2,7 @@ use Rattle.std.proofs.Common.{◌++◌, ◌∙◌, ap, arith}
 use Rattle.std.specs.List.{flat_map}
 use Rattle.cedr_base.specs.declared.row.Row.{Row}
 use Rattle.cedr_table.specs.Counted.{spread}
+use Rattle.cedr_expr.specs.Tests.{passes}
 use Rattle.pat_state.specs.Steps.{begun, next_passing}
 use Rattle.pat_state.proofs.PairLemmas.{firsts_found}
 use Rattle.pat_state.proofs.pairs.find_firsts.Goals as goal
@@ -14,7 +15,7 @@ push_firsts-requires-2-clause-within c = let early = c.requires.begin in (c.satu
 
 pub returns : goal.returns
 returns c = λ firsts seconds tagged.
-    let f = λ (r : Row). next_passing c.args.tests.now (begun c.args.scope r) c.args.row.now in
+    let f = λ (r : Row). next_passing (passes c.args.tests.now) (begun c.args.scope r) c.args.row.now in
     let first = flat_map f (spread c.beside_right-tagged.result.0) in
     let second = flat_map f (spread c.beside_right-tagged.result.1) in
     firsts_found c.args.scope c.args.tests.now c.args.row.now c.saturating_sub-from.result firsts seconds c.push_firsts-2.new.rows.items c.beside_right-tagged.result.0 c.beside_right-tagged.result.1 c.saturating_sub-from.ensures

@@ -3,4 +3,4 @@ use Rattle.cedr_expr.specs.Columns.{kept_columns}
 use Rattle.cedr_expr.proofs.keep.Keep.apply.Given as goal
 
 abbrev pub invariant-loop-column : goal.invariant-loop-column
-invariant-loop-column l = l.chosen.items ≡ kept_columns (take l.column-index l.self) l.payload
+invariant-loop-column l = l.chosen ≡ kept_columns (take l.column-index l.self) l.payload

@@ -1,8 +1,7 @@
-use Rattle.filed_rows.proofs.EndLemmas.{end_there, ends_noted}
+use Rattle.filed_rows.proofs.EndLemmas.{ends_noted}
 use Rattle.filed_rows.proofs.filed.Filed.note.Goals as goal
 
-pub note_end-requires : goal.note_end-requires
-note_end-requires c = end_there c.args.change c.args.tag c.args.self.now.by_tag.entries c.args.self.now.ends c.requires.ends c.requires.there
-
 pub returns-clause-ends : goal.returns-clause-ends
-returns-clause-ends c = ends_noted c.args.change c.args.tag c.args.self.now.by_tag.entries c.note_row.new.by_tag.entries c.args.self.now.ends c.note_end.new.ends c.requires.ends c.in_ok-note_row.ensures.here c.in_ok-note_row.ensures.others c.in_ok-note_end.ensures
+returns-clause-ends c =
+    ends_noted c.args.change c.args.tag c.args.self.now.by_tag.entries c.note_row.new.by_tag.entries c.args.self.now.ends c.note_end.new.ends c.requires.ends c.in_ok-note_row.ensures.here c.in_ok-note_row.ensures.others
+    c.in_ok-note_end.ensures.there c.in_ok-note_end.ensures.others

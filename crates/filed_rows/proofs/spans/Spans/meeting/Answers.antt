@@ -1,7 +1,5 @@
-use Rattle.std.proofs.Common.{subst, List}
-use Rattle.cedr_base.specs.declared.row.Row.{Row}
 use Rattle.cedr_table.specs.Counted.{spread}
-use Rattle.filed_rows.specs.Spans.{AreAmong, begins_before}
+use Rattle.filed_rows.specs.Spans.{begins_before}
 use Rattle.filed_rows.proofs.SpanLemmas.{meeting_is, among_filtered, among_first, among_second}
 use Rattle.filed_rows.proofs.spans.Spans.meeting.Goals as goal
 
