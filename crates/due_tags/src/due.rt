@@ -1,4 +1,4 @@
-ghost use Rattle.std.specs.Prelude.{ℕ, ◌≡◌, ◌<◌, ◌≤◌, ◌∷◌, [], All, true, false, slice_index_or, OnOk, OnErr, IfSome, IfNone};
+ghost use Rattle.std.specs.Prelude.{ℕ, ◌≡◌, ◌<◌, ◌≤◌, ◌∷◌, [], All, true, false, length, slice_index_or, OnOk, OnErr, IfSome, IfNone};
 ghost use Rattle.std.specs.List.Sorted.{IsPermutation};
 
 use cedr_base::{OutOfMemory, Time};
@@ -42,6 +42,13 @@ impl DueTags {
         }
     }
 
+    /// How many times there are. It takes no memory. O(1).
+    pub fn len(&self) -> usize
+        ensures { result ≡ length self.now }
+    {
+        self.heap.len()
+    }
+
     /// Adds a time with a tag. Where memory runs out nothing changes. O(log n) comparisons, and one where the time comes
     /// after all others.
     pub fn push(&mut self, time: Time, tag: u64) -> Result<(), OutOfMemory>
@@ -79,7 +86,7 @@ impl DueTags {
         Some(due)
     }
 
-    /// Takes all times away. It takes no memory. O(n).
+    /// Takes all times away. It takes no memory, and keeps the room for as many. O(n).
     pub fn clear(&mut self)
         ensures { self.new ≡ [] }
     {

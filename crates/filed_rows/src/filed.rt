@@ -1,4 +1,4 @@
-ghost use Rattle.std.specs.Prelude.{ℕ, ◌≡◌, ◌≢◌, ◌<◌, ◌≤◌, ◌++◌, ◌∷◌, [], true, false, IfOk, OnOk};
+ghost use Rattle.std.specs.Prelude.{ℕ, ◌≡◌, ◌≢◌, ◌+◌, ◌<◌, ◌≤◌, ◌++◌, ◌∷◌, [], true, false, length, IfOk, OnOk};
 ghost use Rattle.std.specs.List.{filter, Contains};
 ghost use Rattle.std.specs.BTreeMap.{IsOrdered};
 ghost use Rattle.std.specs.Ordering.{nat_cmp};
@@ -21,15 +21,22 @@ use std::collections::btree_map::Entry;
 pub type ByTag = BTreeMap<u64, Spans>;
 
 /// Rows by their tags, and the ends of those that end, each with its row's tag: by these the rows that ended are found
-/// without a look at the others. The end of a row that was cut or taken away stays there until it is due.
+/// without a look at the others. The end of a row that was cut or taken away stays there until it is due, or until the
+/// ends have outgrown the rows and are noted anew.
 pub struct Filed {
     pub by_tag: ByTag,
     pub ends: DueTags,
+    /// How many rows there are, each copy counted.
+    len: usize,
 }
 
 impl Drop for Filed {
     fn drop(self) {
-        let Filed { by_tag: _, ends: _ } = self;
+        let Filed {
+            by_tag: _,
+            ends: _,
+            len: _,
+        } = self;
     }
 }
 
@@ -120,6 +127,57 @@ fn note_end(ends: &mut DueTags, tag: u64, change: &Change) -> Result<(), OutOfMe
     }
 }
 
+/// Notes the end of each row that ends of those under a tag.
+fn push_ends(alloc: Global, ends: &mut DueTags, tag: u64, rows: &Spans) -> Result<(), OutOfMemory>
+    ensures there { OnOk result ((r : RowValue) → 0 < count_of r rows.now → r.end < FOREVER → Contains ends.new (r.end, tag)) }
+    ensures others { OnOk result ((due : ℕ × ℕ) → Contains ends.old due → Contains ends.new due) }
+{
+    for (row, _) in rows.ended_by(alloc, FOREVER - 1) {
+        ends.push(row.end, tag)?;
+    }
+    Ok(())
+}
+
+/// Notes the ends anew: those of the rows that are there, one for each different row. These were all noted before, so
+/// there is room for them. O(log n) for each of them, and a look at each tag.
+fn renew_ends(alloc: Global, by_tag: &ByTag, ends: &mut DueTags) -> Result<(), OutOfMemory>
+    ensures { OnOk result (AreEnds by_tag.now.entries ends.new) }
+{
+    ends.clear();
+    for (tag, rows) in by_tag {
+        push_ends(alloc, ends, *tag, rows)?;
+    }
+    Ok(())
+}
+
+/// Notes the ends anew where they have outgrown the rows, of which there are this many, each copy counted: where there
+/// are more than twice as many and 64.
+fn limit_ends(
+    alloc: Global,
+    by_tag: &ByTag,
+    ends: &mut DueTags,
+    len: usize,
+) -> Result<(), OutOfMemory>
+    requires { AreEnds by_tag.now.entries ends.old }
+    ensures { OnOk result (AreEnds by_tag.now.entries ends.new) }
+{
+    if ends.len() > len.saturating_mul(2).saturating_add(64) {
+        renew_ends(alloc, by_tag, ends)?;
+    }
+    Ok(())
+}
+
+/// How many rows there are after a change.
+fn len_after(len: usize, change: &Change) -> usize
+    ensures { len < usize.MAX → length (takes change.now) ≤ len → result + length (takes change.now) ≡ len + length (puts change.now) }
+{
+    match change {
+        Change::Add(_) => len.saturating_add(1),
+        Change::Cut(row, end) if row.begin >= *end => len.saturating_sub(1),
+        Change::Cut(..) => len,
+    }
+}
+
 impl Filed {
     /// No row. It takes no memory.
     pub fn new(alloc: Global) -> Filed
@@ -130,11 +188,16 @@ impl Filed {
         Filed {
             by_tag: BTreeMap::new(alloc),
             ends: DueTags::new(alloc),
+            len: 0,
         }
     }
 
     /// Applies a change to the rows under its row's tag. Where memory runs out rows may be lost.
     /// O(log n) comparisons.
+    ///
+    /// It leaves at most twice as many ends as rows, each copy counted, and 64. Where there would be more, they are noted anew:
+    /// more rows that end were cut since the last time than there are rows and 64, so it costs less than one end and one look
+    /// at a tag for each of them. No clause speaks of this bound and of this cost.
     pub fn note(&mut self, alloc: Global, tag: u64, change: Change) -> Result<(), OutOfMemory>
         requires there { LacksRow (under self.old.by_tag.entries tag) change → ⊥ }
         requires ends { AreEnds self.old.by_tag.entries self.old.ends }
@@ -144,7 +207,9 @@ impl Filed {
         ensures ordered { OnOk result (IsOrdered nat_cmp self.new.by_tag) }
     {
         note_end(&mut self.ends, tag, &change)?;
+        self.len = len_after(self.len, &change);
         note_row(alloc, &mut self.by_tag, tag, change)?;
+        limit_ends(alloc, &self.by_tag, &mut self.ends, self.len)?;
         Ok(())
     }
 
@@ -158,16 +223,18 @@ impl Filed {
         ensures ordered { IsOrdered nat_cmp self.new.by_tag }
     {
         if time < FOREVER {
-            forget_due(&mut self.by_tag, &mut self.ends, time);
+            let gone = forget_due(&mut self.by_tag, &mut self.ends, time);
+            self.len = self.len.saturating_sub(gone);
         } else {
             forget_all(&mut self.by_tag, time);
             self.ends.clear();
+            self.len = 0;
         }
     }
 }
 
-/// Forgets the rows that end at a time or before: each has its end among these.
-fn forget_due(by_tag: &mut ByTag, ends: &mut DueTags, time: Time)
+/// Forgets the rows that end at a time or before, and says how many they were: each has its end among these.
+fn forget_due(by_tag: &mut ByTag, ends: &mut DueTags, time: Time) -> usize
     requires time { time < FOREVER }
     requires ends { AreEnds by_tag.old.entries ends.old }
     requires ordered { IsOrdered nat_cmp by_tag.old }
@@ -175,9 +242,11 @@ fn forget_due(by_tag: &mut ByTag, ends: &mut DueTags, time: Time)
     ensures ends { AreEnds by_tag.new.entries ends.new }
     ensures ordered { IsOrdered nat_cmp by_tag.new }
 {
+    let mut gone = 0usize;
     while let Some((_, tag)) = ends.pop_due(time) {
-        forget_under(by_tag, tag, time);
+        gone = gone.saturating_add(forget_under(by_tag, tag, time));
     }
+    gone
 }
 
 /// Forgets the rows of each tag that end at a time or before.
@@ -198,27 +267,33 @@ fn shorten(rows: &mut Spans, time: Time) -> bool
     !rows.is_empty()
 }
 
-/// Forgets the rows under a tag that end at a time or before.
-fn forget_under(by_tag: &mut ByTag, tag: u64, time: Time)
+/// Forgets the rows under a tag that end at a time or before, and says how many of those that end they were.
+fn forget_under(by_tag: &mut ByTag, tag: u64, time: Time) -> usize
     ensures here { SameRows (under by_tag.new.entries tag) (filter (ends_after time) (under by_tag.old.entries tag)) }
     ensures others { (q : ℕ) → q ≢ tag → under by_tag.new.entries q ≡ under by_tag.old.entries q }
     ensures ordered { IsOrdered nat_cmp by_tag.new }
 {
-    if shorten_under(by_tag, tag, time) {
+    let (gone, emptied) = shorten_under(by_tag, tag, time);
+    if emptied {
         by_tag.remove(&tag);
     }
+    gone
 }
 
 /// The same, and says whether no row is left under the tag.
-fn shorten_under(by_tag: &mut ByTag, tag: u64, time: Time) -> bool
+fn shorten_under(by_tag: &mut ByTag, tag: u64, time: Time) -> (usize, bool)
     ensures here { SameRows (under by_tag.new.entries tag) (filter (ends_after time) (under by_tag.old.entries tag)) }
     ensures others { (q : ℕ) → q ≢ tag → under by_tag.new.entries q ≡ under by_tag.old.entries q }
-    ensures emptied { result ≡ true → under by_tag.new.entries tag ≡ [] }
+    ensures emptied { result.1 ≡ true → under by_tag.new.entries tag ≡ [] }
     ensures ordered { IsOrdered nat_cmp by_tag.new }
 {
     match by_tag.get_mut(&tag) {
-        Some(rows) => !shorten(rows, time),
-        None => false,
+        Some(rows) => {
+            let before = rows.ending_len();
+            let left = shorten(rows, time);
+            (before.saturating_sub(rows.ending_len()), !left)
+        }
+        None => (0, false),
     }
 }
 

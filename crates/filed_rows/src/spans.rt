@@ -1,4 +1,4 @@
-ghost use Rattle.std.specs.Prelude.{◌≡◌, ◌<◌, ◌++◌, ◌∷◌, [], OnOk, nat_eq, length};
+ghost use Rattle.std.specs.Prelude.{◌≡◌, ◌<◌, ◌≤◌, ◌++◌, ◌∷◌, [], OnOk, nat_eq, length};
 ghost use Rattle.std.specs.List.{filter};
 ghost use Rattle.cedr_base.specs.declared.time.TheConstants.{FOREVER};
 ghost use Rattle.cedr_base.specs.Rows.{in_order, count_of, SameRows};
@@ -74,6 +74,13 @@ impl Spans {
         ensures { result ≡ nat_eq (length self.now) 0 }
     {
         self.ending.len() == 0 && self.unended.len() == 0
+    }
+
+    /// How many rows end, each copy counted. It takes no memory. O(1).
+    pub(crate) fn ending_len(&self) -> usize
+        ensures { result ≤ length self.now }
+    {
+        self.ending.len()
     }
 
     /// Adds a row. O(log n) comparisons in the different rows.
