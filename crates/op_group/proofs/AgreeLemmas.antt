@@ -9,7 +9,7 @@ use Rattle.change_laws.specs.Agreeing.{AgreeUpTo}
 use Rattle.cedr_table.specs.Counted.{SameAmong}
 use Rattle.cedr_table.specs.Operators.{table_at, mark_at}
 use Rattle.cedr_table.proofs.FilterLemmas.{sum_by-among}
-use Rattle.op_group.specs.Groups.{Grouping, column_number, key_of, same_payload, rows_of, grouped, open_from, lives_at, group_of}
+use Rattle.op_group.specs.Groups.{Grouping, key_of, same_payload, rows_of, grouped, open_from, lives_at, group_of}
 use Rattle.op_group.specs.Cuts.{one_at}
 use Rattle.op_group.specs.Measures.{edge_at, part_at, key_in}
 use Rattle.op_group.specs.LawWords.{keyed, SameAt}

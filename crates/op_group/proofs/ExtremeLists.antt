@@ -1,6 +1,6 @@
 -- Lists of fields that may be there, item by item.
 use Rattle.std.proofs.Common.{◌≡◌, ℕ, suc, ◌+◌, ◌<◌, List, [], ◌∷◌, ◌++◌, length, map, replicate, take, get_or, refl, ap, sym, ◌∙◌, arith}
-use Rattle.std.specs.Prelude.{Option, None, Some}
+use Rattle.std.specs.Prelude.{Option, None}
 use Rattle.std.specs.List.{filter_map, cons_option}
 use Rattle.std.proofs.Math.Seq.{take-suc}
 use Rattle.std.proofs.lemmas.List.Elements.{filter_map-append}

@@ -1,28 +1,25 @@
 -- The bags of the groups' fields after a change, and after a mark passed a cut point.
-use Rattle.std.proofs.Common.{◌≡◌, ℕ, ◌+◌, ◌<◌, ◌≤◌, ◌⊎◌, inl, inr, List, [], ◌∷◌, ◌++◌, Bool, true, false, cond, max, refl, ap, sym, ◌∙◌, subst, arith}
-use Rattle.std.specs.Prelude.{nat_eq, nat_lt, ◌&&◌, ◌||◌, is_some, sum_by, Option, None, Some}
+use Rattle.std.proofs.Common.{◌≡◌, ℕ, ◌≤◌, ◌⊎◌, inl, inr, List, Bool, true, false, cond, max, refl, ap, sym, ◌∙◌, subst, arith}
+use Rattle.std.specs.Prelude.{nat_eq, nat_lt, ◌&&◌, ◌||◌, is_some, Option, None, Some}
 use Rattle.std.specs.BTreeMap.{BTreeMap}
 use Rattle.std.specs.List.Sorted.{IsStrictlySortedBy}
 use Rattle.std.specs.Map.{keys_of}
 use Rattle.cedr_base.specs.Order.{payload_cmp}
-use Rattle.std.proofs.lemmas.List.Sums.{sum_by-append}
-use Rattle.std.proofs.lemmas.Bool.{cases_lt, eqb-true, eqb-false}
+use Rattle.std.proofs.lemmas.Bool.{cases_lt, eqb-true}
 use Rattle.cedr_base.specs.declared.field.Field.{Field}
 use Rattle.cedr_base.specs.declared.row.Row.{Row}
 use Rattle.cedr_base.specs.declared.change.Change.{Change}
 use Rattle.cedr_base.specs.Changes.{IsChange, changed_row, sync_of}
 use Rattle.change_laws.specs.Repairs.{IsMoved}
-use Rattle.change_laws.proofs.Moves.{sum_by-moved}
 use Rattle.op_group.specs.declared.bags.Bags.{Bags}
 use Rattle.cedr_living.specs.declared.living.LivingFields.{LivingFields}
 use Rattle.op_group.specs.declared.points.CutPoint.{CutPoint}
 use Rattle.op_group.specs.declared.segment.Segment.{Segment}
-use Rattle.op_group.specs.declared.segment.Totalled.{Totalled}
 use Rattle.op_group.specs.Groups.{Grouping, key_of, same_payload, rows_of}
 use Rattle.cedr_living.specs.Lives.{Living, SameLives}
 use Rattle.cedr_living.specs.Bags.{KeepsLives, IsEmpty, AllEnd}
 use Rattle.cedr_living.specs.BagLaws.{empty_ended}
-use Rattle.op_group.specs.Bags.{BagKeeps, bag_at, field_lives, indexed, lives_of}
+use Rattle.op_group.specs.Bags.{BagKeeps, bag_at, lives_of}
 use Rattle.op_group.specs.BagLaws.{lives_same, bag_alike}
 use Rattle.op_group.specs.Cuts.{segment_at}
 use Rattle.op_group.specs.Points.{has_point, Follows, IsFirstTaken}
@@ -32,7 +29,7 @@ use Rattle.op_group.specs.Measures.{is_cut_of}
 use Rattle.op_group.specs.LawWords.{last_time}
 use Rattle.op_group.specs.BoundLaws.{same_outside}
 use Rattle.op_group.specs.TimeLaws.{above_test}
-use Rattle.op_group.proofs.GroupRepairs.{group_moves, other_sum}
+use Rattle.op_group.proofs.GroupRepairs.{other_sum}
 use Rattle.op_group.proofs.SinceLemmas.{cut_is}
 use Rattle.op_group.proofs.Answered.{seen_before, turned_test}
 

@@ -1,5 +1,5 @@
 -- What a field adds to a sum.
-use Rattle.std.proofs.Common.{◌≡◌, ◌%◌, ◌^◌, ℤ, Option, Some, None, refl, ap}
+use Rattle.std.proofs.Common.{◌≡◌, ◌%◌, ◌^◌, ℤ, Some, None, refl}
 use Rattle.std.specs.Int.{w128, cast_unsigned}
 use Rattle.cedr_base.specs.declared.field.Field.{Field}
 use Rattle.cedr_base.specs.declared.field.Field.TheVariants.{Number, Bytes}

@@ -14,7 +14,7 @@ use Rattle.change_laws.proofs.BagSums.{sum_by-without}
 use Rattle.change_laws.proofs.Moves.{sum_by-moved, remnant_some, remnant_none}
 use Rattle.change_laws.proofs.RepairLemmas.{repair_by_turns}
 use Rattle.op_group.specs.declared.segment.Segment.{Segment}
-use Rattle.op_group.specs.Groups.{Grouping, column_number, key_of, same_payload, rows_of, segments, grouped, open_from}
+use Rattle.op_group.specs.Groups.{Grouping, key_of, same_payload, rows_of, segments, grouped, open_from}
 use Rattle.op_group.specs.Cuts.{differences}
 use Rattle.op_group.specs.Measures.{edge_at, part_at, is_cut_of, key_in, IsGroupRow}
 use Rattle.op_group.specs.FilterLaws.{sum_by-filter}

@@ -1,19 +1,18 @@
 -- The first fields of rows, side by side, after a row came or went.
 use Rattle.std.proofs.Common.{◌≡◌, ℕ, zero, suc, ◌+◌, ◌-◌, ◌<◌, ◌≤◌, ◌⊎◌, inl, inr, List, [], ◌∷◌, ◌++◌, Bool, true, false, cond, length, take, drop, get_or, refl, ap, sym, ◌∙◌, subst, arith}
-use Rattle.std.specs.Prelude.{nat_eq, nat_le, nat_lt, ◌&&◌, ◌||◌, map, sum_by, Option, None, Some, option_map, not}
+use Rattle.std.specs.Prelude.{nat_eq, ◌&&◌, ◌||◌, map, sum_by, Option, None, Some, option_map, not}
 use Rattle.std.specs.List.{filter, filter_map, flat_map, list_any, slice_get, cons_option}
 use Rattle.std.specs.declared.cmp.Ordering.{Ordering}
 use Rattle.std.proofs.Math.ListN.{set}
-use Rattle.std.proofs.lemmas.Bool.{cases_lt, eqb-true, eq-eqb}
+use Rattle.std.proofs.lemmas.Bool.{eqb-true, eq-eqb}
 use Rattle.std.proofs.lemmas.List.{map-append, length-map, take_all, append-nil, drop_all}
 use Rattle.std.proofs.lemmas.Option.{slice_get-map, slice_get-get_or, get_or_from_slice_get}
 use Rattle.std.proofs.lemmas.List.Elements.{filter-append}
-use Rattle.std.proofs.lemmas.List.Sums.{sum_by-cons}
 use Rattle.cedr_base.specs.declared.field.Field.{Field}
 use Rattle.cedr_base.specs.declared.row.Row.{Row}
 use Rattle.cedr_living.specs.Fields.{first_of, first_by}
-use Rattle.cedr_living.specs.FieldLaws.{field_order, field_order_back, first_by_same, first_by_is, first_alike, first_unique, first_by_stays}
-use Rattle.cedr_living.specs.LawWords.{IsAmong, SameFields, IsFieldOrder}
+use Rattle.cedr_living.specs.FieldLaws.{field_order, field_order_back, first_by_same, first_by_is, first_alike, first_unique}
+use Rattle.cedr_living.specs.LawWords.{IsAmong, IsFieldOrder}
 use Rattle.cedr_living.specs.Lives.{Living, fields_at}
 use Rattle.cedr_living.specs.Bags.{KeepsLives}
 use Rattle.cedr_living.specs.declared.living.LivingFields.{LivingFields}

@@ -1,6 +1,6 @@
 -- What the state stands for after a call.
 use Rattle.std.proofs.Common.{◌≡◌, ℕ, ◌≤◌, List, [], ◌∷◌, ◌++◌, length, refl, ap, sym, ◌∙◌, subst, arith}
-use Rattle.std.specs.Prelude.{Result, Ok, Err, OnOk, Bool, true, false, cond, None, nat_le, replicate}
+use Rattle.std.specs.Prelude.{Result, Ok, Err, OnOk, Bool, true, false, cond, None, nat_le}
 use Rattle.std.specs.List.Sorted.{IsStrictlySortedBy}
 use Rattle.std.specs.BTreeMap.{BTreeMap}
 use Rattle.std.specs.Ordering.{nat_cmp}

@@ -1,5 +1,5 @@
 -- The fields of the groups' rows, as bags of them keep them.
-use Rattle.std.specs.Prelude.{ℕ, ◌≡◌, ◌+◌, ◌≤◌, List, [], ◌∷◌, ◌++◌, not, Option, None, Some, option_map, nat_eq, sum_by}
+use Rattle.std.specs.Prelude.{ℕ, ◌≡◌, ◌+◌, ◌≤◌, List, [], ◌++◌, not, Option, None, Some, option_map, nat_eq, sum_by}
 use Rattle.std.specs.List.{filter, filter_map, flat_map, list_any, slice_get}
 use Rattle.std.specs.Map.{lookup}
 use Rattle.std.specs.BTreeMap.{is_at}

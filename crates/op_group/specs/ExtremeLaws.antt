@@ -1,5 +1,5 @@
 -- The least and the greatest fields of rows depend on the bag of their payloads alone.
-use Rattle.std.proofs.Common.{◌≡◌, ℕ, ◌+◌, List, [], ◌∷◌, ◌++◌, cond, refl, ap, sym, ◌∙◌, arith}
+use Rattle.std.proofs.Common.{◌≡◌, ℕ, ◌+◌, List, [], ◌∷◌, ◌++◌, refl, ap, sym, ◌∙◌, arith}
 use Rattle.std.specs.Prelude.{Option, None, Some, map, sum_by}
 use Rattle.std.specs.List.{filter, filter_map, slice_get, cons_option}
 use Rattle.std.proofs.lemmas.List.Sums.{sum_by-cons}
@@ -8,11 +8,10 @@ use Rattle.cedr_base.specs.declared.field.Field.{Field}
 use Rattle.cedr_base.specs.declared.row.Row.{Row}
 use Rattle.cedr_living.specs.FieldLaws.{least_same, greatest_same}
 use Rattle.op_group.specs.declared.segment.Totalled.{Totalled}
-use Rattle.op_group.specs.Groups.{Grouping, column_fields, least_in, greatest_in, lives_at}
-use Rattle.op_group.specs.Tallies.{Tally}
+use Rattle.op_group.specs.Groups.{column_fields, least_in, greatest_in, lives_at}
 use Rattle.op_group.specs.Measures.{part_at, extremes_of}
 use Rattle.op_group.specs.FilterLaws.{sum_by-filter, map_alike}
-use Rattle.op_group.specs.LawWords.{weighed, SamePayloads, SameAlive}
+use Rattle.op_group.specs.LawWords.{weighed, SamePayloads}
 
 -- a sum over fields, and a field that may be there
 pub sum_cons : (w : Field → ℕ) (o : Option Field) (fs : List Field) → sum_by w (cons_option o fs) ≡ weighed w o + sum_by w fs

@@ -1,23 +1,15 @@
 -- The rows that all groups make, one by one.
-use Rattle.std.proofs.Common.{◌≡◌, ℕ, ◌+◌, ◌-◌, ◌%◌, ◌^◌, ◌<◌, ◌≤◌, ◌⊎◌, inl, inr, List, [], ◌∷◌, ◌++◌, Bool, true, false, cond, length, take, refl, ap, sym, ◌∙◌, subst, arith}
+use Rattle.std.proofs.Common.{◌≡◌, ℕ, ◌<◌, ◌≤◌, inl, inr, List, [], ◌∷◌, Bool, true, false, cond, refl, ap, sym, ◌∙◌, arith}
 use Rattle.std.specs.Prelude.{nat_lt, map, sum_by, ◌||◌}
-use Rattle.std.specs.declared.cmp.Ordering.{Ordering}
-use Rattle.std.specs.declared.cmp.Ordering.TheVariants.{Less, Equal, Greater}
-use Rattle.std.specs.Ordering.{is_eq}
 use Rattle.std.specs.List.{flat_map, list_any}
-use Rattle.std.proofs.lemmas.Cmp.{tied_itself}
 use Rattle.std.proofs.lemmas.Bool.{cases_lt}
-use Rattle.std.proofs.lemmas.List.{length-map, take-append-le, take_all}
 use Rattle.std.proofs.lemmas.List.Sums.{sum_by-cons, sum_by-append}
 use Rattle.cedr_base.specs.declared.field.Field.{Field}
 use Rattle.cedr_base.specs.declared.row.Row.{Row}
-use Rattle.cedr_base.specs.Order.{payload_cmp}
-use Rattle.cedr_base.specs.OrderLaws.{payload_total}
 use Rattle.cedr_base.specs.Rows.{one_if_same, count_of, SameRows}
-use Rattle.cedr_base.proofs.RowLemmas.{exact_rows}
 use Rattle.change_laws.proofs.BagSums.{sum_by-same}
-use Rattle.op_group.specs.Groups.{Grouping, column_number, key_of, same_payload, distinct, rows_of, segments, grouped}
-use Rattle.op_group.specs.Measures.{edge_at, part_at, living_of, tally_of, Fits, is_cut_of, key_in, IsGroupRow}
+use Rattle.op_group.specs.Groups.{Grouping, key_of, same_payload, distinct, rows_of, segments, grouped}
+use Rattle.op_group.specs.Measures.{edge_at, part_at, living_of, tally_of, is_cut_of, key_in, IsGroupRow}
 use Rattle.op_group.specs.TimeLaws.{same_count}
 use Rattle.op_group.specs.FilterLaws.{sum_by-filter}
 use Rattle.op_group.specs.LawWords.{SameAlive}

@@ -13,7 +13,6 @@ use Rattle.std.proofs.lemmas.List.Sums.{sum_by-cons}
 use Rattle.cedr_base.specs.declared.field.Field.{Field}
 use Rattle.cedr_base.specs.declared.field.Field.TheVariants.{Number, Bytes}
 use Rattle.cedr_base.specs.declared.row.Row.{Row}
-use Rattle.cedr_expr.specs.Columns.{kept_columns}
 use Rattle.cedr_living.specs.Fields.{first_of, first_by}
 use Rattle.op_group.specs.Groups.{Grouping, key_of, same_payload, rows_of, lives_at, column_fields, least_in, greatest_in}
 use Rattle.op_group.specs.Cuts.{totals}

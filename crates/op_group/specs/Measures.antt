@@ -1,5 +1,5 @@
 -- What stands and what is valid at a time, among the rows of one group.
-use Rattle.std.specs.Prelude.{ℕ, ◌≡◌, ◌<◌, ◌≤◌, ◌+◌, ◌-◌, ◌%◌, ◌^◌, List, [], ◌∷◌, ◌++◌, Bool, true, false, cond, length, map, take, sum_by, nat_lt, nat_le, nat_eq, Option, zero, suc, replicate}
+use Rattle.std.specs.Prelude.{ℕ, ◌≡◌, ◌<◌, ◌+◌, ◌%◌, ◌^◌, List, [], ◌∷◌, ◌++◌, Bool, true, false, cond, length, map, take, sum_by, nat_lt, nat_le, nat_eq, Option, zero, suc, replicate}
 use Rattle.std.specs.List.{filter}
 use Rattle.cedr_base.specs.declared.field.Field.{Field}
 use Rattle.cedr_base.specs.declared.row.Row.{Row}

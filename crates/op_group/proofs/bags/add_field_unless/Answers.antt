@@ -1,4 +1,4 @@
-use Rattle.std.proofs.Common.{◌≡◌, ◌∙◌, ◌∷◌, [], sym, subst, cond}
+use Rattle.std.proofs.Common.{◌∙◌, ◌∷◌, [], sym, subst, cond}
 use Rattle.std.specs.Prelude.{not}
 use Rattle.op_group.specs.Bags.{ComesTo, field_lives}
 use Rattle.op_group.proofs.BagLemmas.{nothing_comes}

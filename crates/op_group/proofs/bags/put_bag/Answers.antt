@@ -1,6 +1,4 @@
 use Rattle.std.proofs.Common.{sym, subst}
-use Rattle.std.specs.Prelude.{None}
-use Rattle.cedr_living.specs.BagLaws.{empty_ended}
 use Rattle.op_group.specs.Bags.{BagKeeps}
 use Rattle.op_group.proofs.FieldLemmas.{none_kept}
 use Rattle.op_group.proofs.bags.put_bag.Goals as goal

@@ -1,5 +1,4 @@
-use Rattle.std.proofs.Common.{◌≤◌, ◌∙◌, sym, subst, arith}
-use Rattle.cedr_living.specs.Lives.{Living}
+use Rattle.std.proofs.Common.{sym, subst, arith}
 use Rattle.cedr_living.specs.Bags.{AllEnd}
 use Rattle.cedr_living.specs.BagLaws.{empty_keeps}
 use Rattle.op_group.specs.Bags.{BagKeeps}

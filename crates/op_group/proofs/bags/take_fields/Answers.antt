@@ -1,4 +1,4 @@
-use Rattle.std.proofs.Common.{◌≡◌, ◌+◌, ◌∙◌, ◌∷◌, [], sym, subst, take}
+use Rattle.std.proofs.Common.{◌∷◌, [], sym, subst, take}
 use Rattle.std.proofs.lemmas.List.{get_or_default}
 use Rattle.op_group.specs.Bags.{GoesFrom, field_lives, columns_but}
 use Rattle.op_group.proofs.BagLemmas.{goes_both, next_lives, nothing_goes}

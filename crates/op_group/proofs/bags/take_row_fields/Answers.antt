@@ -1,4 +1,4 @@
-use Rattle.std.proofs.Common.{◌≡◌, ◌++◌, ◌∙◌, [], ap, sym, subst}
+use Rattle.std.proofs.Common.{◌∙◌, [], ap, sym, subst}
 use Rattle.std.proofs.lemmas.Result.{on_ok_weaker}
 use Rattle.op_group.specs.Bags.{GoesFrom, field_lives, columns_but}
 use Rattle.op_group.proofs.BagLemmas.{goes_both, lives_append}

@@ -1,4 +1,4 @@
-use Rattle.std.proofs.Common.{◌+◌, ◌-◌, cond, false, arith}
+use Rattle.std.proofs.Common.{◌+◌, ◌-◌, cond, arith}
 use Rattle.std.specs.Prelude.{nat_lt, nat_le, ◌&&◌}
 use Rattle.std.specs.List.{filter}
 use Rattle.op_group.specs.Groups.{lives_at}

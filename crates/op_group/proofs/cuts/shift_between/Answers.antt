@@ -1,9 +1,8 @@
-use Rattle.std.proofs.Common.{◌≡◌, ◌+◌, ◌<◌, ◌≤◌, ◌∙◌, sym, ap, subst, arith}
+use Rattle.std.proofs.Common.{◌∙◌, sym, arith}
 use Rattle.std.specs.List.{filter}
 use Rattle.op_group.specs.Groups.{lives_at}
-use Rattle.op_group.specs.Cuts.{segment_at, segment_shifted}
+use Rattle.op_group.specs.Cuts.{segment_shifted}
 use Rattle.op_group.specs.Measures.{extremes_of}
-use Rattle.op_group.specs.Sides.{HasExtremes}
 use Rattle.op_group.proofs.ShiftLemmas.{none_done, not_reached, one_more, all_done}
 use Rattle.op_group.proofs.cuts.shift_between.Goals as goal
 

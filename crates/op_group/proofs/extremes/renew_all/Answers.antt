@@ -1,6 +1,5 @@
-use Rattle.std.proofs.Common.{◌≡◌, ◌+◌, ◌∙◌, sym, ap, refl, length, arith}
-use Rattle.std.proofs.Math.ListN.{length-set, drop}
-use Rattle.std.proofs.lemmas.List.{get_or_default}
+use Rattle.std.proofs.Common.{◌∙◌, sym, ap, refl, length, arith}
+use Rattle.std.proofs.Math.ListN.{length-set}
 use Rattle.op_group.specs.Measures.{extremes_of}
 use Rattle.op_group.proofs.SideLemmas.{renewed_more, side_missing, many_sides, turned_whole}
 use Rattle.op_group.proofs.extremes.renew_all.Goals as goal

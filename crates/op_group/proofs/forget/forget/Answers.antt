@@ -1,4 +1,4 @@
-use Rattle.std.proofs.Common.{◌≡◌, ◌≤◌, Bool, true, false, cond, max, sym, subst, ◌∙◌, arith}
+use Rattle.std.proofs.Common.{sym, subst, ◌∙◌}
 use Rattle.op_group.specs.State.{KeepsGroups, KeepsFields}
 use Rattle.op_group.proofs.PassLemmas.{keeps_passed}
 use Rattle.op_group.proofs.FieldLemmas.{fields_settled, fields_risen}

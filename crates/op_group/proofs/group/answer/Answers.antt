@@ -2,12 +2,11 @@ use Rattle.std.proofs.Common.{◌≡◌, ◌<◌, ◌≤◌, ◌∙◌, ℕ, ap,
 use Rattle.std.proofs.lemmas.Result.{on_ok_weaker}
 use Rattle.cedr_base.specs.declared.row.Row.{Row}
 use Rattle.cedr_expr.specs.Columns.{kept_columns}
-use Rattle.op_group.specs.Groups.{grouping_with, key_of, rows_of, same_payload}
+use Rattle.op_group.specs.Groups.{grouping_with, rows_of, same_payload}
 use Rattle.op_group.specs.PayloadLaws.{payload_itself}
 use Rattle.op_group.specs.State.{cuts_of}
 use Rattle.op_group.specs.LawWords.{last_time}
 use Rattle.op_group.proofs.Answered.{keeps_after, own_answers, follows_change, all_had, due_had, seen_before, last_row}
-use Rattle.cedr_base.specs.Changes.{sync_of}
 use Rattle.op_group.specs.Bags.{BagKeeps, bag_at, lives_of}
 use Rattle.change_laws.proofs.Moves.{may_is}
 use Rattle.op_group.proofs.GroupRepairs.{group_moves}

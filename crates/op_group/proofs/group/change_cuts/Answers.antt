@@ -1,4 +1,4 @@
-use Rattle.std.proofs.Common.{◌≡◌, ◌∙◌, map, true, false, ap, subst, arith, ◌<◌, ◌≤◌, []}
+use Rattle.std.proofs.Common.{◌∙◌, map, true, false, ap, subst, arith, ◌<◌, ◌≤◌, []}
 use Rattle.std.proofs.lemmas.Result.{on_ok_weaker}
 use Rattle.cedr_base.specs.declared.change.Change.{Change}
 use Rattle.cedr_base.specs.Changes.{MayFollow, sync_of}

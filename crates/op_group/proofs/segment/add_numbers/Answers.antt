@@ -1,7 +1,6 @@
 use Rattle.std.proofs.Common.{◌≡◌, ◌+◌, ◌%◌, ◌^◌, ◌<◌, ap, ◌∙◌, refl, length, get_or, ℕ, List, rules, add-one}
 use Rattle.std.proofs.Math.ListN.{set, length-set}
 use Rattle.std.proofs.lemmas.List.{get_or_default}
-use Rattle.op_group.specs.Cuts.{summed}
 use Rattle.op_group.proofs.SumLemmas.{summed_more, summed_all, summed_start}
 use Rattle.op_group.proofs.segment.add_numbers.Goals as goal
 

@@ -1,5 +1,5 @@
-use Rattle.std.proofs.Common.{◌∙◌, sym, ap, arith}
-use Rattle.op_group.proofs.FieldNumbers.{number_adds, text_adds}
+use Rattle.std.proofs.Common.{◌∙◌, sym}
+use Rattle.op_group.proofs.FieldNumbers.{text_adds}
 use Rattle.op_group.proofs.segment.own_number.Goals as goal
 
 pub returns-in-None : goal.returns-in-None

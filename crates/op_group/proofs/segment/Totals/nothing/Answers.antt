@@ -1,4 +1,4 @@
-use Rattle.std.proofs.Common.{◌≡◌, ◌++◌, ◌∙◌, [], ap, sym, refl, length, map, replicate, None}
+use Rattle.std.proofs.Common.{◌++◌, ◌∙◌, [], ap, sym, refl, length, map, replicate, None}
 use Rattle.op_group.specs.Groups.{least_in, greatest_in}
 use Rattle.op_group.proofs.ExtremeLists.{nones}
 use Rattle.op_group.proofs.segment.Totals.nothing.Goals as goal
