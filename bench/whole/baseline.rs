@@ -236,7 +236,6 @@ fn read_messages(bytes: &[u8]) -> Vec<Message> {
             continue;
         };
         if *kind == b'=' {
-            let mut rest = line;
             messages.push(Message::Mark(take_number(&mut rest)));
             continue;
         }
