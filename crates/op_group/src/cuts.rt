@@ -29,7 +29,7 @@ pub(crate) fn cut_from(cuts: &Cuts, from: Time) -> Time
 }
 
 /// The last cut point before a time, or that time where there is none.
-pub(crate) fn cut_before(cuts: &Cuts, to: Time) -> Time
+fn cut_before(cuts: &Cuts, to: Time) -> Time
     ensures { IsLastCut cuts.now.entries to result }
 {
     match cuts.range(..to).next_back() {

@@ -2,7 +2,7 @@
 use Rattle.std.proofs.Common.{◌≡◌, ℕ, ◌<◌, ◌≤◌, List, [], ◌∷◌, ◌++◌, take, refl, ap, sym, ◌∙◌, subst, arith, length}
 use Rattle.cedr_base.specs.declared.row.Row.{Row}
 use Rattle.cedr_base.specs.declared.change.Change.{Change}
-use Rattle.cedr_base.specs.Rows.{count_of, SameRows}
+use Rattle.cedr_base.specs.Rows.{SameRows}
 use Rattle.cedr_base.specs.Changes.{puts, takes}
 use Rattle.cedr_table.specs.Operators.{Tables}
 use Rattle.cedr_expr.specs.declared.test.Test.{Test}

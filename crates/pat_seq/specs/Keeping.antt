@@ -4,14 +4,14 @@ use Rattle.cedr_expr.specs.declared.test.Test.{Test}
 use Rattle.cedr_table.specs.Operators.{Tables}
 use Rattle.pat_state.specs.Answers.{StandsByBegin}
 use Rattle.pat_state.specs.Groups.{grouped_rows, AreGrouped}
-use Rattle.pat_state.specs.Tied.{AreTied}
+use Rattle.pat_state.specs.Tied.{left_rows, right_rows, AreTied}
 use Rattle.pat_seq.specs.declared.kept.Kept.{Kept}
 use Rattle.pat_seq.specs.declared.kept.Kept.TheVariants.{Two, More}
 use Rattle.pat_seq.specs.Sequences.{IsSequence}
 
 -- the rows of the ports
 abbrev pub rows_in : Kept → Tables
-rows_in (Two tied) = tied.left ∷ tied.right ∷ []
+rows_in (Two tied) = left_rows tied ∷ right_rows tied ∷ []
 rows_in (More grouped) = grouped_rows grouped
 
 -- the rows have their tags

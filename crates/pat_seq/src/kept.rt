@@ -107,7 +107,7 @@ impl Kept {
         ensures tags { AreKept tests.now self.new }
     {
         match self {
-            Kept::Two(tied) => tied.forget(tests, scope, time),
+            Kept::Two(tied) => tied.forget(scope, time),
             Kept::More(grouped) => grouped.forget(tests, scope, time),
         }
     }

@@ -78,7 +78,7 @@ filter_endless_at scope time x xs true rest = ap (λ rows. endless x ∷ rows) r
 filter_endless_at scope time x xs false rest = rest
 
 -- whether a row reaches beyond a time doesn't depend on its end
-filter_endless : (scope time : ℕ) (xs : List Row) → all_endless (filter (scope_reaches scope time) xs) ≡ filter (scope_reaches scope time) (all_endless xs)
+pub filter_endless : (scope time : ℕ) (xs : List Row) → all_endless (filter (scope_reaches scope time) xs) ≡ filter (scope_reaches scope time) (all_endless xs)
 filter_endless scope time [] = refl
 filter_endless scope time (x ∷ xs) = filter_endless_at scope time x xs (scope_reaches scope time x) (filter_endless scope time xs)
 

@@ -1,6 +1,6 @@
 -- What the rows of a choice that passes tests have in common, and what the search among rows with one tag finds.
 use Rattle.std.proofs.Common.{◌≡◌, ℕ, zero, suc, ◌+◌, ◌-◌, ◌<◌, ◌≤◌, List, [], ◌∷◌, ◌++◌, length, Bool, true, false, cond, ◌&&◌, Option, Some, None, refl, ap, sym, ◌∙◌, subst, arith, append_assoc}
-use Rattle.std.specs.Prelude.{map, nat_eq, sum_by, IfSome}
+use Rattle.std.specs.Prelude.{map, nat_eq, IfSome}
 use Rattle.std.specs.List.{filter, flat_map, slice_get, All}
 use Rattle.std.specs.declared.cmp.Ordering.TheVariants.{Greater}
 use Rattle.std.specs.Ordering.{is_le, nat_cmp, ordering_then}
@@ -11,10 +11,10 @@ use Rattle.std.proofs.lemmas.List.Elements.{All-head, All-tail}
 use Rattle.cedr_base.specs.declared.field.Field.{Field}
 use Rattle.cedr_base.specs.declared.row.Row.{Row}
 use Rattle.cedr_base.specs.Order.{payload_cmp}
-use Rattle.cedr_base.specs.Rows.{row_cmp, count_of, one_if_same, same_row, SameRows}
+use Rattle.cedr_base.specs.Rows.{count_of, one_if_same, same_row, SameRows}
 use Rattle.cedr_base.proofs.Bags.{count_of-cons, one_of_itself, same_row_exact}
 use Rattle.change_laws.specs.Times.{later}
-use Rattle.change_laws.proofs.BagSums.{sum_by-same, same_along}
+use Rattle.change_laws.proofs.BagSums.{sum_by-same}
 use Rattle.cedr_table.specs.Counted.{IsFirst}
 use Rattle.cedr_table.specs.Operators.{Tables, SameTables, table_at, with_table}
 use Rattle.cedr_table.specs.PortLaws.{same_at}

@@ -1,9 +1,7 @@
 -- Columns that tests want equal.
-use Rattle.std.proofs.Common.{◌≡◌, ℕ, zero, suc, ◌+◌, ◌<◌, ◌≤◌, List, [], ◌∷◌, ◌++◌, length, take, get_or, Bool, true, false, cond, ◌&&◌, refl, ap, sym, ◌∙◌, subst, arith}
-use Rattle.std.specs.List.{slice_get, All}
+use Rattle.std.proofs.Common.{◌≡◌, ℕ, zero, suc, ◌<◌, List, [], ◌∷◌, ◌++◌, length, get_or, true, ap, sym, ◌∙◌, subst, arith}
+use Rattle.std.specs.List.{slice_get}
 use Rattle.std.proofs.lemmas.List.{append-nil}
-use Rattle.std.proofs.lemmas.List.Elements.{All-get_or}
-use Rattle.cedr_base.specs.declared.field.Field.{Field}
 use Rattle.cedr_expr.specs.declared.test.Op.{Op}
 use Rattle.cedr_expr.specs.declared.test.Op.TheVariants.{Eq}
 use Rattle.cedr_expr.specs.declared.test.Operand.{Operand}

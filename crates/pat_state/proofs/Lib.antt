@@ -5,6 +5,9 @@ pub mod EndlessLemmas
 pub mod ForgetLemmas
 pub mod AnswerLemmas
 pub mod TagLemmas
+pub mod BagLemmas
+pub mod DueLemmas
+pub mod RenewLemmas
 pub mod MatchLemmas
 pub mod PassingLemmas
 pub mod BoundLemmas

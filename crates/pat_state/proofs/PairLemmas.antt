@@ -38,20 +38,22 @@ seconds_match scope tests x lefts rights = matching_grown tests (begun scope x �
 
 -- the rows of the choices with a changed first row are found among those beside it
 pub seconds_found : (scope : ℕ) (tests : List Test) (x p : Row) (lefts rights found : List Row) (some : List (Row × ℕ)) → p ≡ begun scope x → found ≡ flat_map (next_passing (passes tests) p) (spread some)
-    → ((weight : Row → ℕ) → IsSought (λ fields. passes tests x.payload fields) weight → sum_by weight (spread some) ≡ sum_by weight (filter (begins_within p.begin p.end) rights))
+    → ((weight : Row → ℕ) → IsSought (λ fields. passes tests x.payload fields) weight → sum_by weight (filter (begins_within p.begin p.end) (spread some)) ≡ sum_by weight (filter (begins_within p.begin p.end) rights))
     → SameRows found (matches scope tests x 0 (lefts ∷ rights ∷ []))
 seconds_found scope tests x p lefts rights found some is were sums = record {
   each = λ q.
       let f = next_passing (passes tests) (begun scope x) in
-      let within = ap (λ (r : Row). filter (begins_within r.begin r.end) rights) is in
+      let within = λ (rows : List Row). ap (λ (r : Row). filter (begins_within r.begin r.end) rows) is in
+      let inside = λ (rows : List Row). flat_map-filter f f (begins_within (begun scope x).begin (begun scope x).end) rows (λ r may. refl) (λ r not. sym (outside (passes tests) (begun scope x) r not)) in
       let first = ap (count_of q) (were ∙ ap (λ (r : Row). flat_map (next_passing (passes tests) r) (spread some)) is) in
-      let inside = flat_map-filter f f (begins_within (begun scope x).begin (begun scope x).end) rights (λ r may. refl) (λ r not. sym (outside (passes tests) (begun scope x) r not)) in
-      let last = ap (count_of q) (ap (flat_map f) within ∙ (inside ∙ sym (seconds_match scope tests x lefts rights))) in
+      let few = ap (count_of q) (ap (flat_map f) (within (spread some)) ∙ inside (spread some)) in
+      let last = ap (count_of q) (ap (flat_map f) (within rights) ∙ (inside rights ∙ sym (seconds_match scope tests x lefts rights))) in
       omega (
         arith,
         first,
+        few,
         last,
-        sum_by-flat_map (one_if_same q) f (spread some),
+        sum_by-flat_map (one_if_same q) f (filter (begins_within p.begin p.end) (spread some)),
         sum_by-flat_map (one_if_same q) f (filter (begins_within p.begin p.end) rights),
         sums (λ r. count_of q (f r)) (second_sought scope tests x q),
       );

@@ -53,11 +53,11 @@ module _ (tag : List Field → ℕ) where
   abbrev pub with_tag : Row → Row
   with_tag r = marked (tag r.payload) r
 
-  abbrev weight : Row → Row → ℕ
+  abbrev pub weight : Row → Row → ℕ
   weight r x = one_if_same r (with_tag x)
 
   -- a count of rows with tags is a sum over the rows
-  count_tagged : (r : Row) (rows : List Row) → count_of r (map with_tag rows) ≡ sum_by (weight r) rows
+  pub count_tagged : (r : Row) (rows : List Row) → count_of r (map with_tag rows) ≡ sum_by (weight r) rows
   count_tagged r rows = sum_by-changed (one_if_same r) (weight r) with_tag rows (λ x. refl)
 
   -- no row is tagged by none
@@ -189,6 +189,27 @@ module _ (tag : List Field → ℕ) where
       let chosen = λ (x : Row). cond (has_tag_within t from before x) (w x) 0 in
       sum_by-filter w (has_tag_within t from before) tags
       ∙ (sum_by-same chosen tags (map with_tag rows) was.same ∙ sum_by-changed chosen v with_tag rows each)
+
+  -- a sum over all of them that begin within some times
+  pub all_found : (from before : ℕ) (w : Row → ℕ) (rows tags : List Row) → IsTagged tag rows tags → ((x : Row) (end : ℕ) → w (record x { end = end }) ≡ w x)
+      → sum_by w (filter (begins_within from before) tags) ≡ sum_by w (filter (begins_within from before) rows)
+  all_found from before w rows tags was endless_weight =
+      let chosen = λ (x : Row). cond (begins_within from before x) (w x) 0 in
+      sum_by-filter w (begins_within from before) tags
+      ∙ (sum_by-same chosen tags (map with_tag rows) was.same
+      ∙ (sum_by-changed chosen chosen with_tag rows (λ x. ap (λ n. cond (begins_within from before x) n 0) (endless_weight x (tag x.payload)))
+      ∙ sym (sum_by-filter w (begins_within from before) rows)))
+
+inside_at : (from before : ℕ) (x : Row) (xs : List Row) (b w : Bool) → begins_within from before x ≡ w → filter (begins_within from before) xs ≡ xs
+    → filter (begins_within from before) (cond (b && w) (x ∷ xs) xs) ≡ cond (b && w) (x ∷ xs) xs
+inside_at from before x xs true true is rest = ap (λ c. cond c (x ∷ filter (begins_within from before) xs) (filter (begins_within from before) xs)) is ∙ ap (λ rows. x ∷ rows) rest
+inside_at from before x xs true false is rest = rest
+inside_at from before x xs false w is rest = rest
+
+-- what has a tag and begins within some times begins within them
+pub filter_inside : (tag from before : ℕ) (xs : List Row) → filter (begins_within from before) (filter (has_tag_within tag from before) xs) ≡ filter (has_tag_within tag from before) xs
+filter_inside tag from before [] = refl
+filter_inside tag from before (x ∷ xs) = inside_at from before x (filter (has_tag_within tag from before) xs) (nat_eq x.end tag) (begins_within from before x) refl (filter_inside tag from before xs)
 
 -- nothing is nothing, whatever is chosen
 none_either : (b c : Bool) (m n : ℕ) → m ≡ 0 → n ≡ 0 → cond b m 0 ≡ cond c n 0

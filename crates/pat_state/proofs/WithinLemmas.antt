@@ -3,7 +3,7 @@ use Rattle.std.proofs.Common.{◌≡◌, ℕ, zero, suc, ◌<◌, List, [], ◌�
 use Rattle.std.specs.Prelude.{replicate, not, ◌&&◌, nat_eq, nat_le, nat_lt}
 use Rattle.std.specs.List.{filter, All}
 use Rattle.std.specs.BTreeMap.Range.{range_contains}
-use Rattle.std.specs.declared.ops.Bound.TheVariants.{Included, Excluded}
+use Rattle.std.specs.declared.ops.Bound.TheVariants.{Included, Excluded, Unbounded}
 use Rattle.std.specs.Ordering.{nat_cmp, ordering_then, is_le}
 use Rattle.std.specs.declared.cmp.Ordering.{Ordering}
 use Rattle.std.specs.declared.cmp.Ordering.TheVariants.{Less, Equal, Greater}
@@ -100,3 +100,13 @@ part_within from before (e ∷ es) there pass =
 pub tagged_within : (tag from before : ℕ) (es : List (Row × ℕ)) → AreThere es → All (λ r. has_tag_within tag from before r ≡ true) (spread es) → AreInScope from before es
 tagged_within tag from before es there pass =
     part_within from before es there (All-weaker (λ r. has_tag_within tag from before r ≡ true) (λ r. begins_within from before r ≡ true) (λ r h. (and_parts (nat_eq r.end tag) (begins_within from before r) h).1) (spread es) pass)
+
+-- where each entry's row begins within the times, of each entry there is a copy
+pub scope_there : (from before : ℕ) (es : List (Row × ℕ)) → AreInScope from before es → AreThere es
+scope_there from before [] within = tt
+scope_there from before (e ∷ es) within = (within.0.0, scope_there from before es within.1)
+
+-- what has no bounds has all rows
+pub all_within : (rows : List Row) → filter (range_contains row_cmp Unbounded Unbounded) rows ≡ rows
+all_within [] = refl
+all_within (x ∷ xs) = ap (λ rows. x ∷ rows) (all_within xs)

@@ -1,5 +1,6 @@
 pub mod Starts
 pub mod Answers
+pub mod Due
 pub mod Tags
 pub mod Tied
 pub mod Ascending

@@ -4,12 +4,20 @@ use Rattle.cedr_base.specs.declared.field.Field.{Field}
 use Rattle.cedr_base.specs.declared.row.Row.{Row}
 use Rattle.cedr_base.specs.declared.change.Change.{Change}
 use Rattle.cedr_base.specs.declared.change.Change.TheVariants.{Add, Cut}
-use Rattle.cedr_base.specs.Rows.{count_of, SameRows}
-use Rattle.pat_state.specs.Starts.{begins_within}
+use Rattle.cedr_base.specs.Rows.{count_of, in_order, SameRows}
+use Rattle.pat_state.specs.Starts.{all_endless, begins_within}
 
 -- a row with a tag in place of its end
 abbrev pub marked : ℕ → Row → Row
 marked tag r = record { end = tag; begin = r.begin; payload = r.payload }
+
+-- the rows as if they never ended, in canonical order
+abbrev pub bag_of : List Row → List Row
+bag_of tags = in_order (all_endless tags)
+
+-- each row of a bag has the tag of its payload
+abbrev pub HaveOwnTags : (List Field → ℕ) → List Row → Type 0
+HaveOwnTags tag tags = (r : Row) → 0 < count_of r tags → r.end ≡ tag r.payload
 
 -- a row has a tag, and begins within the times
 abbrev pub has_tag_within : ℕ → ℕ → ℕ → Row → Bool

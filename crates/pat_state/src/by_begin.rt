@@ -1,9 +1,10 @@
-ghost use Rattle.std.specs.Prelude.{◌≡◌, ◌++◌, [], length, not, OnOk, OnErr, IfOk, IfSome};
+ghost use Rattle.std.specs.Prelude.{◌≡◌, ◌++◌, [], length, not, nat_lt, OnOk, OnErr, IfOk, IfSome};
 ghost use Rattle.std.specs.List.{filter};
 ghost use Rattle.cedr_base.specs.declared.time.TheConstants.{FOREVER};
 ghost use Rattle.cedr_base.specs.declared.row.Row.{Row as RowValue};
 ghost use Rattle.cedr_base.specs.Rows.{in_order, count_of, SameRows};
 ghost use Rattle.cedr_base.specs.Changes.{puts, takes};
+ghost use Rattle.change_laws.specs.Times.{later};
 ghost use Rattle.cedr_table.specs.Counted.{spread, IsTakenOut};
 ghost use Rattle.pat_state.specs.Starts.{endless, all_endless, begins_within, scope_reaches, AreEndless, AreInScope, HasRow};
 
@@ -62,11 +63,11 @@ fn first_at(alloc: Global, begin: Time) -> Row
     }
 }
 
-/// Whether the scope of a row, which begins with it, ends after a time.
-fn reaches(scope: u64, time: Time, row: &Row) -> bool
-    ensures { result ≡ scope_reaches scope time row.now }
+/// Whether a scope ends after a time.
+pub(crate) fn reaches(scope: u64, time: Time, begin: Time) -> bool
+    ensures { result ≡ nat_lt time (later begin scope) }
 {
-    time < FOREVER && time < row.begin.saturating_add(scope)
+    time < FOREVER && time < begin.saturating_add(scope)
 }
 
 /// Takes the first row away where its scope ends by a time.
@@ -75,7 +76,7 @@ fn pop_passed(rows: &mut Table, scope: u64, time: Time) -> Option<(Row, usize)>
     ensures { IsTakenOut (λ r. not (scope_reaches scope time r)) rows.old rows.new result }
 {
     match rows.first() {
-        Some(row) if !reaches(scope, time, row) => rows.pop_first(),
+        Some(row) if !reaches(scope, time, row.begin) => rows.pop_first(),
         _ => None,
     }
 }

@@ -12,9 +12,8 @@ ghost use Rattle.pat_state.specs.Tags.{IsTagged};
 ghost use Rattle.pat_state.specs.Tied.{AreCrossed};
 
 use crate::by_begin::ByBegin;
-use crate::by_tag::ByTag;
+use crate::by_tag::{ByTag, apply_tagged};
 use crate::pairs::{find_firsts, find_seconds};
-use crate::tied::apply_tagged;
 use cedr_base::{Change, OutOfMemory, Row, Time};
 use cedr_expr::{Side, Tests};
 use std::alloc::Global;
@@ -137,15 +136,7 @@ impl Crossing {
         requires crossed { AreCrossed width tests.now self.now }
         ensures { IfOk result (λ rows. (firsts : List RowValue) → SameRows rows.items (matches scope tests.now row.now 0 (firsts ∷ self.now.rows ∷ []))) }
     {
-        find_seconds(
-            alloc,
-            scope,
-            tests,
-            width,
-            &self.rows,
-            &self.second_tags,
-            row,
-        )
+        find_seconds(alloc, scope, tests, width, &self.second_tags, row)
     }
 
     /// The rows of the choices of a first one among these and another port's changed row, in some order.

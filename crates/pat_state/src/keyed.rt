@@ -9,9 +9,8 @@ ghost use Rattle.pat_state.specs.Tags.{IsTagged};
 ghost use Rattle.pat_state.specs.Groups.{seen, IsKeyed, LacksOthers};
 
 use crate::by_begin::ByBegin;
-use crate::by_tag::ByTag;
+use crate::by_tag::{ByTag, apply_tagged};
 use crate::key::key_tag;
-use crate::tied::apply_tagged;
 use cedr_base::{Change, OutOfMemory, Row, Time};
 use std::alloc::Global;
 use std::collections::btree_map::Range;

@@ -8,10 +8,9 @@ ghost use Rattle.cedr_base.specs.declared.row.Row.{Row as RowValue};
 ghost use Rattle.cedr_expr.specs.Tags.{left_tag, right_tag};
 ghost use Rattle.cedr_expr.specs.Tests.{passes};
 ghost use Rattle.pat_state.specs.Tags.{IsTagged};
-ghost use Rattle.pat_state.specs.Tied.{AreTied};
+ghost use Rattle.pat_state.specs.Tied.{left_rows, right_rows, AreTied};
 ghost use Rattle.pat_state.specs.Steps.{begun, next_passing, matches};
 
-use crate::by_begin::ByBegin;
 use crate::by_tag::ByTag;
 use crate::matches::{Stage, begun, push_next};
 use crate::tied::{Tied, beside_left, beside_right};
@@ -83,18 +82,16 @@ pub(crate) fn find_seconds(
     scope: u64,
     tests: &Tests,
     width: usize,
-    seconds: &ByBegin,
     tags: &ByTag,
     row: &Row,
 ) -> Result<Vec<Row>, OutOfMemory>
     requires begin { row.now.begin < FOREVER }
     requires scope { scope ≤ 2 ^ 40 }
-    requires tags { IsTagged (right_tag width tests.now) seconds.now tags.now }
-    ensures { IfOk result (λ rows. (firsts : List RowValue) → SameRows rows.items (matches scope tests.now row.now 0 (firsts ∷ seconds.now ∷ []))) }
+    ensures { IfOk result (λ rows. (firsts seconds : List RowValue) → IsTagged (right_tag width tests.now) seconds tags.now → SameRows rows.items (matches scope tests.now row.now 0 (firsts ∷ seconds ∷ []))) }
 {
     let so_far = begun(alloc, scope, row)?;
     let (payload, from, before) = (&row.payload, so_far.begin, so_far.end);
-    let some = beside_left(alloc, tests, width, seconds, tags, payload, from, before);
+    let some = beside_left(alloc, tests, width, tags, payload, from, before);
     let mut rows = Vec::new(alloc);
     push_seconds(alloc, tests, &so_far, some, &mut rows)?;
     Ok(rows)
@@ -137,19 +134,11 @@ pub fn find_pairs(
     requires scope { scope ≤ 2 ^ 40 }
     requires changed { changed < 2 }
     requires tags { AreTied tests.now tied.now }
-    ensures { IfOk result (λ rows. SameRows rows.items (matches scope tests.now row.now changed (tied.now.left ∷ tied.now.right ∷ []))) }
+    ensures { IfOk result (λ rows. SameRows rows.items (matches scope tests.now row.now changed (left_rows tied.now ∷ right_rows tied.now ∷ []))) }
 {
     if changed == 0 {
-        find_seconds(
-            alloc,
-            scope,
-            tests,
-            tied.width,
-            &tied.right,
-            &tied.right_tags,
-            row,
-        )
+        find_seconds(alloc, scope, tests, tied.width, tied.right.tags(), row)
     } else {
-        find_firsts(alloc, scope, tests, tied.width, &tied.left_tags, row)
+        find_firsts(alloc, scope, tests, tied.width, tied.left.tags(), row)
     }
 }

@@ -3,34 +3,32 @@ ghost use Rattle.std.specs.List.{filter};
 ghost use Rattle.cedr_base.specs.declared.field.Field.{Field};
 ghost use Rattle.cedr_base.specs.declared.row.Row.{Row as RowValue};
 ghost use Rattle.cedr_base.specs.Rows.{SameRows};
-ghost use Rattle.cedr_base.specs.Changes.{puts, takes, changed_row};
+ghost use Rattle.cedr_base.specs.Changes.{puts, takes};
 ghost use Rattle.cedr_expr.specs.declared.test.Test.{Test};
 ghost use Rattle.cedr_expr.specs.Tests.{passes};
-ghost use Rattle.cedr_table.specs.Counted.{spread};
+ghost use Rattle.cedr_table.specs.Counted.{spread, AreThere};
 ghost use Rattle.pat_state.specs.Starts.{all_endless, begins_within, scope_reaches, AreInScope, HasRow};
-ghost use Rattle.cedr_expr.specs.Tags.{left_tag, right_tag, side_tag};
-ghost use Rattle.pat_state.specs.Tags.{HasMarked, IsRetagged, IsTagged, IsSought};
-ghost use Rattle.pat_state.specs.Tied.{AreTied};
+ghost use Rattle.cedr_expr.specs.Tags.{left_tag, right_tag};
+ghost use Rattle.pat_state.specs.Tags.{bag_of, HaveOwnTags, IsTagged, IsSought};
+ghost use Rattle.pat_state.specs.Tied.{left_rows, right_rows, AreTied};
 
-use crate::by_begin::ByBegin;
 use crate::by_tag::ByTag;
+use crate::tagged::Tagged;
 use cedr_base::{Change, OutOfMemory, Payload, Row, Time};
 use cedr_expr::{Side, Tests};
 use std::alloc::Global;
 use std::collections::btree_map::Range;
 
-/// The rows of a left and of a right port, of which only the begins and the payloads are kept: each in order of begin, and
-/// each once more by a tag that rows have in common which may pass tests together. So those beside a row are found
-/// without a look at the others.
+/// The rows of a left and of a right port, of which only the begins and the payloads are kept: each by a tag that rows have in
+/// common which may pass tests together, and those of one tag in order of begin. So those beside a row are found without a
+/// look at the others. Which rows a time has passed is told by their begins, which stand apart.
 ///
 /// The tags are those beside left payloads of one width. Left rows of another width are allowed: they have the tag 0, and
 /// meet all rows.
 pub struct Tied {
     pub(crate) width: usize,
-    pub(crate) left: ByBegin,
-    pub(crate) right: ByBegin,
-    pub(crate) left_tags: ByTag,
-    pub(crate) right_tags: ByTag,
+    pub(crate) left: Tagged,
+    pub(crate) right: Tagged,
 }
 
 impl Drop for Tied {
@@ -39,100 +37,41 @@ impl Drop for Tied {
             width: _,
             left: _,
             right: _,
-            left_tags: _,
-            right_tags: _,
         } = self;
     }
 }
 
-/// Applies a change to the rows with tags, of which the row's begin and its payload count.
-pub(crate) fn apply_tagged(
-    alloc: Global,
-    tags: &mut ByTag,
-    tag: u64,
-    change: &Change,
-) -> Result<(), OutOfMemory>
-    requires { HasMarked tag tags.old change.now }
-    ensures { OnOk result (IsRetagged tag change.now tags.old tags.new) }
-{
-    match change {
-        Change::Add(row) => tags.insert(alloc, tag, row),
-        Change::Cut(row, end) => {
-            if *end <= row.begin {
-                tags.take(alloc, tag, row)
-            } else {
-                Ok(())
-            }
-        }
-    }
-}
-
-/// The rows of a right port with their tags, beside left payloads of this width.
+/// The rows of a right port with the tags that they have beside left payloads of this width.
 fn tagged_right(
     alloc: Global,
     tests: &Tests,
     width: usize,
-    right: &ByBegin,
-) -> Result<ByTag, OutOfMemory>
-    ensures { IfOk result (λ tags. IsTagged (right_tag width tests.now) right.now tags) }
+    right: &Tagged,
+) -> Result<Tagged, OutOfMemory>
+    ensures tags { IfOk result (λ tags. HaveOwnTags (right_tag width tests.now) tags) }
+    ensures rows { IfOk result (λ tags. bag_of tags ≡ bag_of right.now) }
 {
     let rows = right.canonical()?;
-    let mut tags = ByTag::new(alloc);
+    let mut tags = Tagged::new(alloc);
     for row in rows {
         let tag = tests.tag(Side::Right, width, &row.payload);
-        tags.insert(alloc, tag, &row)?;
+        tags.apply(alloc, tag, &Change::Add(row))?;
     }
     Ok(tags)
-}
-
-/// Forgets the rows of one side whose scope, which begins with them, ends by a time.
-fn forget_side(
-    rows: &mut ByBegin,
-    tags: &mut ByTag,
-    tests: &Tests,
-    side: Side,
-    width: usize,
-    scope: u64,
-    time: Time,
-)
-    requires { IsTagged (side_tag side width tests.now) rows.old tags.old }
-    ensures tagged { IsTagged (side_tag side width tests.now) rows.new tags.new }
-    ensures left { SameRows rows.new (filter (scope_reaches scope time) rows.old) }
-{
-    while let Some((row, _)) = rows.pop_passed(scope, time) {
-        let tag = tests.side_tag(side, width, &row.payload);
-        tags.remove_copies(tag, row);
-    }
 }
 
 impl Tied {
     /// No rows. It takes no memory.
     pub fn new(alloc: Global) -> Tied
-        ensures left { result.left ≡ [] }
-        ensures right { result.right ≡ [] }
+        ensures left { left_rows result ≡ [] }
+        ensures right { right_rows result ≡ [] }
         ensures tied { (tests : List Test) → AreTied tests result }
     {
         Tied {
             width: 0,
-            left: ByBegin::new(alloc),
-            right: ByBegin::new(alloc),
-            left_tags: ByTag::new(alloc),
-            right_tags: ByTag::new(alloc),
+            left: Tagged::new(alloc),
+            right: Tagged::new(alloc),
         }
-    }
-
-    /// The left rows in order of begin.
-    pub fn left(&self) -> &ByBegin
-        ensures { result.now ≡ self.now.left }
-    {
-        &self.left
-    }
-
-    /// The right rows in order of begin.
-    pub fn right(&self) -> &ByBegin
-        ensures { result.now ≡ self.now.right }
-    {
-        &self.right
     }
 
     /// Takes this width as that of the left payloads, where no left row is kept. The right rows get their tags anew then,
@@ -140,13 +79,13 @@ impl Tied {
     fn settle(&mut self, alloc: Global, tests: &Tests, width: usize) -> Result<(), OutOfMemory>
         requires { AreTied tests.now self.old }
         ensures tied { OnOk result (AreTied tests.now self.new) }
-        ensures left { self.new.left ≡ self.old.left }
-        ensures right { self.new.right ≡ self.old.right }
+        ensures left { left_rows self.new ≡ left_rows self.old }
+        ensures right { right_rows self.new ≡ right_rows self.old }
     {
         if self.width == width || self.left.len() > 0 {
             return Ok(());
         }
-        self.right_tags = tagged_right(alloc, tests, width, &self.right)?;
+        self.right = tagged_right(alloc, tests, width, &self.right)?;
         self.width = width;
         Ok(())
     }
@@ -159,17 +98,16 @@ impl Tied {
         tests: &Tests,
         change: &Change,
     ) -> Result<(), OutOfMemory>
-        requires there { HasRow self.old.left change.now }
+        requires there { HasRow (left_rows self.old) change.now }
         requires tied { AreTied tests.now self.old }
         ensures tied { OnOk result (AreTied tests.now self.new) }
-        ensures left { OnOk result (SameRows (self.new.left ++ all_endless (takes change.now)) (self.old.left ++ all_endless (puts change.now))) }
-        ensures right { self.new.right ≡ self.old.right }
+        ensures left { OnOk result (SameRows (left_rows self.new ++ all_endless (takes change.now)) (left_rows self.old ++ all_endless (puts change.now))) }
+        ensures right { right_rows self.new ≡ right_rows self.old }
     {
         let payload = &change.row().payload;
         self.settle(alloc, tests, payload.len())?;
         let tag = tests.side_tag(Side::Left, self.width, payload);
-        apply_tagged(alloc, &mut self.left_tags, tag, change)?;
-        self.left.apply(alloc, change)
+        self.left.apply(alloc, tag, change)
     }
 
     /// The same with the right rows.
@@ -179,48 +117,30 @@ impl Tied {
         tests: &Tests,
         change: &Change,
     ) -> Result<(), OutOfMemory>
-        requires there { HasRow self.old.right change.now }
+        requires there { HasRow (right_rows self.old) change.now }
         requires tied { AreTied tests.now self.old }
         ensures tied { OnOk result (AreTied tests.now self.new) }
-        ensures right { OnOk result (SameRows (self.new.right ++ all_endless (takes change.now)) (self.old.right ++ all_endless (puts change.now))) }
-        ensures left { self.new.left ≡ self.old.left }
+        ensures right { OnOk result (SameRows (right_rows self.new ++ all_endless (takes change.now)) (right_rows self.old ++ all_endless (puts change.now))) }
+        ensures left { left_rows self.new ≡ left_rows self.old }
     {
         let tag = tests.side_tag(Side::Right, self.width, &change.row().payload);
-        apply_tagged(alloc, &mut self.right_tags, tag, change)?;
-        self.right.apply(alloc, change)
+        self.right.apply(alloc, tag, change)
     }
 
     /// Forgets the rows of both ports whose scope, which begins with them, ends by a time. It takes no memory. O(log n)
-    /// for each different one of them, and for one of each port that stays.
-    pub fn forget(&mut self, tests: &Tests, scope: u64, time: Time)
-        requires { AreTied tests.now self.old }
-        ensures tied { AreTied tests.now self.new }
-        ensures left { SameRows self.new.left (filter (scope_reaches scope time) self.old.left) }
-        ensures right { SameRows self.new.right (filter (scope_reaches scope time) self.old.right) }
+    /// for each of them, and for one of each port that stays.
+    pub fn forget(&mut self, scope: u64, time: Time)
+        ensures tied { (tests : List Test) → AreTied tests self.old → AreTied tests self.new }
+        ensures left { SameRows (left_rows self.new) (filter (scope_reaches scope time) (left_rows self.old)) }
+        ensures right { SameRows (right_rows self.new) (filter (scope_reaches scope time) (right_rows self.old)) }
     {
-        forget_side(
-            &mut self.left,
-            &mut self.left_tags,
-            tests,
-            Side::Left,
-            self.width,
-            scope,
-            time,
-        );
-        forget_side(
-            &mut self.right,
-            &mut self.right_tags,
-            tests,
-            Side::Right,
-            self.width,
-            scope,
-            time,
-        );
+        self.left.forget(scope, time);
+        self.right.forget(scope, time);
     }
 
-    /// Right rows that begin at a time or later and before another one, with the number of their copies: all of those that
-    /// may pass tests with a left payload. Their ends mean nothing. It takes no memory. O(log n) comparisons, and O(1) for
-    /// each row that is taken from it.
+    /// Right rows with the number of their copies: all of those that begin at a time or later and before another one, and may
+    /// pass tests with a left payload. Their ends mean nothing, and beside a left payload of another width than the others
+    /// there are rows with other begins. It takes no memory. O(log n) comparisons, and O(1) for each row that is taken from it.
     pub fn beside_left(
         &self,
         alloc: Global,
@@ -230,11 +150,18 @@ impl Tied {
         before: Time,
     ) -> Range<'_, Row, usize>
         requires { AreTied tests.now self.now }
-        ensures within { AreInScope from before result }
-        ensures rows { (weight : RowValue → ℕ) → IsSought (λ (fields : List Field). passes tests.now payload.now fields) weight → sum_by weight (spread result) ≡ sum_by weight (filter (begins_within from before) self.now.right) }
+        ensures there { AreThere result }
+        ensures rows { (weight : RowValue → ℕ) → IsSought (λ (fields : List Field). passes tests.now payload.now fields) weight → sum_by weight (filter (begins_within from before) (spread result)) ≡ sum_by weight (filter (begins_within from before) (right_rows self.now)) }
     {
-        let (width, rows, tags) = (self.width, &self.right, &self.right_tags);
-        beside_left(alloc, tests, width, rows, tags, payload, from, before)
+        beside_left(
+            alloc,
+            tests,
+            self.width,
+            self.right.tags(),
+            payload,
+            from,
+            before,
+        )
     }
 
     /// The same of left rows and a right payload: those of its tag, and those of another width than the left payloads.
@@ -248,10 +175,17 @@ impl Tied {
     ) -> (Range<'_, Row, usize>, Range<'_, Row, usize>)
         requires { AreTied tests.now self.now }
         ensures within { AreInScope from before result.0 × AreInScope from before result.1 }
-        ensures rows { (weight : RowValue → ℕ) → IsSought (λ (fields : List Field). passes tests.now fields payload.now) weight → sum_by weight (spread result.0) + sum_by weight (spread result.1) ≡ sum_by weight (filter (begins_within from before) self.now.left) }
+        ensures rows { (weight : RowValue → ℕ) → IsSought (λ (fields : List Field). passes tests.now fields payload.now) weight → sum_by weight (spread result.0) + sum_by weight (spread result.1) ≡ sum_by weight (filter (begins_within from before) (left_rows self.now)) }
     {
-        let (width, tags) = (self.width, &self.left_tags);
-        beside_right(alloc, tests, width, tags, payload, from, before)
+        beside_right(
+            alloc,
+            tests,
+            self.width,
+            self.left.tags(),
+            payload,
+            from,
+            before,
+        )
     }
 }
 
@@ -261,21 +195,19 @@ pub(crate) fn beside_left<'a>(
     alloc: Global,
     tests: &Tests,
     width: usize,
-    rows: &'a ByBegin,
     tags: &'a ByTag,
     payload: &Payload,
     from: Time,
     before: Time,
 ) -> Range<'a, Row, usize>
-    requires { IsTagged (right_tag width tests.now) rows.now tags.now }
-    ensures within { AreInScope from before result }
-    ensures rows { (weight : RowValue → ℕ) → IsSought (λ (fields : List Field). passes tests.now payload.now fields) weight → sum_by weight (spread result) ≡ sum_by weight (filter (begins_within from before) rows.now) }
+    ensures there { AreThere result }
+    ensures rows { (rows : List RowValue) (weight : RowValue → ℕ) → IsTagged (right_tag width tests.now) rows tags.now → IsSought (λ (fields : List Field). passes tests.now payload.now fields) weight → sum_by weight (filter (begins_within from before) (spread result)) ≡ sum_by weight (filter (begins_within from before) rows) }
 {
     if payload.len() == width {
         let tag = tests.tag(Side::Left, width, payload);
         tags.within(alloc, tag, from, before)
     } else {
-        rows.within(alloc, from, before)
+        tags.all()
     }
 }
 

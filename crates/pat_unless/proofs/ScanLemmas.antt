@@ -10,10 +10,10 @@ use Rattle.cedr_base.specs.Rows.{count_of, one_if_same, SameRows}
 use Rattle.cedr_base.proofs.Bags.{count_of-append}
 use Rattle.change_laws.proofs.BagSums.{sum_by-flat_map}
 use Rattle.change_laws.specs.Times.{later}
-use Rattle.cedr_table.specs.Counted.{spread}
+use Rattle.cedr_table.specs.Counted.{spread, AreThere}
 use Rattle.cedr_expr.specs.declared.test.Test.{Test}
 use Rattle.cedr_expr.specs.Tests.{passes}
-use Rattle.pat_state.specs.Starts.{begins_within, AreInScope}
+use Rattle.pat_state.specs.Starts.{begins_within}
 use Rattle.pat_state.specs.Tags.{IsSought}
 use Rattle.pat_state.proofs.FlatLemmas.{flat_map-filter, same_copies, no_copies}
 use Rattle.pat_unless.specs.Blocking.{blocks, is_blocked_by, waited, unblocked}
@@ -40,17 +40,18 @@ and_together false b c = refl
 block_sought : (tests : List Test) (a : Row) → IsSought (λ fields. passes tests a.payload fields) (λ b. cond (passes tests a.payload b.payload) 1 0)
 block_sought tests a = record { endless = λ r end. refl; none = λ r h. ap (λ b. cond b 1 0) h }
 
--- the rows that may block one begin within its scope and are beside it
+-- the rows that may block one are beside it, and begin within its scope
 pub blocked_beside : (scope : ℕ) (tests : List Test) (blockers : List Row) (a : Row) (from until : ℕ) (entries : List (Row × ℕ)) → from ≡ a.begin + 1 → until ≡ later a.begin scope
-    → ((weight : Row → ℕ) → IsSought (λ fields. passes tests a.payload fields) weight → sum_by weight (spread entries) ≡ sum_by weight (filter (begins_within from until) blockers))
-    → is_blocked_by scope tests blockers a ≡ list_any (λ b. passes tests a.payload b.payload) (spread entries)
+    → ((weight : Row → ℕ) → IsSought (λ fields. passes tests a.payload fields) weight → sum_by weight (filter (begins_within from until) (spread entries)) ≡ sum_by weight (filter (begins_within from until) blockers))
+    → is_blocked_by scope tests blockers a ≡ list_any (λ b. begins_within from until b && passes tests a.payload b.payload) (spread entries)
 blocked_beside scope tests blockers a from until entries starts is found =
     any_filter (blocks scope tests a) (λ b. passes tests a.payload b.payload) (begins_within from until) blockers
     (λ b. and_together (nat_lt a.begin b.begin) (nat_lt b.begin (later a.begin scope)) (passes tests a.payload b.payload)
     ∙ (λ i. ((next_time a.begin b.begin ∙ ap (λ n. nat_le n b.begin) (sym starts)) i && nat_lt b.begin (sym is i)) && passes tests a.payload b.payload))
     ∙ (any_is (λ b. passes tests a.payload b.payload) (filter (begins_within from until) blockers)
     ∙ (ap (nat_lt 0) (sym (found (λ b. cond (passes tests a.payload b.payload) 1 0) (block_sought tests a)))
-    ∙ sym (any_is (λ b. passes tests a.payload b.payload) (spread entries))))
+    ∙ (sym (any_is (λ b. passes tests a.payload b.payload) (filter (begins_within from until) (spread entries)))
+    ∙ sym (any_filter (λ b. begins_within from until b && passes tests a.payload b.payload) (λ b. passes tests a.payload b.payload) (begins_within from until) (spread entries) (λ b. refl)))))
 
 any_behind : (q : Row → Bool) (count : ℕ) (x : Row) (xs : List Row) → q x ≡ false → list_any q (replicate count x ++ xs) ≡ list_any q xs
 any_behind q zero x xs h = refl
@@ -65,9 +66,9 @@ pub scan_goes_on : (q : Row → Bool) (entries entries' : List (Row × ℕ)) (x 
 scan_goes_on q entries entries' x count blocked is h was = was ∙ (ap (λ es. list_any q (spread es)) is ∙ any_behind q count x (spread entries') h)
 
 -- one that does
-pub scan_ends : (q : Row → Bool) (entries entries' : List (Row × ℕ)) (x : Row) (count from before : ℕ) (blocked : Bool) → entries ≡ (x, count) ∷ entries' → AreInScope from before entries → q x ≡ true → blocked ≡ list_any q (spread entries) → blocked ≡ true
-scan_ends q entries entries' x count from before blocked is within h was =
-    was ∙ (ap (λ es. list_any q (spread es)) is ∙ any_first q count x (spread entries') (subst (AreInScope from before) is within).0.0 h)
+pub scan_ends : (q : Row → Bool) (entries entries' : List (Row × ℕ)) (x : Row) (count : ℕ) (blocked : Bool) → entries ≡ (x, count) ∷ entries' → AreThere entries → q x ≡ true → blocked ≡ list_any q (spread entries) → blocked ≡ true
+scan_ends q entries entries' x count blocked is there h was =
+    was ∙ (ap (λ es. list_any q (spread es)) is ∙ any_first q count x (spread entries') (subst AreThere is there).0 h)
 
 -- the row that a row gives
 pub waited_copies : (scope hold : ℕ) (a : Row) (count begin end : ℕ) → begin ≡ later a.begin scope → end ≡ later begin hold → begin < end → replicate count (record { end = end; begin = begin; payload = a.payload }) ≡ flat_map (waited scope hold) (replicate count a)

@@ -11,6 +11,7 @@ use Rattle.cedr_table.specs.Operators.{Tables, table_at, SameTables}
 use Rattle.cedr_table.specs.PortLaws.{same_at, least_rises, least_is_time}
 use Rattle.cedr_table.specs.OperatorLaws.{OperatorLaws}
 use Rattle.pat_state.specs.declared.tied.Tied.{Tied}
+use Rattle.pat_state.specs.Tied.{left_rows, right_rows}
 use Rattle.pat_state.proofs.EndlessLemmas.{stands_later, stands_alike}
 use Rattle.cedr_expr.specs.declared.test.Test.{Test}
 use Rattle.pat_state.proofs.FlatLemmas.{flat_map-like}
@@ -47,8 +48,8 @@ same_unblocked scope hold tests tables others same = record {
 pub unless_laws : (terms : Terms) (tied : Tied) → OperatorLaws (unless_of terms.scope terms.hold terms.tests) (UnlessStands terms tied)
 unless_laws terms tied = record {
   sized = λ tables marks h. (h.kept.table, h.kept.mark);
-  rising = λ tables marks later h k. record { kept = stands_later terms.scope (tied.left ∷ tied.right ∷ []) tables marks later h.kept k; tags = h.tags };
-  alike = λ tables others marks k h. record { kept = stands_alike terms.scope (tied.left ∷ tied.right ∷ []) tables others marks k h.kept; tags = h.tags };
+  rising = λ tables marks later h k. record { kept = stands_later terms.scope (left_rows tied ∷ right_rows tied ∷ []) tables marks later h.kept k; tags = h.tags };
+  alike = λ tables others marks k h. record { kept = stands_alike terms.scope (left_rows tied ∷ right_rows tied ∷ []) tables others marks k h.kept; tags = h.tags };
   same_rows = λ tables others k. same_unblocked terms.scope terms.hold terms.tests tables others k;
   nothing = record { each = λ r. refl };
   bound_rises = λ tables marks later h k. least_rises marks later k;

@@ -1,10 +1,11 @@
-ghost use Rattle.std.specs.Prelude.{ℕ, ◌≡◌, ◌≤◌, ◌<◌, ◌++◌, ◌^◌, OnOk, IfOk, replicate};
+ghost use Rattle.std.specs.Prelude.{ℕ, ◌≡◌, ◌≤◌, ◌<◌, ◌++◌, ◌&&◌, OnOk, IfOk, replicate};
 ghost use Rattle.std.specs.List.{flat_map};
 ghost use Rattle.cedr_base.specs.declared.time.TheConstants.{FOREVER};
 ghost use Rattle.cedr_base.specs.Rows.{SameRows};
 ghost use Rattle.cedr_table.specs.Counted.{spread};
-ghost use Rattle.pat_state.specs.Tied.{AreTied};
-ghost use Rattle.pat_state.specs.Starts.{AreInScope};
+ghost use Rattle.pat_state.specs.Tied.{left_rows, right_rows, AreTied};
+ghost use Rattle.cedr_expr.specs.Tests.{passes};
+ghost use Rattle.pat_state.specs.Starts.{begins_within, AreInScope};
 ghost use Rattle.pat_unless.specs.Blocking.{is_blocked_by, waited, unblocked, AreWhiles};
 ghost use Rattle.pat_unless.specs.Steps.{freed, decided};
 
@@ -45,18 +46,27 @@ fn push_copies(
 }
 
 impl Terms {
+    /// Whether a row begins at a time or later and before another one, and passes the tests with this one.
+    fn is_blocker(&self, from: Time, until: Time, row: &Row, blocker: &Row) -> bool
+        ensures { result ≡ (begins_within from until blocker.now && passes self.now.tests row.now.payload blocker.now.payload) }
+    {
+        from <= blocker.begin
+            && blocker.begin < until
+            && self.tests.holds(&row.payload, &blocker.payload)
+    }
+
     /// Whether a right row blocks this one. O(log n) comparisons, and O(1) and the tests for each right row that has its
     /// tag and begins within its scope.
     fn is_blocked(&self, alloc: Global, tied: &Tied, row: &Row) -> bool
         requires whiles { AreWhiles self.now.scope self.now.hold }
         requires begin { row.now.begin < FOREVER }
         requires tags { AreTied self.now.tests tied.now }
-        ensures { result ≡ is_blocked_by self.now.scope self.now.tests tied.now.right row.now }
+        ensures { result ≡ is_blocked_by self.now.scope self.now.tests (right_rows tied.now) row.now }
     {
         let until = later(row.begin, self.scope);
         let from = row.begin + 1;
         for (blocker, _) in tied.beside_left(alloc, &self.tests, &row.payload, from, until) {
-            if self.tests.holds(&row.payload, &blocker.payload) {
+            if self.is_blocker(from, until, row, blocker) {
                 return true;
             }
         }
@@ -94,7 +104,7 @@ impl Terms {
         requires whiles { AreWhiles self.now.scope self.now.hold }
         requires begin { row.now.begin < FOREVER }
         requires tags { AreTied self.now.tests tied.now }
-        ensures { IfOk result (λ rows. rows.items ≡ unblocked self.now.scope self.now.hold self.now.tests tied.now.right row.now) }
+        ensures { IfOk result (λ rows. rows.items ≡ unblocked self.now.scope self.now.hold self.now.tests (right_rows tied.now) row.now) }
     {
         let mut rows = Vec::new(alloc);
         if !self.is_blocked(alloc, tied, row) {
@@ -117,7 +127,7 @@ impl Terms {
         requires whiles { AreWhiles self.now.scope self.now.hold }
         requires begin { row.now.begin < FOREVER }
         requires tags { AreTied self.now.tests tied.now }
-        ensures { OnOk result (rows.new.items ≡ rows.old.items ++ flat_map (freed self.now.scope self.now.hold self.now.tests tied.now.right blocker.now) (replicate count row.now)) }
+        ensures { OnOk result (rows.new.items ≡ rows.old.items ++ flat_map (freed self.now.scope self.now.hold self.now.tests (right_rows tied.now) blocker.now) (replicate count row.now)) }
     {
         if self.tests.holds(&row.payload, &blocker.payload) && !self.is_blocked(alloc, tied, row) {
             self.push_waited(alloc, row, count, rows)
@@ -138,7 +148,7 @@ impl Terms {
         requires whiles { AreWhiles self.now.scope self.now.hold }
         requires within { (from before : ℕ) × (before ≤ FOREVER) × AreInScope from before some }
         requires tags { AreTied self.now.tests tied.now }
-        ensures { OnOk result (rows.new.items ≡ rows.old.items ++ flat_map (freed self.now.scope self.now.hold self.now.tests tied.now.right blocker.now) (spread some.entry)) }
+        ensures { OnOk result (rows.new.items ≡ rows.old.items ++ flat_map (freed self.now.scope self.now.hold self.now.tests (right_rows tied.now) blocker.now) (spread some.entry)) }
     {
         for (row, count) in some {
             self.push_freed(alloc, tied, blocker, row, *count, rows)?;
@@ -157,7 +167,7 @@ impl Terms {
         requires whiles { AreWhiles self.now.scope self.now.hold }
         requires begin { blocker.now.begin < FOREVER }
         requires tags { AreTied self.now.tests tied.now }
-        ensures { IfOk result (λ rows. SameRows rows.items (decided self.now.scope self.now.hold self.now.tests tied.now.right blocker.now tied.now.left)) }
+        ensures { IfOk result (λ rows. SameRows rows.items (decided self.now.scope self.now.hold self.now.tests (right_rows tied.now) blocker.now (left_rows tied.now))) }
     {
         let from = (blocker.begin + 1).saturating_sub(self.scope);
         let (tagged, others) = tied.beside_right(

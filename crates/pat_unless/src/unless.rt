@@ -1,7 +1,7 @@
 ghost use Rattle.std.specs.Prelude.{◌≡◌, ◌<◌, ◌∷◌, [], OnOk, OnErr};
 ghost use Rattle.cedr_base.specs.declared.time.TheConstants.{FOREVER};
 ghost use Rattle.pat_state.specs.Starts.{HasRow};
-ghost use Rattle.pat_state.specs.Tied.{AreTied};
+ghost use Rattle.pat_state.specs.Tied.{left_rows, right_rows, AreTied};
 ghost use Rattle.change_laws.specs.Times.{IsWhile};
 ghost use Rattle.pat_state.specs.declared.answer.Way.TheVariants.{Comes, Goes};
 ghost use Rattle.pat_unless.specs.Blocking.{unless_of, unblocked, AreWhiles};
@@ -61,10 +61,10 @@ impl Unless {
     ) -> Result<(), OutOfMemory>
         requires whiles { AreWhiles self.old.terms.scope self.old.terms.hold }
         requires begin { row.now.begin < FOREVER }
-        requires there { HasRow self.old.tied.left change.now }
+        requires there { HasRow (left_rows self.old.tied) change.now }
         requires tags { AreTied self.old.terms.tests self.old.tied }
         ensures terms { self.new.terms ≡ self.old.terms }
-        ensures ok { OnOk result ((self.new.tied.right ≡ self.old.tied.right) × IsStep change.now self.old.tied.left self.new.tied.left × Appends way (unblocked self.old.terms.scope self.old.terms.hold self.old.terms.tests self.old.tied.right row.now) out.old.items out.new.items × AreTied self.new.terms.tests self.new.tied) }
+        ensures ok { OnOk result (((right_rows self.new.tied) ≡ (right_rows self.old.tied)) × IsStep change.now (left_rows self.old.tied) (left_rows self.new.tied) × Appends way (unblocked self.old.terms.scope self.old.terms.hold self.old.terms.tests (right_rows self.old.tied) row.now) out.old.items out.new.items × AreTied self.new.terms.tests self.new.tied) }
         ensures err { OnErr result (out.new.items ≡ out.old.items) }
     {
         let rows = self.terms.unblocked(alloc, &self.tied, row)?;
@@ -82,10 +82,10 @@ impl Unless {
     ) -> Result<(), OutOfMemory>
         requires whiles { AreWhiles self.old.terms.scope self.old.terms.hold }
         requires begin { blocker.now.begin < FOREVER }
-        requires there { HasRow self.old.tied.right change.now }
+        requires there { HasRow (right_rows self.old.tied) change.now }
         requires tags { AreTied self.old.terms.tests self.old.tied }
         ensures terms { self.new.terms ≡ self.old.terms }
-        ensures ok { OnOk result ((self.new.tied.left ≡ self.old.tied.left) × IsStep change.now self.old.tied.right self.new.tied.right × Appends Goes (decided self.old.terms.scope self.old.terms.hold self.old.terms.tests self.old.tied.right blocker.now self.old.tied.left) out.old.items out.new.items × AreTied self.new.terms.tests self.new.tied) }
+        ensures ok { OnOk result (((left_rows self.new.tied) ≡ (left_rows self.old.tied)) × IsStep change.now (right_rows self.old.tied) (right_rows self.new.tied) × Appends Goes (decided self.old.terms.scope self.old.terms.hold self.old.terms.tests (right_rows self.old.tied) blocker.now (left_rows self.old.tied)) out.old.items out.new.items × AreTied self.new.terms.tests self.new.tied) }
         ensures err { OnErr result (out.new.items ≡ out.old.items) }
     {
         let rows = self.terms.decided(alloc, &self.tied, blocker)?;
@@ -103,10 +103,10 @@ impl Unless {
     ) -> Result<(), OutOfMemory>
         requires whiles { AreWhiles self.old.terms.scope self.old.terms.hold }
         requires begin { blocker.now.begin < FOREVER }
-        requires there { HasRow self.old.tied.right change.now }
+        requires there { HasRow (right_rows self.old.tied) change.now }
         requires tags { AreTied self.old.terms.tests self.old.tied }
         ensures terms { self.new.terms ≡ self.old.terms }
-        ensures ok { OnOk result ((self.new.tied.left ≡ self.old.tied.left) × IsStep change.now self.old.tied.right self.new.tied.right × Appends Comes (decided self.old.terms.scope self.old.terms.hold self.old.terms.tests self.new.tied.right blocker.now self.old.tied.left) out.old.items out.new.items × AreTied self.new.terms.tests self.new.tied) }
+        ensures ok { OnOk result (((left_rows self.new.tied) ≡ (left_rows self.old.tied)) × IsStep change.now (right_rows self.old.tied) (right_rows self.new.tied) × Appends Comes (decided self.old.terms.scope self.old.terms.hold self.old.terms.tests (right_rows self.new.tied) blocker.now (left_rows self.old.tied)) out.old.items out.new.items × AreTied self.new.terms.tests self.new.tied) }
         ensures err { OnErr result (out.new.items ≡ out.old.items) }
     {
         self.tied.apply_right(alloc, &self.terms.tests, change)?;
@@ -163,7 +163,7 @@ impl Operator for Unless {
 
     fn trim(&mut self, marks: &[Time]) {
         let least = least_mark(marks);
-        self.tied.forget(&self.terms.tests, self.terms.scope, least);
+        self.tied.forget(self.terms.scope, least);
     }
 
     ghost lawful = { λ s. unless_laws s.terms s.tied };

@@ -1,4 +1,4 @@
-use Rattle.std.proofs.Common.{◌≤◌, length, ap, ◌∙◌, subst}
+use Rattle.std.proofs.Common.{◌≤◌, length, ap, subst}
 use Rattle.std.proofs.lemmas.Result.{IfOk-weaker}
 use Rattle.cedr_table.specs.Operators.{Tables}
 use Rattle.pat_state.specs.Groups.{grouped_rows}

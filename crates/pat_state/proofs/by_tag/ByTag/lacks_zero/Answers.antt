@@ -1,4 +1,4 @@
-use Rattle.std.proofs.Common.{ℕ, ◌<◌, ◌≡◌, List, subst}
+use Rattle.std.proofs.Common.{List, subst}
 use Rattle.std.proofs.lemmas.Bool.{ltb-true}
 use Rattle.cedr_base.specs.declared.row.Row.{Row}
 use Rattle.pat_state.specs.Keys.{LackTag}

@@ -21,6 +21,6 @@ returns-clause-crossed c =
     let first : left_tag c.args.width c.args.tests.now (changed_row c.args.change.now).payload ≡ c.side_tag-first.result = ap (λ (r : Row). left_tag c.args.width c.args.tests.now r.payload) (sym c.row.ensures) ∙ sym c.side_tag-first.ensures in
     let second : right_tag c.args.width c.args.tests.now (changed_row c.args.change.now).payload ≡ c.side_tag-second.result = ap (λ (r : Row). right_tag c.args.width c.args.tests.now r.payload) (sym c.row.ensures) ∙ sym c.side_tag-second.ensures in
     on_ok_weaker c.apply.result (λ step. record {
-      first_are = tagged_step (left_tag c.args.width c.args.tests.now) c.side_tag-first.result c.args.change.now c.args.self.now.rows c.apply.new.self c.args.self.now.first_tags c.apply_tagged.new.tags first c.requires.crossed.first_are c.in_ok-apply_tagged.ensures step;
-      second_are = tagged_step (right_tag c.args.width c.args.tests.now) c.side_tag-second.result c.args.change.now c.args.self.now.rows c.apply.new.self c.args.self.now.second_tags c.apply_tagged-2.new.tags second c.requires.crossed.second_are c.in_ok-apply_tagged-2.ensures step;
+      first_are = tagged_step (left_tag c.args.width c.args.tests.now) c.side_tag-first.result c.args.change.now c.args.self.now.rows c.apply.new.self c.args.self.now.first_tags c.apply_tagged.new.tags first c.requires.crossed.first_are c.in_ok-apply_tagged.ensures.ok step;
+      second_are = tagged_step (right_tag c.args.width c.args.tests.now) c.side_tag-second.result c.args.change.now c.args.self.now.rows c.apply.new.self c.args.self.now.second_tags c.apply_tagged-2.new.tags second c.requires.crossed.second_are c.in_ok-apply_tagged-2.ensures.ok step;
     }) c.apply.ensures.ok

@@ -15,5 +15,5 @@ pub returns-clause-keyed : goal.returns-clause-keyed
 returns-clause-keyed c =
     let at : key_tag c.args.width c.args.column (changed_row c.args.change.now).payload ≡ c.key_tag-tag.result = ap (λ (r : Row). key_tag c.args.width c.args.column r.payload) (sym c.row.ensures) ∙ sym c.key_tag-tag.ensures in
     on_ok_weaker c.apply.result (λ step. record {
-      tagged = tagged_step (key_tag c.args.width c.args.column) c.key_tag-tag.result c.args.change.now c.args.self.now.rows c.apply.new.self c.args.self.now.tags c.apply_tagged.new.tags at c.requires.keyed.tagged c.in_ok-apply_tagged.ensures step;
+      tagged = tagged_step (key_tag c.args.width c.args.column) c.key_tag-tag.result c.args.change.now c.args.self.now.rows c.apply.new.self c.args.self.now.tags c.apply_tagged.new.tags at c.requires.keyed.tagged c.in_ok-apply_tagged.ensures.ok step;
     }) c.apply.ensures.ok
