@@ -101,7 +101,7 @@ fn write_held(rt: &impl Print, alloc: Global, tests: &Tests, words: &[&str]) -> 
     print!(rt;
         " {} {}",
         tests.holds(left, right),
-        copied.holds(&joined, &Payload::new(alloc))
+        copied.holds_alone(&joined)
     )?;
     Ok(())
 }

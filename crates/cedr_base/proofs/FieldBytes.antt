@@ -1,9 +1,9 @@
 -- What the functions on codes compute.
-use Rattle.std.proofs.Common.{◌≡◌, ℕ, zero, suc, ◌+◌, ◌-◌, ◌*◌, ◌/◌, ◌^◌, ◌<◌, ◌≤◌, inl, inr, List, [], ◌∷◌, ◌++◌, Bool, true, false, cond, length, take, drop, get_or, ltb, ltb-true, ltb-false, lt-ltb, le-ltb, refl, ap, sym, ap₂, ◌∙◌, arith, append_assoc, append-nil, drop-cons, drop_of_length-le, length-drop, ◌≢◌}
+use Rattle.std.proofs.Common.{◌≡◌, ℕ, zero, suc, ◌+◌, ◌-◌, ◌*◌, ◌/◌, ◌^◌, ◌<◌, ◌≤◌, inl, inr, List, [], ◌∷◌, ◌++◌, Bool, true, false, cond, length, take, drop, set, get_or, ltb, ltb-true, ltb-false, lt-ltb, le-ltb, refl, ap, sym, ap₂, ◌∙◌, arith, append_assoc, append-nil, drop-cons, drop_of_length-le, length-drop, ◌≢◌}
 use Rattle.std.specs.Int.{w128, bytes_high_first, to_be_bytes}
 use Rattle.std.proofs.lemmas.Bool.{cases_lt}
 use Rattle.std.proofs.lemmas.Nat.{leading_length, pow-add}
-use Rattle.std.proofs.lemmas.List.{take_all}
+use Rattle.std.proofs.lemmas.List.{take_all, drop-set}
 use Rattle.std.specs.Int.Count.{count_leading_zeros}
 use Rattle.std.proofs.Math.Nat.{pow-le-pow_right, pow-suc}
 use Rattle.cedr_base.specs.FieldCodes.{byte_width, escaped}
@@ -75,12 +75,14 @@ pub long_as_asked : (k n : ℕ) → length (bytes_high_first k n) ≡ k
 long_as_asked zero n = refl
 long_as_asked (suc k) n = ap suc (long_as_asked k n)
 
--- what `push_lowest` appends
-pub lowest_pushed : (k n : ℕ) (old new all : List ℕ) → k ≤ 16 → all ≡ to_be_bytes w128 n → new ≡ old ++ take (16 - (16 - k)) (drop (16 - k) all) → new ≡ old ++ bytes_high_first k n
-lowest_pushed k n old new all within is pushed =
-    let lowest : drop (16 - k) all ≡ bytes_high_first k n = ap (drop (16 - k)) is ∙ lowest_of_all k n within in
-    let short : length (bytes_high_first k n) ≤ 16 - (16 - k) = omega (arith, long_as_asked k n) in
-    pushed ∙ ap (λ xs. old ++ take (16 - (16 - k)) xs) lowest ∙ ap (λ xs. old ++ xs) (take_all (16 - (16 - k)) (bytes_high_first k n) short)
+-- what `tagged` gives behind its first bytes
+pub tag_and_lowest : (k n tag : ℕ) (all : List ℕ) → k ≤ 16 → all ≡ to_be_bytes w128 n → drop (16 - k) (set (0 ∷ (all ++ [])) (16 - k) tag) ≡ tag ∷ bytes_high_first k n
+tag_and_lowest k n tag all within is =
+    let long : length all ≡ 16 = ap length is ∙ long_as_asked 16 n in
+    let next : 16 - k + 1 ≡ suc (16 - k) = omega arith in
+    let lowest : drop (16 - k) (all ++ []) ≡ bytes_high_first k n = ap (drop (16 - k)) (append-nil all ∙ is) ∙ lowest_of_all k n within in
+    drop-set (0 ∷ (all ++ [])) (16 - k) tag (omega (arith, long, ap length (append-nil all)))
+    ∙ ap (λ j. tag ∷ drop j (0 ∷ (all ++ []))) next ∙ ap (λ xs. tag ∷ xs) lowest
 
 -- ---- runs of a text
 

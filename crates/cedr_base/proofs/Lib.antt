@@ -5,3 +5,4 @@ pub mod FieldBytes
 pub mod FieldReading
 pub mod StoredLemmas
 pub mod FieldLemmas
+pub mod CodeOrder

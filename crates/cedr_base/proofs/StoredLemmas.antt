@@ -1,6 +1,6 @@
 -- What the bytes of a payload or of a field are the code of.
-use Rattle.std.proofs.Common.{◌≡◌, ℕ, ◌<◌, ◌≤◌, ◌+◌, ◌-◌, ◌++◌, List, [], ◌∷◌, length, take, drop, ap, ap₂, sym, ◌∙◌, refl, arith, length-append, append-nil}
-use Rattle.std.proofs.Math.Seq.{take-append_seam, drop-append_seam}
+use Rattle.std.proofs.Common.{◌≡◌, ℕ, zero, suc, ◌<◌, ◌≤◌, ◌+◌, ◌-◌, ◌++◌, List, [], ◌∷◌, length, take, drop, ap, ap₂, sym, ◌∙◌, refl, subst, arith, length-append, append-nil}
+use Rattle.std.proofs.Math.Seq.{take-append_seam, drop-append_seam, drop-nil}
 use Rattle.std.proofs.lemmas.List.Elements.{All-nil, All-cons, All-append, All-head, All-tail}
 use Rattle.cedr_base.specs.declared.field.Field.{Field}
 use Rattle.cedr_base.specs.declared.field.Field.TheVariants.{Number, Bytes}
@@ -79,3 +79,17 @@ first_code bytes n (f ∷ fs) h some first =
     let this : take n bytes ≡ field_code f = ap₂ take long h.1 ∙ take-append_seam (field_code f) (payload_code fs) in
     let those : drop n bytes ≡ payload_code fs = ap₂ drop long h.1 ∙ drop-append_seam (field_code f) (payload_code fs) in
     record { first = f; others = fs; are = refl; this = (All-head FitsField f fs h.0, this); those = (All-tail FitsField f fs h.0, tail_of bytes n ∙ those) }
+
+-- one turn of `behind`
+pub one_passed : (bytes : List ℕ) (n before : ℕ) (fs whole : List Field) → AreCodesOf bytes fs → 0 < length bytes → 0 < before → ((f : Field) (rest : List ℕ) → bytes ≡ field_code f ++ rest → n ≡ length (field_code f)) → drop before fs ≡ whole → (gs : List Field) × (AreCodesOf (take (length bytes - n) (drop n bytes)) gs × (drop (before - 1) gs ≡ whole))
+one_passed bytes n zero fs whole h some more first is = absurd (omega arith)
+one_passed bytes n (suc before) fs whole h some more first is =
+    let found = first_code bytes n fs h some first in
+    let less : suc before - 1 ≡ before = omega arith in
+    (found.others, (found.those, ap (λ k. drop k found.others) less ∙ ap (drop (suc before)) (sym found.are) ∙ is))
+
+-- what is left behind fields that aren't there
+pub none_left : (bytes : List ℕ) (before : ℕ) (fs whole : List Field) → AreCodesOf bytes fs → drop before fs ≡ whole → length bytes ≡ 0 → AreCodesOf bytes whole
+none_left bytes before fs whole h is none =
+    let nothing = no_codes bytes fs h none in
+    subst (AreCodesOf bytes) (nothing ∙ sym (drop-nil before) ∙ ap (drop before) (sym nothing) ∙ is) h

@@ -19,13 +19,13 @@ use Rattle.cedr_base.specs.Order.{text_cmp, field_cmp, payload_cmp}
 use Rattle.cedr_base.specs.FieldCodes.{byte_width, number_tag, number_code, escaped_byte, escaped, field_code, payload_code, FitsField, FitFields}
 
 -- how two numbers compare where one is known to be less, equal or greater
-cmp_less : (a b : ℕ) → a < b → nat_cmp a b ≡ Less
+pub cmp_less : (a b : ℕ) → a < b → nat_cmp a b ≡ Less
 cmp_less a b h = sym (nat_cmp_is a b Less h)
 
-cmp_equal : (a b : ℕ) → a ≡ b → nat_cmp a b ≡ Equal
+pub cmp_equal : (a b : ℕ) → a ≡ b → nat_cmp a b ≡ Equal
 cmp_equal a b h = sym (nat_cmp_is a b Equal h)
 
-cmp_greater : (a b : ℕ) → b < a → nat_cmp a b ≡ Greater
+pub cmp_greater : (a b : ℕ) → b < a → nat_cmp a b ≡ Greater
 cmp_greater a b h = sym (nat_cmp_is a b Greater h)
 
 -- three comparisons one after the other
@@ -118,7 +118,7 @@ lesser_quotient p m n some low = elim (cases_lt m n) [
 ]
 
 -- where the bytes above the lowest k are the same, those k compare as the numbers do
-level_bytes : (k m n : ℕ) (r s : List ℕ) → m / 256 ^ k ≡ n / 256 ^ k → text_cmp (bytes_high_first k m ++ r) (bytes_high_first k n ++ s) ≡ ordering_then (nat_cmp m n) (text_cmp r s)
+pub level_bytes : (k m n : ℕ) (r s : List ℕ) → m / 256 ^ k ≡ n / 256 ^ k → text_cmp (bytes_high_first k m ++ r) (bytes_high_first k n ++ s) ≡ ordering_then (nat_cmp m n) (text_cmp r s)
 level_bytes zero m n r s h =
     let level : m ≡ n = sym (div-one m) ∙ h ∙ div-one n in
     rw (cmp_equal m n level)

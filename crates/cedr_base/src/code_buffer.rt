@@ -60,14 +60,21 @@ impl CodeBuffer {
         Ok(all)
     }
 
-    /// Appends a byte. Where memory runs out it is as before.
+    /// Appends a byte. Where memory runs out the buffer is only to be dropped.
+    #[inline(always)]
     pub(crate) fn push(&mut self, byte: u8) -> Result<(), OutOfMemory>
         ensures { OnOk result (self.new ≡ self.old ++ byte ∷ []) }
     {
+        if self.len < 29 && self.long.is_empty() {
+            self.short[self.len] = byte;
+            self.len += 1;
+            return Ok(());
+        }
         self.extend(&[byte])
     }
 
-    /// Appends bytes. Where memory runs out it is as before.
+    /// Appends bytes. Where memory runs out the buffer is only to be dropped.
+    #[inline(always)]
     pub(crate) fn extend(&mut self, more: &[u8]) -> Result<(), OutOfMemory>
         ensures { OnOk result (self.new ≡ self.old ++ more.now) }
     {
@@ -93,6 +100,7 @@ impl CodeBuffer {
     }
 
     /// The bytes, as the code of so many fields.
+    #[inline(always)]
     pub(crate) fn finish(self, width: usize) -> Result<CodeBytes, OutOfMemory>
         requires { width ≤ length self }
         ensures { IfOk result (λ stored. IsStoredAs stored self width) }
@@ -106,6 +114,7 @@ impl CodeBuffer {
 }
 
 /// Writes bytes at a place.
+#[inline(always)]
 fn put(short: &mut [u8; 29], at: usize, more: &[u8])
     requires { at + length more.now ≤ 29 }
     ensures { take (at + length more.now) short.new ≡ take at short.old ++ more.now }

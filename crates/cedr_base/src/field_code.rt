@@ -1,6 +1,6 @@
 //! Fields as strings of bytes, one after the other, whose order as bytes is the order of the fields.
 
-ghost use Rattle.std.specs.Prelude.{◌≡◌, ◌≢◌, ◌↔◌, ℕ, ◌+◌, ◌-◌, ◌^◌, ◌<◌, ◌≤◌, false, cond, IsFalse, suc, ℤ, pos, int_lt, List, ◌++◌, length, slice_index, Some, None, OnOk, FitsSigned};
+ghost use Rattle.std.specs.Prelude.{◌≡◌, ◌≢◌, ◌↔◌, ℕ, ◌+◌, ◌-◌, ◌^◌, ◌<◌, ◌≤◌, false, cond, IsFalse, suc, ℤ, pos, int_lt, List, ◌∷◌, ◌++◌, length, drop, slice_index, Some, None, OnOk, FitsSigned};
 ghost use Rattle.std.specs.Int.{w128, bytes_high_first};
 ghost use Rattle.cedr_base.specs.declared.field.Field.{Field};
 ghost use Rattle.cedr_base.specs.FieldCodes.{byte_width, number_size, number_width, number_tag, field_code, number_code, text_code, unescaped};
@@ -10,24 +10,27 @@ use crate::memory::OutOfMemory;
 
 pub(crate) const TEXT_TAG: u8 = 64;
 
-/// Appends the code of a number, 1 to 17 bytes. Where memory runs out a part may stand there.
+/// Appends the code of a number, 1 to 17 bytes. Where memory runs out the buffer is only to be dropped.
+#[inline(always)]
 pub(crate) fn push_number(value: i128, out: &mut CodeBuffer) -> Result<(), OutOfMemory>
     ensures { OnOk result (out.new ≡ out.old ++ number_code value) }
 {
     let width = width_of(size_of(value));
     let tag = tag_of(value, width);
-    out.push(tag)?;
-    push_lowest(value.cast_unsigned(), width, out)
+    let code = tagged(tag, value.cast_unsigned(), width);
+    out.extend(&code[16 - width..])
 }
 
-/// Appends the lowest bytes of a number, the highest of them first.
-fn push_lowest(bits: u128, count: usize, out: &mut CodeBuffer) -> Result<(), OutOfMemory>
+/// A byte and then the lowest bytes of a number, the highest of them first, at the end.
+#[inline(always)]
+fn tagged(tag: u8, bits: u128, count: usize) -> [u8; 17]
     requires { count ≤ 16 }
-    ensures { OnOk result (out.new ≡ out.old ++ bytes_high_first count bits) }
+    ensures { drop (16 - count) result ≡ tag ∷ bytes_high_first count bits }
 {
-    let all = bits.to_be_bytes();
-    out.extend(&all[16 - count..])?;
-    Ok(())
+    let mut code = [0; 17];
+    code[1..].copy_from_slice(&bits.to_be_bytes());
+    code[16 - count] = tag;
+    code
 }
 
 /// The number itself, and for a negative one the complement of its bits.

@@ -71,7 +71,8 @@ impl<'a> FieldRef<'a> {
         read_number(self.bytes)
     }
 
-    /// The bytes of a text as they stand. None for a number, and for a text that has a byte 0 or 1. O(n).
+    /// The bytes of a text as they stand: None for a number, and for a text that has a byte 0 or 1. No clause says when there
+    /// are none: whoever gets none asks `to_field`. O(n).
     pub fn plain_text(&self) -> Option<&'a [u8]>
         ensures { IfSome result (λ text. self.now ≡ Bytes text.now) }
     {

@@ -1,4 +1,4 @@
-ghost use Rattle.std.specs.Prelude.{◌≡◌, ◌<◌, ◌∷◌, List, length};
+ghost use Rattle.std.specs.Prelude.{◌≡◌, ◌<◌, ◌∷◌, List, length, drop};
 ghost use Rattle.std.specs.List.{slice_get};
 ghost use Rattle.std.specs.Iterator.{YieldsFirst, item_count};
 ghost use Rattle.cedr_base.specs.declared.field.Field.{Field as AnyField};
@@ -41,15 +41,10 @@ impl<'a> FieldRefs<'a> {
     }
 
     /// The field that stands at a place among them. O(n) in those before it.
-    pub(crate) fn find_at(mut self, at: usize) -> Option<FieldRef<'a>>
+    pub(crate) fn find_at(self, at: usize) -> Option<FieldRef<'a>>
         ensures { result ≡ slice_get self.entry at }
     {
-        let mut before = at;
-        while before > 0 {
-            self.next()?;
-            before -= 1;
-        }
-        self.next()
+        first_field(behind(self.rest, at))
     }
 }
 
@@ -68,6 +63,30 @@ impl<'a> Iterator for FieldRefs<'a> {
         *self = others;
         Some(first)
     }
+}
+
+/// The codes that come behind so many fields.
+fn behind(bytes: &[u8], count: usize) -> &[u8]
+    ensures { (fields : List AnyField) → AreCodesOf bytes.now fields → AreCodesOf result.now (drop count fields) }
+{
+    let mut rest = bytes;
+    let mut before = count;
+    while before > 0 && !rest.is_empty() {
+        rest = &rest[field_len(rest)..];
+        before -= 1;
+    }
+    rest
+}
+
+/// The first of some fields by their code.
+fn first_field(bytes: &[u8]) -> Option<FieldRef<'_>>
+    requires { (fields : List AnyField) × AreCodesOf bytes.now fields }
+    ensures { (fields : List AnyField) → AreCodesOf bytes.now fields → result ≡ slice_get fields 0 }
+{
+    if bytes.is_empty() {
+        return None;
+    }
+    Some(FieldRef::new(&bytes[..field_len(bytes)]))
 }
 
 /// The first of some fields by their code, and the others.

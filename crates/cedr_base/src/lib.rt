@@ -8,6 +8,7 @@ mod change;
 mod code_buffer;
 mod code_bytes;
 mod code_law;
+mod code_order;
 mod field;
 mod field_code;
 mod field_ref;

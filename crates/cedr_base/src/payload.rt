@@ -7,6 +7,7 @@ ghost use Rattle.cedr_base.specs.FieldCodes.{payload_code, FitFields};
 
 use crate::code_buffer::CodeBuffer;
 use crate::code_bytes::CodeBytes;
+use crate::code_order::compare_codes;
 use crate::field::Field;
 use crate::field_ref::FieldRef;
 use crate::field_refs::FieldRefs;
@@ -192,6 +193,6 @@ impl Ord for Payload {
     ghost matches_eq = { Prim.search (comparing, rules) };
 
     fn cmp(&self, other: &Payload) -> Ordering {
-        self.code().cmp(&other.code())
+        compare_codes(self.code(), other.code())
     }
 }

@@ -70,6 +70,7 @@ impl PayloadWriter {
     }
 
     /// With a number at the end. Where memory runs out all is dropped.
+    #[inline(always)]
     pub fn with_number(self, number: i128) -> Result<PayloadWriter, OutOfMemory>
         ensures { IfOk result (λ w. w ≡ self ++ Number number ∷ []) }
     {
@@ -83,6 +84,7 @@ impl PayloadWriter {
     }
 
     /// With a text at the end. O(n). Where memory runs out all is dropped.
+    #[inline(always)]
     pub fn with_text(self, text: &[u8]) -> Result<PayloadWriter, OutOfMemory>
         ensures { IfOk result (λ w. w ≡ self ++ Bytes text.now ∷ []) }
     {
@@ -106,6 +108,7 @@ impl PayloadWriter {
     }
 
     /// The same with a field of a payload.
+    #[inline(always)]
     pub fn with_copy(self, field: &FieldRef<'_>) -> Result<PayloadWriter, OutOfMemory>
         ensures { IfOk result (λ w. w ≡ self ++ field.now ∷ []) }
     {
@@ -132,6 +135,7 @@ impl PayloadWriter {
     }
 
     /// The payload of these fields. Where memory runs out they are dropped.
+    #[inline(always)]
     pub fn finish(self) -> Result<Payload, OutOfMemory>
         ensures { IfOk result (λ p. p ≡ self) }
     {
@@ -142,6 +146,7 @@ impl PayloadWriter {
 }
 
 /// Fields that were written behind so many others, and so many they are.
+#[inline(always)]
 fn counted(
     alloc: Global,
     code: CodeBuffer,

@@ -1,4 +1,4 @@
-ghost use Rattle.std.specs.Prelude.{◌≡◌, [], ◌∷◌, ◌++◌, IfOk};
+ghost use Rattle.std.specs.Prelude.{ℕ, ◌≡◌, ◌≢◌, ◌<◌, ◌↔◌, [], ◌∷◌, ◌++◌, true, length, slice_index, IfOk, MatchBool};
 ghost use Rattle.std.specs.Result.{result_err};
 ghost use Rattle.cedr_expr.specs.Columns.{kept_columns};
 ghost use Rattle.cedr_expr.specs.Types.{first_past_end, keep_fault_of};
@@ -59,6 +59,16 @@ impl Keep {
         chosen.finish()
     }
 
+    /// Whether these are all columns of the payload, each in its place: what is kept of it is then the payload. It takes no
+    /// memory. O(n) in the columns.
+    #[tactic(auto, using(crate::proofs::KeptLemmas::kept_whole))]
+    pub fn keeps_all(&self, payload: &Payload) -> bool
+        ensures all { result ≡ true → kept_columns self.now payload.now ≡ payload.now }
+        ensures in_place { (result ≡ true) ↔ ((length self.now ≡ length payload.now) × ((k : ℕ) → k < length self.now → slice_index self.now k ≡ k)) }
+    {
+        self.columns.len() == payload.len() && are_in_place(self.columns.as_slice())
+    }
+
     pub fn copy(&self, alloc: Global) -> Result<Keep, OutOfMemory>
         ensures { IfOk result (λ keep. keep ≡ self.now) }
     {
@@ -79,6 +89,18 @@ fn with_column(
         Some(field) => chosen.with_copy(&field),
         None => Ok(chosen),
     }
+}
+
+/// Whether the columns count from 0, each one after the other.
+fn are_in_place(columns: &[usize]) -> bool
+    ensures { MatchBool result ((k : ℕ) → k < length columns.now → slice_index columns.now k ≡ k) ((k : ℕ) × (k < length columns.now) × (slice_index columns.now k ≢ k)) }
+{
+    for at in 0..columns.len() {
+        if columns[at] != at {
+            return false;
+        }
+    }
+    true
 }
 
 fn find_past_end(columns: &[usize], types: &[FieldType]) -> Option<usize>

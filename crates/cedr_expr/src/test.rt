@@ -1,4 +1,4 @@
-ghost use Rattle.std.specs.Prelude.{◌≡◌, ◌+◌, ◌||◌, not, nat_lt, length, IfOk};
+ghost use Rattle.std.specs.Prelude.{◌≡◌, ◌+◌, ◌||◌, not, nat_lt, [], length, IfOk};
 ghost use Rattle.cedr_base.specs.declared.field.Field.TheVariants.{Number, Bytes};
 ghost use Rattle.cedr_expr.specs.Tests.{accepts, compares, operand_within, is_within, test_holds};
 
@@ -104,6 +104,23 @@ impl Test {
         };
         match &self.right {
             Operand::Column(place) => match field_at(left, right, *place) {
+                Some(other) => field_passes(&field, self.op, &other),
+                None => false,
+            },
+            Operand::Number(number) => number_passes(&field, self.op, i128::from(*number)),
+            Operand::Bytes(text) => text_passes(&field, self.op, text),
+        }
+    }
+
+    /// Whether the test holds for a left payload beside a right one of no fields. It takes no memory.
+    pub(crate) fn holds_alone(&self, payload: &Payload) -> bool
+        ensures { result ≡ test_holds self.now payload.now [] }
+    {
+        let Some(field) = payload.field(self.left) else {
+            return false;
+        };
+        match &self.right {
+            Operand::Column(place) => match payload.field(*place) {
                 Some(other) => field_passes(&field, self.op, &other),
                 None => false,
             },

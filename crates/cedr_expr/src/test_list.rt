@@ -1,4 +1,4 @@
-ghost use Rattle.std.specs.Prelude.{◌≡◌, IfOk};
+ghost use Rattle.std.specs.Prelude.{◌≡◌, [], IfOk};
 ghost use Rattle.std.specs.Result.{result_err};
 ghost use Rattle.cedr_expr.specs.Tags.{side_tag, tag_of};
 ghost use Rattle.cedr_expr.specs.Tests.{passes, may_pass};
@@ -59,6 +59,13 @@ impl Tests {
         ensures { result ≡ passes self.now left.now right.now }
     {
         self.tests.iter().all(|test| test.holds(left, right))
+    }
+
+    /// Whether a left payload passes every test beside a right one of no fields. It takes no memory, and what `holds` costs.
+    pub fn holds_alone(&self, payload: &Payload) -> bool
+        ensures { result ≡ passes self.now payload.now [] }
+    {
+        self.tests.iter().all(|test| test.holds_alone(payload))
     }
 
     /// Whether the payloads pass every test whose columns they have. Where they don't, they fail whatever columns come after

@@ -9,6 +9,7 @@ ghost use Rattle.cedr_net.specs.Networks.{AreAnswerRows, IsAnswerOf};
 
 use cedr_base::{Change, Message, OutOfMemory, Row, Time};
 use cedr_table::{Table, apply_change};
+use op_driver::take_only;
 use std::alloc::Global;
 
 /// The table of the changes that came of an output and, where they are kept, these changes.
@@ -131,8 +132,8 @@ impl Answer {
         }
     }
 
-    /// A piece came of the output. It is moved out of its list.
-    pub(crate) fn note_all(&mut self, piece: &mut Vec<Message>) -> Result<(), OutOfMemory>
+    /// A piece came of the output. It is moved out of its list, whatever its length is.
+    fn note_each(&mut self, piece: &mut Vec<Message>) -> Result<(), OutOfMemory>
         requires { (given : List Message) × IsAnswerOf self.old given × IsLegalBehind given piece.old.items }
         ensures noted { OnOk result ((given : List Message) → IsAnswerOf self.old given → IsLegalBehind given piece.old.items → IsAnswerOf self.new (given ++ piece.old.items)) }
         ensures keeps { self.new.keeps ≡ self.old.keeps }
@@ -141,6 +142,18 @@ impl Answer {
             self.note(message)?;
         }
         Ok(())
+    }
+
+    /// A piece came of the output. It is moved out of its list.
+    pub(crate) fn note_all(&mut self, piece: &mut Vec<Message>) -> Result<(), OutOfMemory>
+        requires { (given : List Message) × IsAnswerOf self.old given × IsLegalBehind given piece.old.items }
+        ensures noted { OnOk result ((given : List Message) → IsAnswerOf self.old given → IsLegalBehind given piece.old.items → IsAnswerOf self.new (given ++ piece.old.items)) }
+        ensures keeps { self.new.keeps ≡ self.old.keeps }
+    {
+        match take_only(piece) {
+            Some(message) => self.note(message),
+            None => self.note_each(piece),
+        }
     }
 
     /// Copies of the rows in canonical order.

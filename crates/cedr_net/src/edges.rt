@@ -5,6 +5,7 @@ ghost use Rattle.cedr_net.specs.Edges.{readers_on, readers_from, waits_on, waits
 use crate::queue::Queues;
 use cedr_base::{Message, OutOfMemory};
 use cedr_plan::PlanNode;
+use op_driver::take_only;
 use std::alloc::Global;
 use std::marker::Model;
 
@@ -110,8 +111,8 @@ pub(crate) fn send_one(
     }
 }
 
-/// Messages are moved out of their list and wait on ports, one after the other.
-pub(crate) fn send(
+/// Messages are moved out of their list and wait on ports, one after the other, whatever their number is.
+fn send_all(
     alloc: Global,
     readers: &[Reader],
     waiting: &mut Vec<Queues>,
@@ -124,6 +125,26 @@ pub(crate) fn send(
         send_one(alloc, readers, waiting, message)?;
     }
     Ok(())
+}
+
+/// Messages are moved out of their list and wait on ports, one after the other. Most lists have one message, and most
+/// nodes one reader: there the message isn't moved from call to call.
+pub(crate) fn send(
+    alloc: Global,
+    readers: &[Reader],
+    waiting: &mut Vec<Queues>,
+    messages: &mut Vec<Message>,
+) -> Result<(), OutOfMemory>
+    requires { ArePorts waiting.old.items readers.now }
+    ensures { OnOk result (waiting.new.items ≡ all_wait waiting.old.items readers.now messages.old.items) }
+{
+    match take_only(messages) {
+        Some(message) => match readers {
+            [reader] => send_to(waiting, *reader, message),
+            _ => send_one(alloc, readers, waiting, message),
+        },
+        None => send_all(alloc, readers, waiting, messages),
+    }
 }
 
 /// Takes the first message that waits on the first port of a node where one does.

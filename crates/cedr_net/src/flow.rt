@@ -18,6 +18,7 @@ use crate::queue::Queues;
 use crate::work::Work;
 use cedr_base::{Message, OutOfMemory, Time};
 use cedr_plan::{Plan, find_output};
+use op_driver::empty;
 use std::alloc::Global;
 
 /// The nodes of a network, what waits on their ports, and what came of the output.
@@ -60,7 +61,7 @@ fn take_at(
     requires works { (n : PlanNode) × (lists : Lists) × (given : List Message) × (is_source n.kind ≡ false) × ((d : Work) → WorksAt (slice_index_or works.old.items place d) n lists given) × MayTake lists port message }
     ensures { OnOk result ((n : PlanNode) (lists : Lists) (given : List Message) → is_source n.kind ≡ false → ((d : Work) → WorksAt (slice_index_or works.old.items place d) n lists given) → MayTake lists port message → IsWorked works.old.items works.new.items place n (with_more lists port (message ∷ [])) (given ++ piece.new.items)) }
 {
-    piece.clear();
+    empty(piece);
     works[place].take(alloc, port, message, piece)?;
     Ok(())
 }

@@ -1,7 +1,10 @@
 -- What comes of a message, as the code has it.
-use Rattle.std.proofs.Common.{◌≡◌, ℕ, ◌+◌, ◌-◌, ◌<◌, ◌≤◌, List, [], ◌∷◌, ◌++◌, Bool, true, false, cond, ◌||◌, ap, sym, ◌∙◌, subst, arith, length, set, get_or}
+use Rattle.std.proofs.Common.{◌≡◌, refl, ℕ, ◌+◌, ◌-◌, ◌<◌, ◌≤◌, List, [], ◌∷◌, ◌++◌, Bool, true, false, cond, ◌||◌, ap, sym, ◌∙◌, subst, arith, length, set, get_or}
+use Rattle.std.specs.Prelude.{nat_eq}
 use Rattle.std.proofs.lemmas.Bool.{or_parts}
+use Rattle.std.proofs.lemmas.List.{append-nil}
 use Rattle.cedr_base.specs.declared.change.Message.{Message}
+use Rattle.cedr_base.specs.declared.change.Message.TheVariants as message
 use Rattle.cedr_base.specs.Messages.{IsLegalBehind, IsLegal}
 use Rattle.change_laws.proofs.Legal.{legal-push, legal_rest}
 use Rattle.node_laws.specs.Pass.{passed_of, pass}
@@ -14,7 +17,7 @@ use Rattle.node_laws.proofs.Passes.{passes}
 use Rattle.cedr_node.specs.declared.port.Port.{Port}
 use Rattle.op_driver.specs.Driving.{MayTake, Drives, Answers}
 use Rattle.node_laws.proofs.Ends.{open_not_over}
-use Rattle.cedr_node.proofs.PortLists.{all_at, passes_length, passes_at, broken_set, waiting_set}
+use Rattle.cedr_node.proofs.PortLists.{all_at, passes_length, passes_at, broken_set, waiting_set, over_is}
 use Rattle.cedr_node.proofs.Echo.{echo_single}
 use Rattle.cedr_node.proofs.Goes.{goes, breaks_off, passes_now, holds_now}
 
@@ -91,3 +94,39 @@ module _ (meaning : Meaning) (stands : Tables → List ℕ → Type 0) (ports po
       takes_holds =
           subst (λ (ps : List Port). HoldsAtFronts meaning (levels_of ps) (with_more lists port (m ∷ [])) held) (sym t.stands_at)
           (holds_now meaning stands stands' held ports marks marks' sent sent' waiting waiting' broken lists given port m t.was t.now passed before after h may taken_now waiting_now (sym broken_now ∙ whole) a echo_next)
+
+on_unbroken : (m : Message) → is_closing m ≡ false → is_broken m ≡ false
+on_unbroken (message.Change c) h = refl
+on_unbroken (message.Mark t) h = refl
+on_unbroken message.End h = refl
+on_unbroken message.Broken h = h
+
+-- a message that goes through a port, and closes nothing, is what the operator takes
+module _ (meaning : Meaning) (stands : Tables → List ℕ → Type 0) (ports ports' : List Port) (marks : List ℕ) (sent waiting : ℕ) (broken : Bool) (lists : Lists) (given : List Message) (port : ℕ) (m : Message)
+    (h : StandsBetween meaning stands ports marks sent waiting broken lists given) (may : MayTake lists port m) (t : IsTakenOn ports ports' port (list_at lists port) m (m ∷ [])) (goes_on : is_closing m ≡ false) (whole : broken ≡ false) where
+  same_waiting : waiting ≡ waiting - cond (is_closing m) 1 0
+  same_waiting = let e = ap (λ (c : Bool). cond {A = ℕ} c 1 0) goes_on in omega (arith, e)
+
+  same_broken : broken ≡ (broken || is_broken m)
+  same_broken = whole ∙ sym (ap (λ (b : Bool). b || is_broken m) whole ∙ on_unbroken m goes_on)
+
+  -- it may come to the operator
+  pub through_comes : Drives meaning stands marks sent (passes_of (levels_of ports) lists) given × MayTake (passes_of (levels_of ports) lists) port m
+  through_comes =
+      let on = passes_on meaning stands ports ports' marks sent waiting waiting broken broken (is_closing m) (is_broken m) lists given port m (m ∷ []) h may t refl refl same_waiting same_broken whole in
+      (on.0, record { port_is = on.1; comes = on.2.0 })
+
+  no_end : (ms : List Message) → ms ++ end_of_ports waiting ≡ ms
+  no_end ms =
+      let some_waits : nat_eq waiting 0 ≡ false = ap (λ n. nat_eq n 0) h.waiting_is ∙ (sym (over_is lists) ∙ open_not_over port lists may.port_is may.comes.0) in
+      ap (λ (b : Bool). ms ++ cond b (message.End ∷ []) []) some_waits ∙ append-nil ms
+
+  module _ (stands' : Tables → List ℕ → Type 0) (held : Tables) (marks' : List ℕ) (sent' : ℕ) (before after : List Message)
+      (a : Answers meaning stands' held marks' sent sent' (passes_of (levels_of ports) lists) port (m ∷ []) given before after) where
+    pub through_whole : StandsBetween meaning stands' ports' marks' sent' waiting broken (with_more lists port (m ∷ [])) (given ++ a.gained)
+    through_whole =
+        subst (λ (g : List Message). StandsBetween meaning stands' ports' marks' sent' waiting broken (with_more lists port (m ∷ [])) (given ++ g)) (no_end a.gained)
+        (takes_whole meaning stands ports ports' marks sent waiting waiting broken broken (is_closing m) (is_broken m) lists given port m (m ∷ []) h may t refl refl same_waiting same_broken whole stands' held marks' sent' before after a)
+
+    pub through_holds : HoldsAtFronts meaning (levels_of ports') (with_more lists port (m ∷ [])) held
+    through_holds = takes_holds meaning stands ports ports' marks sent waiting waiting broken broken (is_closing m) (is_broken m) lists given port m (m ∷ []) h may t refl refl same_waiting same_broken whole stands' held marks' sent' before after a

@@ -1,5 +1,5 @@
 -- What an operator with an aligner on each port stands for.
-use Rattle.std.specs.Prelude.{ℕ, ◌≡◌, ◌+◌, List, [], ◌∷◌, ◌++◌, map, slice_set, slice_index_or, Bool, true, false, cond, nat_eq, if◌then◌else◌, Option, Some, None}
+use Rattle.std.specs.Prelude.{ℕ, ◌≡◌, ◌+◌, List, [], ◌∷◌, ◌++◌, map, slice_set, slice_index_or, Bool, true, false, cond, nat_eq, if◌then◌else◌}
 use Rattle.cedr_base.specs.declared.change.Message.{Message}
 use Rattle.cedr_base.specs.declared.change.Message.TheVariants as message
 use Rattle.cedr_base.specs.declared.level.Level.{Level}
@@ -65,11 +65,6 @@ pub record StandsBetween (meaning : Meaning) (stands : Tables → List ℕ → T
   pub lawful : IsLawful meaning (levels_of ports) lists given
   pub drives : any_broken lists ≡ false → all_over lists ≡ false → Drives meaning stands marks sent (passes_of (levels_of ports) lists) given
   pub echo : any_broken lists ≡ false → meaning.echoes ≡ true → passes_of (levels_of ports) lists ≡ given ∷ []
-
--- what a port passed on: a message alone, or else those of a list
-abbrev pub all_passed : Option Message → List Message → List Message
-all_passed (Some m) ms = m ∷ []
-all_passed None ms = ms
 
 -- a port took a message
 pub record IsPortTaken (old new : Port) (ms : List Message) (m : Message) (before after : List Message) : Type 0 where

@@ -1,12 +1,11 @@
-ghost use Rattle.std.specs.Prelude.{◌≡◌, ◌<◌, ◌+◌, ◌-◌, ◌++◌, ◌∷◌, [], List, OnOk, OnErr, IfOk, cond, false, length, replicate, take};
+ghost use Rattle.std.specs.Prelude.{◌≡◌, ◌<◌, ◌+◌, ◌-◌, ◌++◌, ◌∷◌, [], List, OnOk, OnErr, IfOk, cond, true, false, length, replicate, take};
 ghost use Rattle.std.specs.List.{All};
 ghost use Rattle.cedr_base.specs.declared.change.Message.{Message};
 ghost use Rattle.node_laws.specs.Pass.{HasBlockWithin};
 ghost use Rattle.node_laws.specs.Lists.{Lists, list_at, with_more};
 ghost use Rattle.node_laws.specs.Lawful.{any_broken, all_over};
-ghost use Rattle.cedr_base.specs.Messages.{IsLegalBehind};
-ghost use Rattle.op_driver.specs.Driving.{Answers, Drives, MayTake};
-ghost use Rattle.cedr_node.specs.Standing.{AllStand, StandsBetween, IsTakenOn, IsForgottenAt, all_passed, levels_of, waiting_of, is_broken, is_closing, end_of_ports, breaking, HoldsAtFronts};
+ghost use Rattle.op_driver.specs.Driving.{MayTake};
+ghost use Rattle.cedr_node.specs.Standing.{AllStand, StandsBetween, IsTakenOn, IsForgottenAt, levels_of, waiting_of, is_broken, is_closing, end_of_ports, breaking, HoldsAtFronts};
 
 use crate::port::Port;
 use cedr_base::{Level, Message, OutOfMemory};
@@ -80,42 +79,39 @@ fn push_broken(waiting: usize, out: &mut Vec<Message>) -> Result<(), OutOfMemory
     Ok(())
 }
 
-/// Hands a message to a port. It comes back where it is all that the port passes on. Otherwise what that passes on
-/// stands in the list, in place of what stood there.
+/// Hands a message to a port where it closes nothing and goes through. Whether it did. Where it didn't the ports stay as
+/// they are.
+fn go_through(
+    alloc: Global,
+    ports: &mut Vec<Port>,
+    port: usize,
+    message: &Message,
+) -> Result<bool, OutOfMemory>
+    requires { port < length ports.old.items }
+    ensures goes_on { IfOk result (λ went. went ≡ true → is_closing message.now ≡ false) }
+    ensures through { IfOk result (λ went. went ≡ true → (lists : Lists) → AllStand ports.old.items lists → MayTake lists port message.now → IsTakenOn ports.old.items ports.new.items port (list_at lists port) message.now (message.now ∷ [])) }
+    ensures stays { IfOk result (λ went. went ≡ false → ports.new.items ≡ ports.old.items) }
+    ensures levels { levels_of ports.new.items ≡ levels_of ports.old.items }
+{
+    if closes(message) {
+        return Ok(false);
+    }
+    ports[port].go_through(alloc, message)
+}
+
+/// Hands a message to a port. What that passes on stands in the list, in place of what stood there.
 fn take_on(
     alloc: Global,
     ports: &mut Vec<Port>,
     port: usize,
     message: Message,
     passed: &mut Vec<Message>,
-) -> Result<Option<Message>, OutOfMemory>
+) -> Result<(), OutOfMemory>
     requires { port < length ports.old.items }
-    ensures taken { IfOk result (λ alone. (lists : Lists) → AllStand ports.old.items lists → MayTake lists port message → IsTakenOn ports.old.items ports.new.items port (list_at lists port) message (all_passed alone passed.new.items)) }
+    ensures taken { OnOk result ((lists : Lists) → AllStand ports.old.items lists → MayTake lists port message → IsTakenOn ports.old.items ports.new.items port (list_at lists port) message passed.new.items) }
     ensures levels { levels_of ports.new.items ≡ levels_of ports.old.items }
 {
-    let alone = ports[port].take(alloc, message, passed)?;
-    Ok(alone)
-}
-
-/// Hands what a port passed on to the operator: a message alone, or else those of the list. Where memory runs out some
-/// of what answers it may stand there.
-fn drive<O: Operator>(
-    alloc: Global,
-    driver: &mut Driver<O>,
-    port: usize,
-    alone: Option<Message>,
-    passed: &mut Vec<Message>,
-    out: &mut Vec<Message>,
-) -> Result<(), OutOfMemory>
-    requires { (lists : Lists) × (given : List Message) × Drives (O.meaning driver.old.op) (O.stands driver.old.op) driver.old.marks.items driver.old.sent lists given × (port < length lists) × IsLegalBehind (list_at lists port) (all_passed alone passed.old.items) }
-    ensures answers { OnOk result ((lists : Lists) (given : List Message) → Drives (O.meaning driver.old.op) (O.stands driver.old.op) driver.old.marks.items driver.old.sent lists given → port < length lists → IsLegalBehind (list_at lists port) (all_passed alone passed.old.items) → Answers (O.meaning driver.old.op) (O.stands driver.new.op) (O.held driver.new.op) driver.new.marks.items driver.old.sent driver.new.sent lists port (all_passed alone passed.old.items) given out.old.items out.new.items) }
-    ensures meaning { O.meaning driver.new.op ≡ O.meaning driver.old.op }
-    ensures kept { take (length out.old.items) out.new.items ≡ out.old.items }
-{
-    match alone {
-        Some(message) => driver.take_one(alloc, port, message, out),
-        None => driver.take(alloc, port, passed, out),
-    }
+    ports[port].take(alloc, message, passed)
 }
 
 fn make_ports(alloc: Global, levels: &[Level]) -> Result<Vec<Port>, OutOfMemory>
@@ -153,8 +149,8 @@ impl<O: Operator> Aligned<O> {
         })
     }
 
-    /// Takes a message. Where memory runs out some of what is given for it may stand there.
-    fn answer(
+    /// Takes a message, whatever its port passes on. Where memory runs out some of what is given for it may stand there.
+    fn answer_whole(
         &mut self,
         alloc: Global,
         port: usize,
@@ -170,14 +166,39 @@ impl<O: Operator> Aligned<O> {
     {
         let closed = closes(&message);
         let broke = breaks(&message);
-        let alone = take_on(alloc, &mut self.ports, port, message, &mut self.passed)?;
+        take_on(alloc, &mut self.ports, port, message, &mut self.passed)?;
         self.waiting = count_down(self.waiting, closed);
         self.broken = self.broken | broke;
         if self.broken {
             return push_broken(self.waiting, out);
         }
-        drive(alloc, &mut self.driver, port, alone, &mut self.passed, out)?;
+        self.driver.take(alloc, port, &mut self.passed, out)?;
         push_end(self.waiting, out)
+    }
+
+    /// Takes a message, and hands it on by itself where it goes through its port. Where memory runs out some of what is
+    /// given for it may stand there.
+    fn answer(
+        &mut self,
+        alloc: Global,
+        port: usize,
+        message: Message,
+        out: &mut Vec<Message>,
+    ) -> Result<(), OutOfMemory>
+        requires { (lists : Lists) × (given : List Message) × StandsBetween (O.meaning self.old.driver.op) (O.stands self.old.driver.op) self.old.ports.items self.old.driver.marks.items self.old.driver.sent self.old.waiting self.old.broken lists given × MayTake lists port message }
+        ensures taken { OnOk result ((lists : Lists) (given : List Message) → StandsBetween (O.meaning self.old.driver.op) (O.stands self.old.driver.op) self.old.ports.items self.old.driver.marks.items self.old.driver.sent self.old.waiting self.old.broken lists given → MayTake lists port message → (piece : List Message) × (out.new.items ≡ out.old.items ++ piece) × StandsBetween (O.meaning self.new.driver.op) (O.stands self.new.driver.op) self.new.ports.items self.new.driver.marks.items self.new.driver.sent self.new.waiting self.new.broken (with_more lists port (message ∷ [])) (given ++ piece)) }
+        ensures holds { OnOk result ((lists : Lists) (given : List Message) → StandsBetween (O.meaning self.old.driver.op) (O.stands self.old.driver.op) self.old.ports.items self.old.driver.marks.items self.old.driver.sent self.old.waiting self.old.broken lists given → MayTake lists port message → any_broken (with_more lists port (message ∷ [])) ≡ false → HoldsAtFronts (O.meaning self.new.driver.op) (levels_of self.new.ports.items) (with_more lists port (message ∷ [])) (O.held self.new.driver.op)) }
+        ensures levels { levels_of self.new.ports.items ≡ levels_of self.old.ports.items }
+        ensures meaning { O.meaning self.new.driver.op ≡ O.meaning self.old.driver.op }
+        ensures kept { take (length out.old.items) out.new.items ≡ out.old.items }
+    {
+        if self.broken {
+            return self.answer_whole(alloc, port, message, out);
+        }
+        if go_through(alloc, &mut self.ports, port, &message)? {
+            return self.driver.take_one(alloc, port, message, out);
+        }
+        self.answer_whole(alloc, port, message, out)
     }
 
     /// Takes a message on a port that may come after those before it there, and appends what is given for it: the

@@ -10,16 +10,12 @@ use Rattle.cedr_base.specs.declared.row.Row.{Row}
 use Rattle.cedr_base.specs.Rows.{row_cmp, same_row, one_if_same, count_of, SameRows}
 use Rattle.change_laws.proofs.BagSums.{same_row_is, same_row_equiv}
 use Rattle.std.proofs.lemmas.List.Sums.{sum_by-cons}
-use Rattle.cedr_base.specs.Changes.{puts, takes}
-use Rattle.change_laws.proofs.Moves.{sum_by-moved, remnant_none, remnant_some}
 use Rattle.cedr_base.proofs.Bags.{count_of-cons}
 use Rattle.change_laws.proofs.BagSums.{sum_by-same}
-use Rattle.cedr_base.specs.declared.change.Change.{Change}
-use Rattle.cedr_base.specs.declared.change.Change.TheVariants.{Cut}
 use Rattle.std.specs.List.{AllByRecursion}
 use Rattle.std.proofs.lemmas.List.Folds.{sum_by-replicate}
 use Rattle.cedr_base.proofs.Bags.{same_row_exact, count_of-append}
-use Rattle.cedr_table.specs.Counted.{copies, spread, IsCounted, EachIsThere, LacksRow}
+use Rattle.cedr_table.specs.Counted.{copies, spread, IsCounted, EachIsThere}
 
 -- a map's update finds the row that a count finds
 pub test_is : (row q : Row) → is_at (row_cmp row) q ≡ same_row q row

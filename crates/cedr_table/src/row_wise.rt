@@ -5,7 +5,7 @@ ghost use Rattle.cedr_base.specs.declared.row.Row.{Row};
 ghost use Rattle.cedr_base.specs.Rows.{IsRow};
 ghost use Rattle.cedr_base.specs.Changes.{IsChange};
 ghost use Rattle.cedr_base.specs.declared.interval.Interval.{Interval};
-ghost use Rattle.cedr_table.specs.RowWise.{IsLife, MayBecome, made, lives, row_during, shortened, withdrawn, row_added, replaced, life_after, answer_to};
+ghost use Rattle.cedr_table.specs.RowWise.{IsLife, MayBecome, made, lives, row_during, shortened, withdrawn, row_added, replaced, emptied, life_after, answer_to};
 ghost use Rattle.cedr_base.specs.declared.change.Change.TheVariants.{Cut};
 
 use crate::operator::Operator;
@@ -168,6 +168,30 @@ fn replace_made<R: RowWise>(
     }
 }
 
+/// Appends the change that adds a row of the result, where there is one, with the payload that is made of one. Where the
+/// interval is empty no payload is made.
+fn add_made<R: RowWise>(
+    alloc: Global,
+    op: &R,
+    new: Interval,
+    payload: Payload,
+    out: &mut Vec<Change>,
+) -> Result<(), OutOfMemory>
+    ensures ok { OnOk result (out.new.items ≡ out.old.items ++ replaced (R.payload_of op.now payload) (emptied new) new) }
+    ensures err { OnErr result (out.new.items ≡ out.old.items) }
+{
+    if !lives(new) {
+        return Ok(());
+    }
+    match op.payload(alloc, payload)? {
+        None => Ok(()),
+        Some(made) => {
+            out.push(Change::Add(row_during(new, made)))?;
+            Ok(())
+        }
+    }
+}
+
 /// What is made of a row's interval once the row ends at this time.
 fn life_after<R: RowWise>(op: &R, row: &Row, old: Interval, end: Time) -> Interval
     requires range { R.in_range op.now }
@@ -200,11 +224,7 @@ fn answer<R: RowWise>(
     match change {
         Change::Add(row) => {
             let new = op.life(row.begin, row.end);
-            let old = Interval {
-                begin: new.begin,
-                end: new.begin,
-            };
-            replace_made(alloc, op, old, new, row.into_payload(), out)
+            add_made(alloc, op, new, row.into_payload(), out)
         }
         Change::Cut(row, end) => {
             let old = op.life(row.begin, row.end);

@@ -1,6 +1,6 @@
 -- The number that digits spell, digit by digit.
 use Rattle.std.proofs.Common.{◌≡◌, ℕ, ◌+◌, ◌-◌, ◌*◌, ◌<◌, ◌≤◌, ◌==◌, List, [], ◌∷◌, Bool, true, false, cond, ◌&&◌, Option, None, Some, length, take, drop, get_or, refl, ap, sym, ◌∙◌, arith, add-one}
-use Rattle.std.proofs.lemmas.Bool.{and_left, and_right, and_parts, leb-true, lt-leb, eqb-true, false≢true, false_from_ne_true}
+use Rattle.std.proofs.lemmas.Bool.{and_left, and_right, and_parts, leb-true, lt-leb, eqb-true, eq-eqb, false≢true, false_from_ne_true}
 use Rattle.std.proofs.lemmas.Bool.Decides.{nat_tests}
 use Rattle.std.proofs.lemmas.List.{take_all, get_or-take, length-take}
 use Rattle.std.proofs.lemmas.List.Folds.{list_all_at}
@@ -14,8 +14,7 @@ use Rattle.std.specs.Str.{bytes_eq}
 use Rattle.std.specs.Str.Parse.{digits_value, digits_value_after}
 use Rattle.cedr_base.specs.declared.time.TheConstants.{FOREVER}
 use Rattle.cedr_text.specs.Numbers.{is_numeral, whole_number, time_value, LeadsWith, Spells}
-use Rattle.cedr_base.specs.Bytes.{comma}
-use Rattle.cedr_text.specs.Parts.{parts_of, CutsField}
+use Rattle.cedr_text.specs.Parts.{parts_of, CutsField, IsSeparator}
 use Rattle.cedr_text.proofs.Cuts.{first_part, only_part}
 
 -- what a numeral spells whose first digits spelled a number
@@ -57,12 +56,14 @@ number_at_digit last value c cs digit =
     ap (λ all. cond ((all && list_all is_ascii_digit cs) && nat_le (digits_value_after 10 value (c ∷ cs)) last) (Some (digits_value_after 10 value (c ∷ cs))) None) digit
     ∙ ap (λ v. number_after last v cs) goes
 
--- none of the digits in front is a comma
-no_comma : (text : List ℕ) (count k : ℕ) → count ≤ length text → list_all is_ascii_digit (take count text) ≡ true → k < count → get_or text k 0 == comma ≡ true → ⊥
-no_comma text count k within digits low found =
-    let here : get_or (take count text) k 0 ≡ comma = get_or-take count text k 0 low ∙ eqb-true (get_or text k 0) comma found in
+-- none of the digits in front is a separator
+no_separator : (separator : ℕ) (text : List ℕ) (count k : ℕ) → IsSeparator separator → count ≤ length text → list_all is_ascii_digit (take count text) ≡ true → k < count
+    → get_or text k 0 == separator ≡ true → ⊥
+no_separator separator text count k apart within digits low found =
+    let here : get_or (take count text) k 0 ≡ separator = get_or-take count text k 0 low ∙ eqb-true (get_or text k 0) separator found in
     let some : k < length (take count text) = omega (arith, length-take count text) in
-    false≢true (sym (list_all_at is_ascii_digit (take count text) k 0 some (ap is_ascii_digit here)) ∙ digits)
+    let other : is_ascii_digit separator ≡ false = false_from_ne_true (is_ascii_digit separator) (λ digit. omega (arith, apart.0, digit_range separator digit)) in
+    false≢true (sym (list_all_at is_ascii_digit (take count text) k 0 some (ap is_ascii_digit here ∙ other)) ∙ digits)
 
 -- some digits are a numeral
 some_digits : (text : List ℕ) → 0 < length text → list_all is_ascii_digit text ≡ true → is_numeral text ≡ true
@@ -74,24 +75,24 @@ leading_spells : (text : List ℕ) (value count : ℕ) → LeadsWith text value 
 leading_spells text value count leads some =
     record { numeral = some_digits (take count text) (omega (arith, leads.within, length-take count text)) leads.digits; spelled = leads.spelled }
 
--- where a comma stands behind the digits in front, they are the first field
-pub cuts_at_comma : (text : List ℕ) (value count : ℕ) → LeadsWith text value count → 0 < count → count < length text → get_or text count 0 ≡ comma
-    → CutsField (parts_of comma text) (parts_of comma (drop (count + 1) text)) (λ field. Spells field value)
-cuts_at_comma text value count leads some within here =
+-- where a separator stands behind the digits in front, they are the first field
+pub cuts_at_separator : (separator : ℕ) (text : List ℕ) (value count : ℕ) → IsSeparator separator → LeadsWith text value count → 0 < count → count < length text
+    → get_or text count 0 ≡ separator → CutsField (parts_of separator text) (parts_of separator (drop (count + 1) text)) (λ field. Spells field value)
+cuts_at_separator separator text value count apart leads some within here =
     record {
       field = take count text;
-      parts_are = first_part (λ b. b == comma) text count within (λ k low. no_comma text count k leads.within leads.digits low) (ap (λ b. b == comma) here)
-          ∙ ap (λ n. take count text ∷ parts_of comma (drop n text)) (sym (add-one count));
+      parts_are = first_part (λ b. b == separator) text count within (λ k low. no_separator separator text count k apart leads.within leads.digits low) (eq-eqb (get_or text count 0) separator here)
+          ∙ ap (λ n. take count text ∷ parts_of separator (drop n text)) (sym (add-one count));
       holds = leading_spells text value count leads some;
     }
 
 -- where nothing stands behind the digits in front, they are the one field
-pub cuts_at_end : (text : List ℕ) (value count : ℕ) → LeadsWith text value count → 0 < count → count ≡ length text
-    → CutsField (parts_of comma text) [] (λ field. Spells field value)
-cuts_at_end text value count leads some whole =
+pub cuts_at_end : (separator : ℕ) (text : List ℕ) (value count : ℕ) → IsSeparator separator → LeadsWith text value count → 0 < count → count ≡ length text
+    → CutsField (parts_of separator text) [] (λ field. Spells field value)
+cuts_at_end separator text value count apart leads some whole =
     record {
       field = take count text;
-      parts_are = only_part (λ b. b == comma) text (λ k low. no_comma text count k leads.within leads.digits (omega arith))
+      parts_are = only_part (λ b. b == separator) text (λ k low. no_separator separator text count k apart leads.within leads.digits (omega arith))
           ∙ ap (λ field. field ∷ []) (sym (take_all count text (omega arith)));
       holds = leading_spells text value count leads some;
     }

@@ -1,5 +1,5 @@
 -- What was read from a line is an event.
-use Rattle.std.proofs.Common.{◌≡◌, ℕ, ◌-◌, ◌<◌, ◌≤◌, ◌↔◌, List, [], ◌∷◌, Bool, true, false, cond, ◌&&◌, ◌||◌, length, map, Option, None, Some, Result, Ok, Err, IfSome, refl, ap, ◌∙◌, subst, arith}
+use Rattle.std.proofs.Common.{◌≡◌, ℕ, ◌-◌, ◌<◌, ◌≤◌, ◌↔◌, List, [], ◌∷◌, Bool, true, false, cond, ◌&&◌, ◌||◌, length, map, Option, None, Some, Result, Ok, Err, IfSome, refl, ap, sym, ◌∙◌, subst, arith}
 use Rattle.std.specs.Prelude.{nat_lt, nat_le, nat_eq, codes}
 use Rattle.std.specs.List.{starts_with}
 use Rattle.std.specs.Str.{bytes_eq}
@@ -22,7 +22,10 @@ use Rattle.cedr_text.specs.declared.lines.TheConstants.{LINE_LIMIT}
 use Rattle.cedr_text.specs.Faults.{line_fault_number}
 use Rattle.cedr_text.specs.Lines.{has_line_feed}
 use Rattle.cedr_text.specs.Numbers.{is_numeral, whole_number, id_value, begin_value, time_value}
-use Rattle.cedr_text.specs.Quoting.{line_fields, byte_order_mark}
+use Rattle.cedr_base.specs.Bytes.{comma}
+use Rattle.cedr_text.specs.Parts.{parts_of}
+use Rattle.cedr_text.specs.Quoting.{has_quote, line_fields, byte_order_mark}
+use Rattle.cedr_text.proofs.QuotingLemmas.{bare_fields}
 use Rattle.cedr_text.specs.Reading.{has_return, breaks_form, Reads, field_value, with_field, typed_payload, payload_of, version, version_by, version_of, inserted_by, revised_by, retracted, retraction, promised, guarantee, event_of, event_from, as_some, reading, IsEvent, SaysEvent}
 
 -- a number is at most the last one
@@ -227,6 +230,27 @@ no_break false false c h = (refl, refl, h)
 -- a line that isn't broken has neither a carriage return nor a line feed nor a byte order mark in front
 pub unbroken : (line : List ℕ) → breaks_form line ≡ false → (has_return line ≡ false) × (has_line_feed line ≡ false) × (starts_with nat_eq line byte_order_mark ≡ false)
 unbroken line whole = no_break (has_return line) (has_line_feed line) (starts_with nat_eq line byte_order_mark) whole
+
+-- the event of a line of any length
+abbrev pub line_reading : Shape → List ℕ → Result EventLine LineFault
+line_reading shape line = cond (breaks_form line) (Err BadForm) (event_from shape (line_fields line))
+
+some_unless : (broken : Bool) (read : Result EventLine LineFault) → cond broken (Err BadForm) (as_some read) ≡ as_some (cond broken (Err BadForm) read)
+some_unless true read = refl
+some_unless false read = refl
+
+-- a line that isn't too long says what its fields say
+pub reading_short : (shape : Shape) (line : List ℕ) → length line ≤ LINE_LIMIT → 0 < length line → reading shape line ≡ as_some (line_reading shape line)
+reading_short shape [] short some = absurd (omega arith)
+reading_short shape (b ∷ bs) short some =
+    ap (λ test. cond test (Err LineTooLong) (short_reading shape (b ∷ bs))) (le-ltb LINE_LIMIT (length (b ∷ bs)) short)
+    ∙ some_unless (breaks_form (b ∷ bs)) (event_from shape (line_fields (b ∷ bs)))
+
+-- a line without quotes that isn't broken says what the parts between its commas say
+pub plain_read : {X : Type 0} (read : List (List ℕ) → Result X LineFault) (from : Option (List (List ℕ)) → Result X LineFault) (line : List ℕ)
+    → ((fields : List (List ℕ)) → from (Some fields) ≡ read fields) → (has_quote line ≡ false) × (breaks_form line ≡ false) → read (parts_of comma line) ≡ cond (breaks_form line) (Err BadForm) (from (line_fields line))
+plain_read read from line same plain =
+    sym (ap (λ broken. cond broken (Err BadForm) (from (line_fields line))) plain.1 ∙ ap from (bare_fields line plain.0) ∙ same (parts_of comma line))
 
 -- the fields of a line that is neither too long nor broken say what it says
 pub reading_whole : (shape : Shape) (line : List ℕ) → length line ≤ LINE_LIMIT → 0 < length line → breaks_form line ≡ false → reading shape line ≡ as_some (event_from shape (line_fields line))

@@ -1,5 +1,5 @@
 -- What a search for bytes says of the whole text.
-use Rattle.std.proofs.Common.{◌≡◌, ℕ, ◌==◌, ◌||◌, List, [], ◌∷◌, Bool, true, false, length, Option, None, Some, is_some, refl, ap, sym, ◌∙◌, arith}
+use Rattle.std.proofs.Common.{◌≡◌, ◌<◌, ℕ, ◌==◌, ◌||◌, List, [], ◌∷◌, Bool, true, false, length, Option, None, Some, is_some, refl, ap, sym, ◌∙◌, arith}
 use Rattle.std.specs.List.{list_any}
 use Rattle.std.proofs.Math.Seq.{take-length}
 use Rattle.std.proofs.lemmas.Bool.{or_parts, or_from}
@@ -12,6 +12,11 @@ pub found_any : (p : ℕ → Bool) (bytes : List ℕ) (place : Option ℕ) → I
 found_any p bytes None nowhere =
     sym (ap (list_any p) (sym (take-length bytes)) ∙ none_below p bytes (length bytes) (λ k low within found. nowhere k (omega arith) low found))
 found_any p bytes (Some at) found = sym (list_any_at p bytes at 0 found.0.high found.1)
+
+-- where something was found there is some byte
+pub some_found : (p : ℕ → Bool) (bytes : List ℕ) (place : Option ℕ) → IsFirstByte p bytes place → is_some place ≡ true → 0 < length bytes
+some_found p bytes None nowhere some = cc
+some_found p bytes (Some at) found some = omega (arith, found.0.high)
 
 either_first : (a b more others : Bool) → ((a || b) || (more || others)) ≡ ((a || more) || (b || others))
 either_first true true more others = refl

@@ -1,5 +1,5 @@
 -- What stands between separators: the lines of a file, and the fields of a line.
-use Rattle.std.specs.Prelude.{ℕ, ◌≡◌, ◌==◌, List, [], ◌∷◌, Option, None, Some}
+use Rattle.std.specs.Prelude.{ℕ, ◌≡◌, ◌≢◌, ◌==◌, ◌<◌, List, [], ◌∷◌, Option, None, Some}
 use Rattle.std.specs.List.{slice_split}
 use Rattle.cedr_base.specs.Bytes.{comma}
 
@@ -11,6 +11,10 @@ parts_of separator bytes = slice_split (λ b. b == separator) bytes
 abbrev pub parts_left : ℕ → Option (List ℕ) → List (List ℕ)
 parts_left separator None = []
 parts_left separator (Some bytes) = parts_of separator bytes
+
+-- a byte that may stand between the fields of a line, as a comma or a carriage return: no digit, and no `+`, `-`, `=` or `~`
+abbrev pub IsSeparator : ℕ → Type 0
+IsSeparator byte = (byte < 45) × (byte ≢ 43)
 
 -- the parts of a line between its commas, whatever quotes it has
 abbrev pub fields_of : List ℕ → List (List ℕ)

@@ -7,4 +7,4 @@ use Rattle.cedr_text.specs.declared.payload_text.PayloadKind.TheVariants.{Bare, 
 -- the fields of a payload, whether it stands in a line or was read from one
 abbrev pub fields_in : PayloadKind → List Field
 fields_in (Bare fields) = fields
-fields_in (Read fields) = fields
+fields_in (Read fields) = fields.value

@@ -1,7 +1,7 @@
 ghost use Rattle.std.specs.Prelude.{◌≡◌, length, nat_le, option_map};
 ghost use Rattle.cedr_base.specs.Bytes.{comma};
 ghost use Rattle.cedr_text.specs.Parts.{parts_of, parts_left};
-ghost use Rattle.cedr_text.specs.Reading.{event_of, version_of, retraction, guarantee};
+ghost use Rattle.cedr_text.specs.Reading.{event_of, version_of};
 ghost use Rattle.cedr_text.specs.declared.event_line.Shape.TheVariants.{AnyText};
 ghost use Rattle.cedr_text.specs.EventTexts.{as_reading};
 
@@ -10,7 +10,7 @@ use crate::fault::LineFault;
 use crate::number::{cut_number, cut_time};
 use crate::parts::Parts;
 use crate::payload_text::{BareFields, PayloadText};
-use crate::read::FIELD_LIMIT;
+use crate::read::{FIELD_LIMIT, read_guarantee, read_retraction};
 use crate::text_row::TextRow;
 use cedr_base::FOREVER;
 
@@ -26,8 +26,11 @@ pub(crate) fn read_bare(line: &[u8]) -> Result<EventText<'_>, LineFault>
             let (id, row) = read_bare_version(fields)?;
             Ok(EventText::Insert { id, row })
         }
-        b'-' => read_bare_retraction(fields),
-        b'=' => read_bare_guarantee(fields),
+        b'-' => {
+            let (id, end) = read_retraction(fields, b',')?;
+            Ok(EventText::Retract { id, end })
+        }
+        b'=' => Ok(EventText::Promise(read_guarantee(fields, b',')?)),
         b'~' => {
             let (id, row) = read_bare_version(fields)?;
             Ok(EventText::Revise { id, row })
@@ -63,32 +66,6 @@ fn read_bare_version(fields: &[u8]) -> Result<(u64, TextRow<'_>), LineFault>
         payload,
     };
     Ok((id, row))
-}
-
-#[inline(always)]
-fn read_bare_retraction(fields: &[u8]) -> Result<EventText<'_>, LineFault>
-    ensures { as_reading result ≡ retraction (parts_of comma fields.now) }
-{
-    let (id, Some(rest)) = cut_number(fields, u64::MAX) else {
-        return Err(LineFault::BadForm);
-    };
-    let (end, more) = cut_time(rest);
-    match (id, end, more) {
-        (_, _, Some(_)) => Err(LineFault::BadForm),
-        (Some(id), Some(end), None) => Ok(EventText::Retract { id, end }),
-        _ => Err(LineFault::BadNumber),
-    }
-}
-
-#[inline(always)]
-fn read_bare_guarantee(fields: &[u8]) -> Result<EventText<'_>, LineFault>
-    ensures { as_reading result ≡ guarantee (parts_of comma fields.now) }
-{
-    match cut_time(fields) {
-        (_, Some(_)) => Err(LineFault::BadForm),
-        (Some(time), None) => Ok(EventText::Promise(time)),
-        (None, None) => Err(LineFault::BadNumber),
-    }
 }
 
 /// Whether these are no more fields than a payload may have. A text has at most one field more than bytes.

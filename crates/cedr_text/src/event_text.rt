@@ -1,9 +1,11 @@
-ghost use Rattle.std.specs.Prelude.{◌≡◌};
+ghost use Rattle.std.specs.Prelude.{◌≡◌, IfOk};
+ghost use Rattle.cedr_text.specs.EventTexts.{as_line};
 
 use crate::event_line::EventLine;
 use crate::payload_text::PayloadText;
 use crate::text_row::TextRow;
-use cedr_base::{Row, Time};
+use cedr_base::{OutOfMemory, Row, Time};
+use std::alloc::Global;
 
 /// What a line says, as an `EventLine` does, with the payload of an insertion or a revision still in the
 /// line where that has no quotes.
@@ -16,35 +18,34 @@ pub enum EventText<'a> {
 }
 
 /// The same row, with its payload in memory.
-fn text_row<'a>(row: Row) -> TextRow<'a>
-    ensures { result ≡ row }
+fn text_row<'a>(alloc: Global, row: Row) -> Result<TextRow<'a>, OutOfMemory>
+    ensures { IfOk result (λ text. text ≡ row) }
 {
     let (end, begin) = (row.end, row.begin);
-    let payload = PayloadText::from(row.into_payload());
-    TextRow {
+    let payload = PayloadText::read(alloc, row.into_payload())?;
+    Ok(TextRow {
         end,
         begin,
         payload,
-    }
+    })
 }
 
-impl From<EventLine> for EventText<'_> {
-    ghost use Rattle.cedr_text.specs.EventTexts.{as_line};
-
-    ghost from_gives = { λ line text. as_line text ≡ line };
-
-    fn from(line: EventLine) -> Self {
+impl<'a> EventText<'a> {
+    /// The same event, with the payload of an insertion or a revision in memory.
+    pub fn from_line(alloc: Global, line: EventLine) -> Result<EventText<'a>, OutOfMemory>
+        ensures { IfOk result (λ text. as_line text ≡ line) }
+    {
         match line {
-            EventLine::Insert { id, row } => EventText::Insert {
-                id,
-                row: text_row(row),
-            },
-            EventLine::Retract { id, end } => EventText::Retract { id, end },
-            EventLine::Revise { id, row } => EventText::Revise {
-                id,
-                row: text_row(row),
-            },
-            EventLine::Promise(time) => EventText::Promise(time),
+            EventLine::Insert { id, row } => {
+                let row = text_row(alloc, row)?;
+                Ok(EventText::Insert { id, row })
+            }
+            EventLine::Retract { id, end } => Ok(EventText::Retract { id, end }),
+            EventLine::Revise { id, row } => {
+                let row = text_row(alloc, row)?;
+                Ok(EventText::Revise { id, row })
+            }
+            EventLine::Promise(time) => Ok(EventText::Promise(time)),
         }
     }
 }

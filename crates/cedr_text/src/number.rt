@@ -2,8 +2,8 @@ ghost use Rattle.std.specs.Prelude.{◌≡◌, ◌<◌, ◌+◌, ◌-◌, ◌*�
 ghost use Rattle.std.specs.Option.{SomeIff};
 ghost use Rattle.std.specs.Int.{IsInRange};
 ghost use Rattle.cedr_base.specs.Bytes.{comma};
-ghost use Rattle.cedr_text.specs.Parts.{parts_of, parts_left, CutsField};
-ghost use Rattle.cedr_text.specs.Numbers.{whole_number, id_value, begin_value, time_value, int_value, LeadsWith, Spells};
+ghost use Rattle.cedr_text.specs.Parts.{parts_of, parts_left, CutsField, IsSeparator};
+ghost use Rattle.cedr_text.specs.Numbers.{whole_number, begin_value, time_value, int_value, LeadsWith, Spells};
 
 use crate::parts::cut_part;
 use cedr_base::{FOREVER, Time};
@@ -36,35 +36,19 @@ fn push_digit(value: u64, digit: u8) -> Option<u64>
     value.checked_mul(10)?.checked_add(u64::from(digit - b'0'))
 }
 
-pub(crate) fn read_id(text: &[u8]) -> Option<u64>
-    ensures { result ≡ id_value text.now }
-{
-    read_number(text, u64::MAX)
-}
-
-pub(crate) fn read_begin(text: &[u8]) -> Option<Time>
+fn read_begin(text: &[u8]) -> Option<Time>
     ensures { result ≡ begin_value text.now }
 {
     read_number(text, FOREVER - 1)
 }
 
 /// The finite time that the text spells, or `FOREVER` for `inf`.
-pub(crate) fn read_time(text: &[u8]) -> Option<Time>
+fn read_time(text: &[u8]) -> Option<Time>
     ensures { result ≡ time_value text.now }
 {
     match text {
         b"inf" => Some(FOREVER),
         _ => read_begin(text),
-    }
-}
-
-/// A number of 64 bits with sign, whose `-` stands before its digits.
-pub(crate) fn read_int(text: &[u8]) -> Option<i128>
-    ensures { result ≡ int_value text.now }
-{
-    match text {
-        [b'-', digits @ ..] => Some(-i128::from(read_number(digits, 1 << 63)?)),
-        _ => Some(i128::from(read_number(text, (1 << 63) - 1)?)),
     }
 }
 
@@ -86,17 +70,18 @@ fn leading_number(bytes: &[u8]) -> Option<(u64, usize)>
     Some((value, bytes.len()))
 }
 
-/// The number that the first field spells and what stands after its comma, where that field is a few digits.
+/// The number that the first field spells and what stands after its separator, where that field is a few digits.
 #[inline(always)]
-fn cut_digits(bytes: &[u8]) -> Option<(u64, Option<&[u8]>)>
-    ensures { IfSome result (λ cut. CutsField (parts_of comma bytes.now) (parts_left comma (option_map (λ rest. rest.now) cut.1)) (λ field. Spells field cut.0)) }
+fn cut_digits(bytes: &[u8], separator: u8) -> Option<(u64, Option<&[u8]>)>
+    requires { IsSeparator separator }
+    ensures { IfSome result (λ cut. CutsField (parts_of separator bytes.now) (parts_left separator (option_map (λ rest. rest.now) cut.1)) (λ field. Spells field cut.0)) }
 {
     let (value, count) = leading_number(bytes)?;
     if count == 0 {
         None
     } else if count == bytes.len() {
         Some((value, None))
-    } else if bytes[count] == b',' {
+    } else if bytes[count] == separator {
         Some((value, Some(&bytes[count + 1..])))
     } else {
         None
@@ -109,10 +94,19 @@ fn cut_digits(bytes: &[u8]) -> Option<(u64, Option<&[u8]>)>
 pub fn cut_number(bytes: &[u8], last: u64) -> (Option<u64>, Option<&[u8]>)
     ensures { CutsField (parts_of comma bytes.now) (parts_left comma (option_map (λ rest. rest.now) result.1)) (λ field. result.0 ≡ whole_number last field) }
 {
-    match cut_digits(bytes) {
+    cut_number_at(bytes, b',', last)
+}
+
+/// The same with another separator.
+#[inline(always)]
+pub(crate) fn cut_number_at(bytes: &[u8], separator: u8, last: u64) -> (Option<u64>, Option<&[u8]>)
+    requires { IsSeparator separator }
+    ensures { CutsField (parts_of separator bytes.now) (parts_left separator (option_map (λ rest. rest.now) result.1)) (λ field. result.0 ≡ whole_number last field) }
+{
+    match cut_digits(bytes, separator) {
         Some((value, rest)) => ((value <= last).then_some(value), rest),
         None => {
-            let (field, rest) = cut_part(bytes, b',');
+            let (field, rest) = cut_part(bytes, separator);
             (read_number(field, last), rest)
         }
     }
@@ -124,11 +118,38 @@ pub fn cut_number(bytes: &[u8], last: u64) -> (Option<u64>, Option<&[u8]>)
 pub fn cut_time(bytes: &[u8]) -> (Option<Time>, Option<&[u8]>)
     ensures { CutsField (parts_of comma bytes.now) (parts_left comma (option_map (λ rest. rest.now) result.1)) (λ field. result.0 ≡ time_value field) }
 {
-    match cut_digits(bytes) {
+    cut_time_at(bytes, b',')
+}
+
+/// The same with another separator.
+#[inline(always)]
+pub(crate) fn cut_time_at(bytes: &[u8], separator: u8) -> (Option<Time>, Option<&[u8]>)
+    requires { IsSeparator separator }
+    ensures { CutsField (parts_of separator bytes.now) (parts_left separator (option_map (λ rest. rest.now) result.1)) (λ field. result.0 ≡ time_value field) }
+{
+    match cut_digits(bytes, separator) {
         Some((value, rest)) => ((value < FOREVER).then_some(value), rest),
         None => {
-            let (field, rest) = cut_part(bytes, b',');
+            let (field, rest) = cut_part(bytes, separator);
             (read_time(field), rest)
         }
+    }
+}
+
+/// The number of 64 bits with sign that the first field spells, and what stands after its separator, if it has one.
+#[inline(always)]
+pub(crate) fn cut_int_at(bytes: &[u8], separator: u8) -> (Option<i128>, Option<&[u8]>)
+    requires { IsSeparator separator }
+    ensures { CutsField (parts_of separator bytes.now) (parts_left separator (option_map (λ rest. rest.now) result.1)) (λ field. result.0 ≡ int_value field) }
+{
+    match bytes {
+        [b'-', digits @ ..] => match cut_number_at(digits, separator, 1 << 63) {
+            (Some(number), rest) => (Some(-i128::from(number)), rest),
+            (None, rest) => (None, rest),
+        },
+        _ => match cut_number_at(bytes, separator, (1 << 63) - 1) {
+            (Some(number), rest) => (Some(i128::from(number)), rest),
+            (None, rest) => (None, rest),
+        },
     }
 }

@@ -1,4 +1,4 @@
-ghost use Rattle.std.specs.Prelude.{◌≡◌, ◌≢◌, ◌++◌, ◌∷◌, List, ℕ, map, OnOk};
+ghost use Rattle.std.specs.Prelude.{◌≡◌, ◌≢◌, ◌++◌, ◌∷◌, List, ℕ, map, OnOk, IfOk};
 ghost use Rattle.std.specs.Option.{option_map};
 ghost use Rattle.cedr_base.specs.Order.{field_cmp, payload_cmp};
 ghost use Rattle.cedr_base.specs.declared.field.Field.TheVariants.{Bytes};
@@ -54,8 +54,9 @@ pub struct PayloadText<'a> {
 enum PayloadKind<'a> {
     /// Of a line without quotes.
     Bare(BareFields<'a>),
-    /// Of a line with quotes, from which it was read.
-    Read(Payload),
+    /// Of a line with quotes, from which it was read. It stands on the heap, so that a payload of a line without quotes
+    /// takes no more room than its place there.
+    Read(Box<Payload>),
 }
 
 impl<'a> Model for PayloadText<'a> {
@@ -79,13 +80,15 @@ impl<'a> From<BareFields<'a>> for PayloadText<'a> {
     }
 }
 
-impl<'a> From<Payload> for PayloadText<'a> {
-    ghost from_gives = { λ fields payload. payload ≡ fields };
-
-    fn from(fields: Payload) -> PayloadText<'a> {
-        PayloadText {
-            kind: PayloadKind::Read(fields),
-        }
+impl<'a> PayloadText<'a> {
+    /// The same payload, which was read from a line.
+    pub fn read(alloc: Global, payload: Payload) -> Result<PayloadText<'a>, OutOfMemory>
+        ensures { IfOk result (λ text. text ≡ payload) }
+    {
+        let payload = Box::new(alloc, payload)?;
+        Ok(PayloadText {
+            kind: PayloadKind::Read(payload),
+        })
     }
 }
 

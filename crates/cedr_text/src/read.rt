@@ -1,9 +1,11 @@
-ghost use Rattle.std.specs.Prelude.{◌≡◌, ◌<◌, ◌≤◌, ◌↔◌, [], ℕ, List, true, false, length, map, IfOk, IfSome, Err};
+ghost use Rattle.std.specs.Prelude.{◌≡◌, ◌<◌, ◌≤◌, ◌↔◌, ◌∷◌, if◌then◌else◌, [], ℕ, List, true, false, length, map, option_map, Some, IfOk, IfSome, Err};
+ghost use Rattle.cedr_base.specs.declared.field.Field.TheVariants.{Number, Bytes};
 ghost use Rattle.cedr_text.specs.declared.event_line.Shape.{Shape};
 ghost use Rattle.cedr_text.specs.declared.event_line.Shape.TheVariants.{AnyText};
-ghost use Rattle.cedr_text.specs.declared.fault.LineFault.TheVariants.{LineTooLong};
+ghost use Rattle.cedr_text.specs.declared.fault.LineFault.TheVariants.{LineTooLong, BadForm};
 ghost use Rattle.cedr_text.specs.declared.lines.TheConstants.{LINE_LIMIT};
 ghost use Rattle.cedr_text.specs.EventTexts.{ReadsText};
+ghost use Rattle.cedr_text.specs.Parts.{parts_of, parts_left, CutsField, IsSeparator};
 ghost use Rattle.cedr_text.specs.Quoting.{has_quote, line_fields};
 ghost use Rattle.cedr_text.specs.Reading.{breaks_form, Reads, reading, event_of, event_from, version_from, version_reading, inserted_by, revised_by, retraction, guarantee, retracted_by, promised_by, version_of, payload_of, typed_payload, field_value, pushed, IsEvent, SaysEvent};
 
@@ -12,11 +14,11 @@ use crate::event_line::{EventLine, Shape};
 use crate::event_text::EventText;
 use crate::fault::{LineFault, ReadLineFault};
 use crate::lines::LINE_LIMIT;
-use crate::number::{read_begin, read_id, read_int, read_time};
-use crate::parts::Parts;
+use crate::number::{cut_int_at, cut_number_at, cut_time_at};
+use crate::parts::{Parts, cut_part};
 use crate::quoting::join_fields;
-use cedr_base::{FieldType, OutOfMemory, Payload, PayloadWriter, Row, Time};
-use memchr::{memchr, memchr2, memchr3};
+use cedr_base::{FOREVER, FieldType, OutOfMemory, Payload, PayloadWriter, Row, Time};
+use memchr::{memchr2, memchr3};
 use std::alloc::Global;
 
 /// How many fields a payload of `Shape::AnyText` may have.
@@ -43,9 +45,6 @@ pub fn read_line(
     if line.len() > LINE_LIMIT {
         return Err(ReadLineFault::Line(LineFault::LineTooLong));
     }
-    if is_broken(line) {
-        return Err(ReadLineFault::Line(LineFault::BadForm));
-    }
     match read_fields(alloc, line, shape) {
         Ok(event) => Ok(Some(event)),
         Err(fault) => Err(fault),
@@ -67,7 +66,7 @@ pub fn read_text_line(alloc: Global, line: &[u8]) -> Result<Option<EventText<'_>
         };
     }
     match read_line(alloc, line, &Shape::AnyText)? {
-        Some(event) => Ok(Some(EventText::from(event))),
+        Some(event) => Ok(Some(EventText::from_line(alloc, event)?)),
         None => Ok(None),
     }
 }
@@ -84,13 +83,6 @@ pub fn line_limit()
     ensures long { (shape : Shape) (line : List ℕ) → (reading shape line ≡ Err LineTooLong) ↔ (LINE_LIMIT < length line) }
 {}
 
-/// Whether some byte is a quote.
-fn has_quote(bytes: &[u8]) -> bool
-    ensures { result ≡ has_quote bytes.now }
-{
-    memchr(b'"', bytes).is_some()
-}
-
 /// Whether a line has a line break inside, or begins with a byte order mark.
 fn is_broken(line: &[u8]) -> bool
     ensures { result ≡ breaks_form line.now }
@@ -106,24 +98,27 @@ fn is_plain(line: &[u8]) -> bool
     line.len() <= LINE_LIMIT && has_plain_bytes(line)
 }
 
+/// Whether a line has neither a quote nor a line break, and doesn't begin with a byte order mark.
 fn has_plain_bytes(line: &[u8]) -> bool
-    ensures { result ≡ true → (has_quote line.now ≡ false) × (breaks_form line.now ≡ false) }
+    ensures plain { result ≡ true → (has_quote line.now ≡ false) × (breaks_form line.now ≡ false) }
+    ensures some { result ≡ false → 0 < length line.now }
 {
     memchr3(b'"', b'\r', b'\n', line).is_none() && !line.starts_with(BYTE_ORDER_MARK)
 }
 
-/// What a line says that has neither a line break nor a byte order mark. One without a quote is cut at its
-/// commas, and only one with a quote goes through the csv reader, which costs far more to make.
+/// What a line of any length says. One without quotes is cut at its commas as it stands, and only one with a quote
+/// goes through the csv reader, which costs far more to make.
 fn read_fields(alloc: Global, line: &[u8], shape: &Shape) -> Result<EventLine, ReadLineFault>
-    requires some { 0 < length line.now }
-    requires whole { breaks_form line.now ≡ false }
-    ensures { Reads result (event_from shape.now (line_fields line.now)) }
+    ensures { Reads result (if breaks_form line.now then Err BadForm else event_from shape.now (line_fields line.now)) }
 {
-    if !has_quote(line) {
-        return read_event(alloc, Parts::new(line, b','), shape);
+    if has_plain_bytes(line) {
+        return read_event(alloc, line, b',', shape);
+    }
+    if is_broken(line) {
+        return Err(ReadLineFault::Line(LineFault::BadForm));
     }
     match join_fields(alloc, line)? {
-        Some(joined) => read_event(alloc, Parts::new(&joined, b'\r'), shape),
+        Some(joined) => read_event(alloc, &joined, b'\r', shape),
         None => Err(ReadLineFault::Line(LineFault::BadForm)),
     }
 }
@@ -137,38 +132,60 @@ pub fn read_version_line(
 ) -> Result<(u64, Row), ReadLineFault>
     ensures { Reads result (version_reading shape.now line.now) }
 {
+    if has_plain_bytes(line) {
+        return read_version(alloc, line, b',', shape);
+    }
     if is_broken(line) {
         return Err(ReadLineFault::Line(LineFault::BadForm));
     }
-    if !has_quote(line) {
-        return read_version(alloc, Parts::new(line, b','), shape);
-    }
     match join_fields(alloc, line)? {
-        Some(joined) => read_version(alloc, Parts::new(&joined, b'\r'), shape),
+        Some(joined) => read_version(alloc, &joined, b'\r', shape),
         None => Err(ReadLineFault::Line(LineFault::BadForm)),
     }
 }
 
-/// What the fields of a line say.
+/// What the fields between the separators say.
 fn read_event(
     alloc: Global,
-    mut fields: Parts<'_>,
+    bytes: &[u8],
+    separator: u8,
     shape: &Shape,
 ) -> Result<EventLine, ReadLineFault>
-    ensures { Reads result (event_of shape.now fields.entry) }
+    requires { IsSeparator separator }
+    ensures { Reads result (event_of shape.now (parts_of separator bytes.now)) }
 {
-    match fields.next() {
-        Some(b"+") => {
-            let (id, row) = read_version(alloc, fields, shape)?;
+    let [kind, next, fields @ ..] = bytes else {
+        return Err(ReadLineFault::Line(LineFault::BadForm));
+    };
+    if *next != separator {
+        return Err(ReadLineFault::Line(LineFault::BadForm));
+    }
+    read_kind(alloc, *kind, fields, separator, shape)
+}
+
+/// What a line of this kind says by the fields behind it.
+fn read_kind(
+    alloc: Global,
+    kind: u8,
+    fields: &[u8],
+    separator: u8,
+    shape: &Shape,
+) -> Result<EventLine, ReadLineFault>
+    requires { IsSeparator separator }
+    ensures { Reads result (event_of shape.now ((kind ∷ []) ∷ parts_of separator fields.now)) }
+{
+    match kind {
+        b'+' => {
+            let (id, row) = read_version(alloc, fields, separator, shape)?;
             Ok(EventLine::Insert { id, row })
         }
-        Some(b"-") => {
-            let (id, end) = read_retraction(fields)?;
+        b'-' => {
+            let (id, end) = read_retraction(fields, separator)?;
             Ok(EventLine::Retract { id, end })
         }
-        Some(b"=") => Ok(EventLine::Promise(read_guarantee(fields)?)),
-        Some(b"~") => {
-            let (id, row) = read_version(alloc, fields, shape)?;
+        b'=' => Ok(EventLine::Promise(read_guarantee(fields, separator)?)),
+        b'~' => {
+            let (id, row) = read_version(alloc, fields, separator, shape)?;
             Ok(EventLine::Revise { id, row })
         }
         _ => Err(ReadLineFault::Line(LineFault::BadForm)),
@@ -178,16 +195,22 @@ fn read_event(
 /// The id and the row of an insertion or a revision.
 fn read_version(
     alloc: Global,
-    mut fields: Parts<'_>,
+    fields: &[u8],
+    separator: u8,
     shape: &Shape,
 ) -> Result<(u64, Row), ReadLineFault>
-    ensures { Reads result (version_of shape.now fields.entry) }
+    requires { IsSeparator separator }
+    ensures { Reads result (version_of shape.now (parts_of separator fields.now)) }
 {
-    let (Some(id), Some(begin), Some(end)) = (fields.next(), fields.next(), fields.next()) else {
+    let (id, Some(rest)) = cut_number_at(fields, separator, u64::MAX) else {
         return Err(ReadLineFault::Line(LineFault::BadForm));
     };
-    let payload = read_payload(alloc, fields, shape)?;
-    let (Some(id), Some(begin), Some(end)) = (read_id(id), read_begin(begin), read_time(end)) else {
+    let (begin, Some(rest)) = cut_number_at(rest, separator, FOREVER - 1) else {
+        return Err(ReadLineFault::Line(LineFault::BadForm));
+    };
+    let (end, rest) = cut_time_at(rest, separator);
+    let payload = read_payload(alloc, rest, separator, shape)?;
+    let (Some(id), Some(begin), Some(end)) = (id, begin, end) else {
         return Err(ReadLineFault::Line(LineFault::BadNumber));
     };
     if end <= begin {
@@ -207,14 +230,16 @@ fn read_version(
 /// The fields of an insertion's or a revision's payload, or nothing where one isn't in its form.
 fn read_payload(
     alloc: Global,
-    fields: Parts<'_>,
+    rest: Option<&[u8]>,
+    separator: u8,
     shape: &Shape,
 ) -> Result<Option<Payload>, ReadLineFault>
-    ensures { Reads result (payload_of shape.now fields.entry) }
+    requires { IsSeparator separator }
+    ensures { Reads result (payload_of shape.now (parts_left separator (option_map (λ text. text.now) rest.entry))) }
 {
     match shape {
-        Shape::AnyText => read_texts(alloc, fields),
-        Shape::Fields(types) => read_typed(alloc, fields, types),
+        Shape::AnyText => read_texts(alloc, Parts::left(rest, separator)),
+        Shape::Fields(types) => read_typed(alloc, rest, separator, types),
     }
 }
 
@@ -235,51 +260,69 @@ fn read_texts(alloc: Global, fields: Parts<'_>) -> Result<Option<Payload>, ReadL
 /// A payload of one field for each type, or nothing where one isn't in its form.
 fn read_typed(
     alloc: Global,
-    mut fields: Parts<'_>,
+    mut rest: Option<&[u8]>,
+    separator: u8,
     types: &[FieldType],
 ) -> Result<Option<Payload>, ReadLineFault>
-    ensures { Reads result (typed_payload types.now fields.entry) }
+    requires { IsSeparator separator }
+    ensures { Reads result (typed_payload types.now (parts_left separator (option_map (λ text. text.now) rest.entry))) }
 {
     let mut read = Some(PayloadWriter::new(alloc));
     for field_type in types {
-        let Some(text) = fields.next() else {
+        let Some(bytes) = rest else {
             return Err(ReadLineFault::Line(LineFault::BadForm));
         };
-        read = with_read(read, *field_type, text)?;
+        let (with_next, left) = with_field(read, *field_type, bytes, separator)?;
+        read = with_next;
+        rest = left;
     }
-    match fields.next() {
+    match rest {
         None => Ok(payload_from(read)?),
         Some(_) => Err(ReadLineFault::Line(LineFault::BadForm)),
     }
 }
 
-/// With the field of a text, or nothing where one isn't in its form.
-fn with_read(
+/// With the first field, or nothing where one isn't in its form; and what stands after that field's separator.
+#[inline(always)]
+fn with_field(
     read: Option<PayloadWriter>,
     field_type: FieldType,
-    text: &[u8],
-) -> Result<Option<PayloadWriter>, OutOfMemory>
-    ensures { IfOk result (λ after. after ≡ pushed read (field_value field_type text.now)) }
+    bytes: &[u8],
+    separator: u8,
+) -> Result<(Option<PayloadWriter>, Option<&[u8]>), OutOfMemory>
+    requires { IsSeparator separator }
+    ensures { IfOk result (λ after. CutsField (parts_of separator bytes.now) (parts_left separator (option_map (λ rest. rest.now) after.1)) (λ field. after.0 ≡ pushed read (field_value field_type field))) }
 {
-    match read {
-        Some(read) => with_value(read, field_type, text),
-        None => Ok(None),
+    match field_type {
+        FieldType::Number => {
+            let (number, rest) = cut_int_at(bytes, separator);
+            Ok((with_number(read, number)?, rest))
+        }
+        FieldType::Bytes => {
+            let (text, rest) = cut_part(bytes, separator);
+            Ok((with_text(read, text)?, rest))
+        }
     }
 }
 
-fn with_value(
-    read: PayloadWriter,
-    field_type: FieldType,
-    text: &[u8],
+fn with_number(
+    read: Option<PayloadWriter>,
+    number: Option<i128>,
 ) -> Result<Option<PayloadWriter>, OutOfMemory>
-    ensures { IfOk result (λ after. after ≡ pushed (Some read) (field_value field_type text.now)) }
+    ensures { IfOk result (λ after. after ≡ pushed read (option_map (λ n. Number n) number)) }
 {
-    match field_type {
-        FieldType::Number => match read_int(text) {
-            Some(number) => Ok(Some(read.with_number(number)?)),
-            None => Ok(None),
-        },
-        FieldType::Bytes => Ok(Some(read.with_text(text)?)),
+    match (read, number) {
+        (Some(read), Some(number)) => Ok(Some(read.with_number(number)?)),
+        _ => Ok(None),
+    }
+}
+
+fn with_text(read: Option<PayloadWriter>, text: &[u8]) -> Result<Option<PayloadWriter>, OutOfMemory>
+    ensures { IfOk result (λ after. after ≡ pushed read (Some (Bytes text.now))) }
+{
+    match read {
+        Some(read) => Ok(Some(read.with_text(text)?)),
+        None => Ok(None),
     }
 }
 
@@ -294,27 +337,31 @@ fn payload_from(read: Option<PayloadWriter>) -> Result<Option<Payload>, OutOfMem
 }
 
 /// The id and the new end of a retraction.
-fn read_retraction(mut fields: Parts<'_>) -> Result<(u64, Time), LineFault>
-    ensures { retracted_by result ≡ retraction fields.entry }
+#[inline(always)]
+pub(crate) fn read_retraction(fields: &[u8], separator: u8) -> Result<(u64, Time), LineFault>
+    requires { IsSeparator separator }
+    ensures { retracted_by result ≡ retraction (parts_of separator fields.now) }
 {
-    let (Some(id), Some(end), None) = (fields.next(), fields.next(), fields.next()) else {
+    let (id, Some(rest)) = cut_number_at(fields, separator, u64::MAX) else {
         return Err(LineFault::BadForm);
     };
-    match (read_id(id), read_time(end)) {
-        (Some(id), Some(end)) => Ok((id, end)),
+    let (end, more) = cut_time_at(rest, separator);
+    match (id, end, more) {
+        (_, _, Some(_)) => Err(LineFault::BadForm),
+        (Some(id), Some(end), None) => Ok((id, end)),
         _ => Err(LineFault::BadNumber),
     }
 }
 
 /// The time of a guarantee.
-fn read_guarantee(mut fields: Parts<'_>) -> Result<Time, LineFault>
-    ensures { promised_by result ≡ guarantee fields.entry }
+#[inline(always)]
+pub(crate) fn read_guarantee(fields: &[u8], separator: u8) -> Result<Time, LineFault>
+    requires { IsSeparator separator }
+    ensures { promised_by result ≡ guarantee (parts_of separator fields.now) }
 {
-    let (Some(time), None) = (fields.next(), fields.next()) else {
-        return Err(LineFault::BadForm);
-    };
-    match read_time(time) {
-        Some(time) => Ok(time),
-        None => Err(LineFault::BadNumber),
+    match cut_time_at(fields, separator) {
+        (_, Some(_)) => Err(LineFault::BadForm),
+        (Some(time), None) => Ok(time),
+        (None, None) => Err(LineFault::BadNumber),
     }
 }

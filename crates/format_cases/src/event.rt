@@ -25,7 +25,7 @@ fn read_shaped(
     shape: &Shape,
 ) -> Result<Option<EventText<'static>>, ReadLineFault> {
     match read_line(alloc, line, shape)? {
-        Some(event) => Ok(Some(EventText::from(event))),
+        Some(event) => Ok(Some(EventText::from_line(alloc, event)?)),
         None => Ok(None),
     }
 }

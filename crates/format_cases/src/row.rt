@@ -72,7 +72,7 @@ pub(crate) fn text_row<'a>(alloc: Global, word: &'a str) -> Result<TextRow<'a>> 
             Ok(TextRow {
                 end: row.end,
                 begin: row.begin,
-                payload: PayloadText::from(row.into_payload()),
+                payload: PayloadText::read(alloc, row.into_payload())?,
             })
         }
         _ => bail!("no row: {word}"),

@@ -5,6 +5,7 @@ ghost use Rattle.change_laws.specs.Repairs.{wrapped};
 ghost use Rattle.node_laws.specs.Lists.{Lists, list_at, mark_above};
 ghost use Rattle.op_driver.specs.Driving.{DriverWorks, Drives, MayTake, IsFed, Answers};
 
+use crate::only::{empty, take_only};
 use cedr_base::{Change, Message, OutOfMemory, Time};
 use cedr_table::{Operator, no_marks};
 use std::alloc::Global;
@@ -29,8 +30,8 @@ impl<O: Drop> Drop for Driver<O> {
     }
 }
 
-/// Moves changes out, and appends them as messages. Where memory runs out some of them may stand there.
-fn push_changes(changes: &mut Vec<Change>, out: &mut Vec<Message>) -> Result<(), OutOfMemory>
+/// Moves changes out, and appends them as messages, whatever their number is.
+fn push_all(changes: &mut Vec<Change>, out: &mut Vec<Message>) -> Result<(), OutOfMemory>
     ensures out { OnOk result (out.new.items ≡ out.old.items ++ wrapped changes.old.items) }
     ensures kept { take (length out.old.items) out.new.items ≡ out.old.items }
 {
@@ -38,6 +39,20 @@ fn push_changes(changes: &mut Vec<Change>, out: &mut Vec<Message>) -> Result<(),
         out.push(Message::Change(change))?;
     }
     Ok(())
+}
+
+/// Moves changes out, and appends them as messages. Where memory runs out some of them may stand there.
+fn push_changes(changes: &mut Vec<Change>, out: &mut Vec<Message>) -> Result<(), OutOfMemory>
+    ensures out { OnOk result (out.new.items ≡ out.old.items ++ wrapped changes.old.items) }
+    ensures kept { take (length out.old.items) out.new.items ≡ out.old.items }
+{
+    match take_only(changes) {
+        Some(change) => {
+            out.push(Message::Change(change))?;
+            Ok(())
+        }
+        None => push_all(changes, out),
+    }
 }
 
 /// Appends a mark where it is above the last one.
@@ -69,7 +84,7 @@ fn feed_one<O: Operator>(
 {
     match message {
         Message::Change(change) => {
-            changes.clear();
+            empty(changes);
             op.apply(alloc, port, change, changes)?;
             push_changes(changes, out)?;
             Ok(())
@@ -81,6 +96,28 @@ fn feed_one<O: Operator>(
         Message::End => Ok(()),
         Message::Broken => Ok(()),
     }
+}
+
+/// Moves messages out, and hands them to the operator, one after the other, whatever their number is.
+fn feed_all<O: Operator>(
+    alloc: Global,
+    op: &mut O,
+    marks: &mut Vec<Time>,
+    changes: &mut Vec<Change>,
+    port: usize,
+    taken: &mut Vec<Message>,
+    out: &mut Vec<Message>,
+) -> Result<(), OutOfMemory>
+    requires { (lists : Lists) × (given : List Message) × DriverWorks (O.meaning op.old) (O.stands op.old) marks.old.items lists given × (port < length lists) × IsLegalBehind (list_at lists port) taken.old.items }
+    ensures fed { OnOk result ((lists : Lists) (given : List Message) → DriverWorks (O.meaning op.old) (O.stands op.old) marks.old.items lists given → port < length lists → IsLegalBehind (list_at lists port) taken.old.items → IsFed (O.meaning op.old) (O.stands op.new) marks.new.items lists port taken.old.items given out.old.items out.new.items) }
+    ensures taken { OnOk result (taken.new.items ≡ []) }
+    ensures meaning { O.meaning op.new ≡ O.meaning op.old }
+    ensures kept { take (length out.old.items) out.new.items ≡ out.old.items }
+{
+    for message in taken.drain(..) {
+        feed_one(alloc, op, marks, changes, port, message, out)?;
+    }
+    Ok(())
 }
 
 /// Moves messages out, and hands them to the operator, one after the other. Where memory runs out some of what answers
@@ -100,10 +137,10 @@ fn feed<O: Operator>(
     ensures meaning { O.meaning op.new ≡ O.meaning op.old }
     ensures kept { take (length out.old.items) out.new.items ≡ out.old.items }
 {
-    for message in taken.drain(..) {
-        feed_one(alloc, op, marks, changes, port, message, out)?;
+    match take_only(taken) {
+        Some(message) => feed_one(alloc, op, marks, changes, port, message, out),
+        None => feed_all(alloc, op, marks, changes, port, taken, out),
     }
-    Ok(())
 }
 
 impl<O: Operator> Driver<O> {

@@ -4,5 +4,7 @@
 #![tactic(auto)]
 
 mod driver;
+mod only;
 
 pub use driver::Driver;
+pub use only::{empty, take_only};

@@ -1,5 +1,5 @@
 -- How the states of these operators are read.
-use Rattle.std.specs.Prelude.{ℕ, []}
+use Rattle.std.specs.Prelude.{[]}
 use Rattle.cedr_table.specs.Readings.{Reading, row_wise_reading}
 use Rattle.op_row.specs.declared.select.Select.{Select}
 use Rattle.op_row.specs.declared.project.Project.{Project}

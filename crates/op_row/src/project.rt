@@ -47,6 +47,9 @@ impl RowWise for Project {
     }
 
     fn payload(&self, alloc: Global, payload: Payload) -> Result<Option<Payload>, OutOfMemory> {
+        if self.keep.keeps_all(&payload) {
+            return Ok(Some(payload));
+        }
         Ok(Some(self.keep.apply(alloc, &payload)?))
     }
 

@@ -45,8 +45,8 @@ impl RowWise for Select {
         Interval { begin, end }
     }
 
-    fn payload(&self, alloc: Global, payload: Payload) -> Result<Option<Payload>, OutOfMemory> {
-        if self.tests.holds(&payload, &Payload::new(alloc)) {
+    fn payload(&self, _alloc: Global, payload: Payload) -> Result<Option<Payload>, OutOfMemory> {
+        if self.tests.holds_alone(&payload) {
             Ok(Some(payload))
         } else {
             Ok(None)

@@ -34,14 +34,14 @@ returns-in_ok-push_changes-in-Change-clause-fed g c = λ lists given w may0.
     let moved : IsMoved change rows (applied change rows) = applied_moves change rows can.legal in
     let stands_now = c.in_ok-apply-in-Change.ensures.stands w.tables marks (applied change rows) w.op can moved in
     let fixed = c.in_ok-apply-in-Change.ensures.repairs w.tables marks (applied change rows) w.op can moved in
-    let changes_are : c.apply.new.out.items ≡ fixed.changes = (fixed.appended ∙ ap (λ (cs : List Change). cs ++ fixed.changes) c.clear.ensures.items) in
+    let changes_are : c.apply.new.out.items ≡ fixed.changes = (fixed.appended ∙ ap (λ (cs : List Change). cs ++ fixed.changes) c.empty.ensures) in
     subst (λ (m : Message). IsFed (op.meaning old) (op.stands new) marks lists port (m ∷ []) given c.args.out.now.items c.push_changes.new.out.items) (sym c.in-Change.is) (record {
       gained = wrapped fixed.changes;
       appended = c.in_ok-push_changes-in-Change.ensures.out ∙ ap (λ (cs : List Change). c.args.out.now.items ++ wrapped cs) changes_are;
       works = feed_change (op.meaning old) (op.stands old) (op.stands new) marks lists given port w change fixed.changes may stands_now fixed.repair
           ((laws.lawful old).bound_stays w.tables marks port change (applied change rows) w.op can moved);
       no_mark = mark-wrapped fixed.changes;
-      echo = λ e. ap (λ (cs : List Change). wrapped cs) (sym changes_are ∙ (c.in_ok-apply-in-Change.ensures.echoes e ∙ ap (λ (cs : List Change). cs ++ c.in-Change.change ∷ []) c.clear.ensures.items));
+      echo = λ e. ap (λ (cs : List Change). wrapped cs) (sym changes_are ∙ (c.in_ok-apply-in-Change.ensures.echoes e ∙ ap (λ (cs : List Change). cs ++ c.in-Change.change ∷ []) c.empty.ensures));
     })
 
 pub returns-in-Mark-clause-fed : goal.returns-in-Mark-clause-fed
