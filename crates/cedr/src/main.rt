@@ -1,8 +1,9 @@
 //! The program `cedr`: real files and streams around the top call.
 #![tactic(auto)]
 
+use cedr_commands::Status;
 use cedr_io::{DiskFiles, OpenGate, OutsideFault, StdSink, write_all};
-use cedr_run::{Status, run};
+use cedr_run::run;
 use std::io::ErrorKind;
 use std::process::ExitCode;
 use std::sync::{Arc, Wait};

@@ -27,7 +27,7 @@ use Rattle.cedr_worker.specs.declared.source.SourceEnd.{SourceEnd}
 use Rattle.cedr_worker.specs.declared.stop.SourceStop.{SourceStop}
 use Rattle.cedr_worker.specs.declared.stop.SourceStop.TheVariants as stop
 use Rattle.cedr_worker.specs.Stops.{IsGiven, StoppedAs, last_at}
-use Rattle.cedr_run.specs.Answers.{AllHaveBegun, HasBegun, StreamsSoFar, AddsInOrder}
+use Rattle.cedr_commands.specs.Answers.{AllHaveBegun, HasBegun, StreamsSoFar, AddsInOrder}
 use Rattle.cedr_worker.proofs.SourceLemmas.{open_unbroken}
 
 -- ---- one source

@@ -1,11 +1,3 @@
-pub mod CommandLemmas
-pub mod EventLemmas
-pub mod FileLemmas
-pub mod SayingLemmas
-pub mod EndingLemmas
-pub mod ScriptLemmas
-pub mod ResumeLemmas
-pub mod MakeLemmas
 pub mod FaultLemmas
 pub mod RunLemmas
 pub mod PlanLemmas

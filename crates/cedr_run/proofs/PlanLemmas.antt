@@ -7,19 +7,20 @@ use Rattle.cedr_plan.specs.declared.plan.PlanNode.{PlanNode}
 use Rattle.plan_answer.specs.Sources.{AreTold, AsksFirst, source_files}
 use Rattle.plan_edges.specs.Wires.{carried, ports_of}
 use Rattle.cedr_worker.specs.declared.ran.Ran.{Ran}
-use Rattle.cedr_run.specs.declared.command.Job.{Job}
-use Rattle.cedr_run.specs.declared.command.Job.TheVariants.{History, Check, Serial, Run, Pool, Stream, Audit, Live, Make, Save, Resume}
-use Rattle.cedr_run.specs.declared.outcome.Outcome.{Outcome}
-use Rattle.cedr_run.specs.declared.outcome.Outcome.TheVariants as outcome
-use Rattle.cedr_run.specs.declared.status.Status.{Status}
-use Rattle.cedr_run.specs.declared.status.Status.TheVariants as status
-use Rattle.cedr_run.specs.Answers.{AnswersChanges, AnswersQuery, AnswersRun, AnswersStream, Begins, BeginsPlan, Contents, Gives, GivesPlan, OfPlan, Refuses, RefusesSources, StreamsFront, StreamsSoFar}
-use Rattle.cedr_run.specs.Commands.{Command, named_files}
-use Rattle.cedr_run.specs.Outcomes.{CommandEnds, IsSilentAtRead, Wrote, WroteFront, status_of}
-use Rattle.cedr_run.specs.Seen.{FilesSeen, SinkSeen}
-use Rattle.cedr_run.specs.Steps.{OpensPlan, ReadsSources}
+use Rattle.cedr_commands.specs.declared.command.Job.{Job}
+use Rattle.cedr_commands.specs.declared.command.Job.TheVariants.{History, Check, Serial, Run, Pool, Stream, Audit, Live, Make, Save, Resume}
+use Rattle.cedr_commands.specs.declared.outcome.Outcome.{Outcome}
+use Rattle.cedr_commands.specs.declared.outcome.Outcome.TheVariants as outcome
+use Rattle.cedr_commands.specs.declared.status.Status.{Status}
+use Rattle.cedr_commands.specs.declared.status.Status.TheVariants as status
+use Rattle.cedr_commands.specs.Answers.{AnswersChanges, AnswersQuery, Begins, BeginsPlan, Contents, Gives, GivesPlan, OfPlan, Refuses, RefusesSources, StreamsFront, StreamsSoFar}
+use Rattle.cedr_run.specs.Answers.{AnswersRun, AnswersStream}
+use Rattle.cedr_commands.specs.Commands.{Command, named_files}
+use Rattle.cedr_commands.specs.Outcomes.{CommandEnds, IsSilentAtRead, Wrote, WroteFront, status_of}
+use Rattle.cedr_commands.specs.Seen.{FilesSeen, SinkSeen}
+use Rattle.cedr_commands.specs.Steps.{OpensPlan, ReadsSources}
 use Rattle.cedr_run.specs.Threads.{AnswersBy, BeganRun, BeginsBy, GaveRun, HasRun, IsSilentBy, IsThreaded, RunEnds, WroteRun}
-use Rattle.cedr_run.proofs.EndingLemmas.{IsOpened, begins_of, gives_of, named_one, opened_told, refuses_of, told_same}
+use Rattle.cedr_commands.proofs.EndingLemmas.{IsOpened, begins_of, gives_of, named_one, opened_told, refuses_of, told_same}
 
 -- a sink that kept what it had gained nothing
 appends_nothing : (old new : Option (List ℕ)) → Keeps old new → Appends old new []

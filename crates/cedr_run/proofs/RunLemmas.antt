@@ -46,18 +46,19 @@ use Rattle.cedr_worker.specs.declared.source.SourceEnd.{SourceEnd}
 use Rattle.cedr_worker.specs.declared.stop.SourceStop.{SourceStop}
 use Rattle.cedr_worker.specs.declared.stop.SourceStop.TheVariants as stop
 use Rattle.cedr_worker.specs.Stops.{StoppedAs, meant}
-use Rattle.cedr_run.specs.declared.command.Job.{Job}
-use Rattle.cedr_run.specs.declared.command.Job.TheVariants.{Stream}
-use Rattle.cedr_run.specs.declared.outcome.Outcome.{Outcome}
-use Rattle.cedr_run.specs.declared.outcome.Outcome.TheVariants as outcome
-use Rattle.cedr_run.specs.Answers.{AnswersRun, AnswersStream, Contents, RefusesSources}
-use Rattle.cedr_run.specs.Seen.{FilesSeen, SinkSeen}
-use Rattle.cedr_run.specs.Steps.{Says, WritesText, faulty_text}
+use Rattle.cedr_commands.specs.declared.command.Job.{Job}
+use Rattle.cedr_commands.specs.declared.command.Job.TheVariants.{Stream}
+use Rattle.cedr_commands.specs.declared.outcome.Outcome.{Outcome}
+use Rattle.cedr_commands.specs.declared.outcome.Outcome.TheVariants as outcome
+use Rattle.cedr_commands.specs.Answers.{Contents, RefusesSources}
+use Rattle.cedr_run.specs.Answers.{AnswersRun, AnswersStream}
+use Rattle.cedr_commands.specs.Seen.{FilesSeen, SinkSeen}
+use Rattle.cedr_commands.specs.Steps.{Says, WritesText, faulty_text}
 use Rattle.cedr_run.specs.Threads.{CanTell, CanTellTail, IsReported, IsSilentBy, IsThreaded, RunEnds, EndsRun, WritesRun, tail_of}
-use Rattle.cedr_run.proofs.EndingLemmas.{AcceptedLeft, kept_itself}
+use Rattle.cedr_commands.proofs.EndingLemmas.{AcceptedLeft, kept_itself}
 use Rattle.cedr_run.proofs.FaultLemmas.{any_stop}
 use Rattle.cedr_run.proofs.PlanLemmas.{answers_at_end}
-use Rattle.cedr_run.proofs.SayingLemmas.{named_faults}
+use Rattle.cedr_commands.proofs.SayingLemmas.{named_faults}
 use Rattle.plan_answer.proofs.FindLemmas.{count_more}
 use Rattle.node_laws.proofs.Passes.{one_table}
 

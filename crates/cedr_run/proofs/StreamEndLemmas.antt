@@ -25,18 +25,18 @@ use Rattle.plan_report.specs.declared.report.Report.{Report}
 use Rattle.plan_report.specs.Reports.{HasOutcome, IsReport}
 use Rattle.plan_report.specs.SoFar.{IsSoFar}
 use Rattle.plan_edges.specs.Wires.{carried, ports_of}
-use Rattle.cedr_run.specs.declared.outcome.Outcome.{Outcome}
-use Rattle.cedr_run.specs.declared.outcome.Outcome.TheVariants as outcome
+use Rattle.cedr_commands.specs.declared.outcome.Outcome.{Outcome}
+use Rattle.cedr_commands.specs.declared.outcome.Outcome.TheVariants as outcome
 use Rattle.cedr_run.specs.declared.progress.Progress.{Progress}
 use Rattle.cedr_run.specs.declared.progress.Progress.TheVariants as progress
-use Rattle.cedr_run.specs.Answers.{Contents, StreamsSoFar}
-use Rattle.cedr_run.specs.Seen.{FilesSeen, SinkSeen}
+use Rattle.cedr_commands.specs.Answers.{Contents, StreamsSoFar}
+use Rattle.cedr_commands.specs.Seen.{FilesSeen, SinkSeen}
 use Rattle.cedr_run.specs.Strong.{WroteGood, WroteStrong}
-use Rattle.cedr_run.specs.Steps.{WritesText, faulty_text}
-use Rattle.cedr_run.specs.declared.command.Job.TheVariants.{Stream}
+use Rattle.cedr_commands.specs.Steps.{WritesText, faulty_text}
+use Rattle.cedr_commands.specs.declared.command.Job.TheVariants.{Stream}
 use Rattle.cedr_run.specs.Threads.{BeganRun, CanTellTail, IsSilentBy, IsStreamed, RunEnds, EndsStream, WritesTail, WroteList, tail_of}
 use Rattle.cedr_run.proofs.BegunLemmas.{streams_so_far}
-use Rattle.cedr_run.proofs.EndingLemmas.{rose_above}
+use Rattle.cedr_commands.proofs.EndingLemmas.{rose_above}
 use Rattle.cedr_run.proofs.PlanLemmas.{stream_changes}
 use Rattle.cedr_run.proofs.RunLemmas.{Accepts, Leads, can_tell_tail, faulty_kept, lacking_ends, none_rose, read_ends, refuses_so, said_ends, some_rose, streams_so}
 use Rattle.cedr_run.proofs.StreamLemmas.{lines_longer, wrote_front}

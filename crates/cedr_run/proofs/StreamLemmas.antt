@@ -14,7 +14,7 @@ use Rattle.plan_answer.specs.Queries.{changes_text}
 use Rattle.cedr_text.specs.Texts.{change_text}
 use Rattle.cedr_run.specs.declared.progress.Progress.{Progress}
 use Rattle.cedr_run.specs.declared.progress.Progress.TheVariants as progress
-use Rattle.cedr_run.specs.Seen.{SinkSeen}
+use Rattle.cedr_commands.specs.Seen.{SinkSeen}
 use Rattle.cedr_run.specs.Threads.{WroteList}
 use Rattle.plan_live.proofs.ShownLemmas.{front_along}
 

@@ -43,13 +43,13 @@ use Rattle.node_laws.specs.Approaching.{AddsFirst}
 use Rattle.plan_runs.specs.Partials.{AllBeginTables, BeginsTable}
 use Rattle.node_laws.proofs.Additions.{only_adds}
 use Rattle.plan_runs.proofs.PartialOutput.{output_adds, output_ascends}
-use Rattle.cedr_run.specs.declared.command.Job.{Job}
-use Rattle.cedr_run.specs.declared.command.Job.TheVariants.{History, Check, Serial, Run, Pool, Stream, Audit, Live, Make, Save, Resume}
-use Rattle.cedr_run.specs.Answers.{AddsInOrder, AllHaveBegun, HasBegun, StreamsSoFar}
-use Rattle.cedr_run.specs.Seen.{FilesSeen, SinkSeen}
+use Rattle.cedr_commands.specs.declared.command.Job.{Job}
+use Rattle.cedr_commands.specs.declared.command.Job.TheVariants.{History, Check, Serial, Run, Pool, Stream, Audit, Live, Make, Save, Resume}
+use Rattle.cedr_commands.specs.Answers.{AddsInOrder, AllHaveBegun, HasBegun, StreamsSoFar}
+use Rattle.cedr_commands.specs.Seen.{FilesSeen, SinkSeen}
 use Rattle.cedr_run.specs.Strong.{AddsGood, AllHaveGood, StreamsPlan, StreamsStrong, WroteGood, WroteStrong}
 use Rattle.cedr_run.proofs.BegunLemmas.{AllOrdered}
-use Rattle.cedr_run.proofs.EndingLemmas.{IsOpened, nothing_is_front, opened_told, told_same}
+use Rattle.cedr_commands.proofs.EndingLemmas.{IsOpened, nothing_is_front, opened_told, told_same}
 use Rattle.cedr_run.proofs.StreamLemmas.{front_longer}
 
 -- ---- the messages of good lines

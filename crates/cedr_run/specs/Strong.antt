@@ -15,11 +15,11 @@ use Rattle.plan_answer.specs.Sources.{AreTold, file_of, source_files}
 use Rattle.cedr_table.specs.Operators.{Tables, table_at}
 use Rattle.cedr_text.specs.Shapes.{ShapeHasTypes}
 use Rattle.cedr_text.specs.declared.event_line.Shape.{Shape}
-use Rattle.cedr_run.specs.declared.command.Job.{Job}
-use Rattle.cedr_run.specs.declared.command.Job.TheVariants.{Stream}
-use Rattle.cedr_run.specs.Answers.{Contents, OfPlan}
-use Rattle.cedr_run.specs.Commands.{Command}
-use Rattle.cedr_run.specs.Seen.{FilesSeen, SinkSeen}
+use Rattle.cedr_commands.specs.declared.command.Job.{Job}
+use Rattle.cedr_commands.specs.declared.command.Job.TheVariants.{Stream}
+use Rattle.cedr_commands.specs.Answers.{Contents, OfPlan}
+use Rattle.cedr_commands.specs.Commands.{Command}
+use Rattle.cedr_commands.specs.Seen.{FilesSeen, SinkSeen}
 
 -- the canonical history of the good lines of a source, those before its first fault
 pub record HasGood (told : List ℕ → List ℕ) (node : PlanNode) (history : List Row) : Type 0 where

@@ -25,19 +25,20 @@ use Rattle.plan_report.specs.declared.report.Report.{Report}
 use Rattle.plan_report.specs.Reports.{IsReport}
 use Rattle.plan_report.specs.SoFar.{IsSoFar}
 use Rattle.cedr_worker.specs.declared.ran.Ran.{Ran}
-use Rattle.cedr_run.specs.declared.command.Job.{Job}
-use Rattle.cedr_run.specs.declared.command.Job.TheVariants.{Run, Pool, Stream}
-use Rattle.cedr_run.specs.declared.outcome.Outcome.{Outcome}
-use Rattle.cedr_run.specs.declared.outcome.Outcome.TheVariants as outcome
+use Rattle.cedr_commands.specs.declared.command.Job.{Job}
+use Rattle.cedr_commands.specs.declared.command.Job.TheVariants.{Run, Pool, Stream}
+use Rattle.cedr_commands.specs.declared.outcome.Outcome.{Outcome}
+use Rattle.cedr_commands.specs.declared.outcome.Outcome.TheVariants as outcome
 use Rattle.cedr_run.specs.declared.progress.Progress.{Progress}
 use Rattle.cedr_run.specs.declared.progress.Progress.TheVariants as progress
-use Rattle.cedr_run.specs.declared.status.Status.{Status}
-use Rattle.cedr_run.specs.declared.status.Status.TheVariants as status
-use Rattle.cedr_run.specs.Answers.{AnswersRun, AnswersStream, BeginsPlan, Contents, OfPlan, RefusesSources, StreamsSoFar}
-use Rattle.cedr_run.specs.Commands.{Command, IsNumbered}
-use Rattle.cedr_run.specs.Outcomes.{Wrote}
-use Rattle.cedr_run.specs.Seen.{FilesSeen, SinkSeen, NoneRose}
-use Rattle.cedr_run.specs.Steps.{Says, WritesText, faulty_text}
+use Rattle.cedr_commands.specs.declared.status.Status.{Status}
+use Rattle.cedr_commands.specs.declared.status.Status.TheVariants as status
+use Rattle.cedr_commands.specs.Answers.{BeginsPlan, Contents, OfPlan, RefusesSources, StreamsSoFar}
+use Rattle.cedr_run.specs.Answers.{AnswersRun, AnswersStream}
+use Rattle.cedr_commands.specs.Commands.{Command, IsNumbered}
+use Rattle.cedr_commands.specs.Outcomes.{Wrote}
+use Rattle.cedr_commands.specs.Seen.{FilesSeen, SinkSeen, NoneRose}
+use Rattle.cedr_commands.specs.Steps.{Says, WritesText, faulty_text}
 
 -- ---- what is written
 

@@ -1,4 +1,4 @@
-use crate::status::Status;
+use cedr_commands::Status;
 use cedr_edge::EdgeRecord;
 use cedr_worker::Ran;
 

@@ -6,7 +6,7 @@ ghost use Rattle.cedr_io.specs.Asked.{AppendsFront};
 ghost use Rattle.cedr_io.specs.Counts.{Counts};
 ghost use Rattle.plan_answer.specs.Queries.{changes_text};
 ghost use Rattle.cedr_run.specs.declared.progress.Progress.TheVariants.{Whole};
-ghost use Rattle.cedr_run.specs.Seen.{SinkSeen, seen_sink};
+ghost use Rattle.cedr_commands.specs.Seen.{SinkSeen, seen_sink};
 ghost use Rattle.cedr_run.specs.Threads.{WroteList};
 
 use crate::progress::Progress;
@@ -85,7 +85,7 @@ impl<K: Sink> Streamer<K> {
 
 impl<K: Sink> Watcher for Streamer<K> {
     ghost use Rattle.std.specs.Prelude.{◌≡◌, length};
-    ghost use Rattle.cedr_run.specs.Seen.{seen_sink};
+    ghost use Rattle.cedr_commands.specs.Seen.{seen_sink};
     ghost use Rattle.cedr_run.specs.Threads.{WroteList};
 
     type Out = K;

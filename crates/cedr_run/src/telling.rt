@@ -4,14 +4,13 @@ ghost use Rattle.cedr_base.specs.declared.change.Message.{Message};
 ghost use Rattle.cedr_io.specs.Counts.{last_count};
 ghost use Rattle.node_laws.specs.declared.forgotten.Forgotten.{Forgotten};
 ghost use Rattle.plan_report.specs.declared.report.Outcome.TheVariants.{Done as CameDone};
-ghost use Rattle.cedr_run.specs.Seen.{seen_sink};
+ghost use Rattle.cedr_commands.specs.Seen.{seen_sink};
 ghost use Rattle.cedr_run.specs.Threads.{CanTell, CanTellTail, EndsRun, EndsStream, WritesRun, WritesTail, broken_off};
 ghost use Rattle.cedr_run.specs.declared.progress.Progress.TheVariants.{Whole};
 
-use crate::outcome::Outcome;
 use crate::progress::Progress;
-use crate::saying::{refuse_sources, write_text};
 use cedr_base::{Change, OutOfMemory};
+use cedr_commands::{Outcome, refuse_sources, write_text};
 use cedr_io::Sink;
 use cedr_plan::PlanNode;
 use plan_answer::{PortForgotten, has_memory, write_report, write_tail};

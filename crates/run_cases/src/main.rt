@@ -22,10 +22,6 @@
 //! - `found WORD ..`: as `run`, and then how many sources were found, and how many of them were given back.
 //! - `edges WORD ..`: as `run`, and then how many edges and workers there were, and whether each worker took and put what its
 //!   edges carried. The nodes of the plan are a chain.
-//! - `source NAME COUNT`: the lines of the source `a` or `b` of the workload of so many events a source.
-//! - `workload`: the plan of the workload: what `check` says of it, how many messages an edge holds, and each node.
-//! - `plan NAME`: the same of the plan that this file describes.
-//! - `summary BEGIN-END ..`: the summary of rows that are valid so long.
 //!
 //! Pieces, refusals and a front are those of the next `run`, `alone`, `found` or `edges` only. An empty line says nothing.
 //!
@@ -33,23 +29,17 @@
 //! for nothing and `\x` with two digits for the byte of this hexadecimal number.
 #![tactic(auto)]
 
-mod case;
-mod made;
-mod outside;
 mod play;
-mod spelling;
 mod telling;
-mod watched;
 
 use anyhow::{Result, bail};
-use case::Case;
-use made::{tell_made_plan, tell_read_plan, tell_source, tell_summary};
 use play::{play_alone, play_on_threads};
 use std::alloc::Global;
 use std::sync::Wait;
 use std::thread::Threads;
 use std::time::Clock;
 use telling::{tell, tell_edges, tell_found};
+use test_outside::Case;
 
 fn main(rt: HostRuntime) -> Result<()> {
     let alloc = rt.alloc();
@@ -99,17 +89,6 @@ fn carry_out<R: Threads + Wait + Clock + Print + Copy + Drop + Send + Sync + 'st
             tell_found(&rt, &played)
         }
         ["alone", words @ ..] => tell(&rt, &play_alone(alloc, case, words)?),
-        _ => show(&rt, alloc, case, words),
-    }
-}
-
-/// Writes of the workload what is asked for, or a plan.
-fn show(rt: &impl Print, alloc: Global, case: &Case, words: &[&str]) -> Result<()> {
-    match words {
-        ["source", name, count] => tell_source(rt, alloc, name, count),
-        ["workload"] => tell_made_plan(rt, alloc),
-        ["plan", name] => tell_read_plan(rt, alloc, case.bytes_of(name)?),
-        ["summary", spans @ ..] => tell_summary(rt, alloc, spans),
         _ => bail!("no such line: {words:?}"),
     }
 }

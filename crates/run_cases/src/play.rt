@@ -1,18 +1,16 @@
 ghost use Rattle.std.specs.Prelude.{◌≡◌, true, map};
 ghost use Rattle.std.specs.String.{string_bytes};
-ghost use Rattle.cedr_run.specs.Commands.{IsAlone};
+ghost use Rattle.cedr_commands.specs.Commands.{IsAlone};
 
-use crate::case::Case;
-use crate::outside::Outside;
-use crate::spelling::spelled_words;
-use crate::watched::{WatchedFiles, WatchedSink};
 use anyhow::{Result, bail};
+use cedr_commands::run_alone;
 use cedr_io::OpenGate;
-use cedr_run::{Ending, run, run_alone};
+use cedr_run::{Ending, run};
 use std::alloc::Global;
 use std::sync::{Arc, Wait};
 use std::thread::Threads;
 use std::time::Clock;
+use test_outside::{Case, Outside, WatchedFiles, WatchedSink, spelled_words};
 
 /// How a command ended, and what it left outside.
 #[derive(Drop)]

@@ -1,35 +1,8 @@
-//! Tests of what needs threads, a clock, or a gate that holds turns: edges, the queue of a pool's tasks and the result's history, over real threads and
-//! where what a call answers depends on what the other end did before; workers, turn by turn and beside each other; and
-//! plans whose workers run on threads of their own. There is nothing here but tests.
+//! Tests of plans whose workers run on threads of their own, where a gate holds their turns or what is read depends on when, and
+//! of the command that writes as it reads. There is nothing here but tests.
 #![tactic(auto)]
 
 #[cfg(test)]
-mod edges;
-#[cfg(test)]
-mod feeding;
-#[cfg(test)]
-mod files;
-#[cfg(test)]
-mod gate;
-#[cfg(test)]
-mod histories;
-#[cfg(test)]
-mod history_threads;
-#[cfg(test)]
-mod operators;
-#[cfg(test)]
-mod out_edges;
-#[cfg(test)]
-mod outputs;
-#[cfg(test)]
 mod runs;
 #[cfg(test)]
-mod sources;
-#[cfg(test)]
 mod stream;
-#[cfg(test)]
-mod tasks;
-#[cfg(test)]
-mod wires;
-#[cfg(test)]
-mod worker_threads;

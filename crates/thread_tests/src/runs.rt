@@ -1,8 +1,6 @@
 //! Runs of plans over files in memory.
 ghost use Rattle.std.specs.Prelude.{◌≤◌};
 
-use crate::files::{NO_READ, files_of};
-use crate::gate::Holding;
 use cedr_base::{Change, OutOfMemory};
 use cedr_guard::Refusal;
 use cedr_history::Reader;
@@ -19,6 +17,7 @@ use std::sync::{Arc, Wait};
 use std::test::Fail;
 use std::thread::Threads;
 use std::time::Clock;
+use test_outside::{Holding, NO_READ, files_of};
 
 const UNION: &str = r#"{"version":1,"nodes":[
  {"name":"u","op":"source","file":"u.csv","fields":["text"]},

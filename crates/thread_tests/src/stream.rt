@@ -1,13 +1,13 @@
 //! The command `stream`, whose workers pass a gate.
-use crate::files::{NO_READ, files_of};
-use crate::gate::Holding;
 use crate::runs::MIDDLE;
+use cedr_commands::Status;
 use cedr_io::{MemSink, OutsideFault, Sink};
-use cedr_run::{Status, run};
+use cedr_run::run;
 use std::alloc::Global;
 use std::sync::Arc;
 use std::sync::atomic::{AtomicU64, Ordering};
 use std::test::Fail;
+use test_outside::{Holding, NO_READ, files_of};
 
 /// Six additions.
 const SIX: &str = "+,1,1,2,a\n+,2,2,3,b\n+,3,3,4,c\n+,4,4,5,d\n+,5,5,6,e\n+,6,6,7,f\n";

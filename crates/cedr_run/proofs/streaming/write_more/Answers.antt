@@ -1,6 +1,6 @@
 use Rattle.std.proofs.Common.{subst}
 use Rattle.cedr_run.specs.declared.progress.Progress.TheVariants as progress
-use Rattle.cedr_run.specs.Seen.{seen_sink}
+use Rattle.cedr_commands.specs.Seen.{seen_sink}
 use Rattle.cedr_run.specs.Threads.{WroteList}
 use Rattle.cedr_run.proofs.StreamLemmas.{stays_written}
 use Rattle.cedr_run.proofs.streaming.write_more.Goals as goal

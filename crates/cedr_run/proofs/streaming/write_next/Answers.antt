@@ -1,6 +1,6 @@
 use Rattle.std.proofs.Common.{Err, subst}
 use Rattle.cedr_io.specs.Counts.{Counts}
-use Rattle.cedr_run.specs.Seen.{seen_sink}
+use Rattle.cedr_commands.specs.Seen.{seen_sink}
 use Rattle.cedr_run.proofs.StreamLemmas.{lacked_more, refused_more}
 use Rattle.cedr_run.proofs.streaming.write_next.Goals as goal
 

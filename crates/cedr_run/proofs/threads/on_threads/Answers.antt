@@ -1,7 +1,7 @@
 use Rattle.std.proofs.Common.{refl}
 use Rattle.plan_answer.specs.Sources.{source_files}
-use Rattle.cedr_run.specs.Seen.{seen_files, seen_sink}
-use Rattle.cedr_run.proofs.EndingLemmas.{asks_more, is_opened, sources_asked}
+use Rattle.cedr_commands.specs.Seen.{seen_files, seen_sink}
+use Rattle.cedr_commands.proofs.EndingLemmas.{asks_more, is_opened, sources_asked}
 use Rattle.cedr_run.proofs.PlanLemmas.{plan_ended, reads_by, wrote_run}
 use Rattle.cedr_run.proofs.StrongLemmas.{streams_nothing, streams_plan}
 use Rattle.cedr_run.proofs.threads.on_threads.Goals as goal

@@ -1,5 +1,5 @@
 use Rattle.std.proofs.Common.{refl, subst, sym}
-use Rattle.cedr_run.specs.Seen.{seen_files, seen_sink}
+use Rattle.cedr_commands.specs.Seen.{seen_files, seen_sink}
 use Rattle.cedr_run.specs.Threads.{RunEnds}
 use Rattle.cedr_run.proofs.PlanLemmas.{ends_later}
 use Rattle.cedr_run.proofs.StrongLemmas.{strong_later, wrote_nothing_strong}

@@ -1,5 +1,5 @@
 use Rattle.std.proofs.Common.{ap}
-use Rattle.cedr_run.specs.Seen.{seen_sink}
+use Rattle.cedr_commands.specs.Seen.{seen_sink}
 use Rattle.cedr_run.proofs.StreamEndLemmas.{streamed_so}
 use Rattle.cedr_run.proofs.StrongLemmas.{wrote_nothing_strong}
 use Rattle.cedr_run.proofs.threads.stream_sources.Goals as goal

@@ -2,7 +2,7 @@ use Rattle.node_laws.specs.Lists.{list_at}
 use Rattle.cedr_plan.specs.Places.{output_place}
 use Rattle.plan_runs.specs.Without.{forgot_in}
 use Rattle.plan_edges.specs.Wires.{carried, ports_of}
-use Rattle.cedr_run.specs.Seen.{seen_files, seen_sink}
+use Rattle.cedr_commands.specs.Seen.{seen_files, seen_sink}
 use Rattle.cedr_run.proofs.RunLemmas.{can_tell, can_tell_as, run_ends, tells_as}
 use Rattle.cedr_run.proofs.threads.tell.Goals as goal
 

@@ -1,6 +1,6 @@
 use Rattle.plan_runs.specs.Without.{forgot_in}
 use Rattle.plan_edges.specs.Wires.{carried, ports_of}
-use Rattle.cedr_run.specs.Seen.{seen_files, seen_sink}
+use Rattle.cedr_commands.specs.Seen.{seen_files, seen_sink}
 use Rattle.cedr_run.proofs.RunLemmas.{can_tell_tail}
 use Rattle.cedr_run.proofs.StreamEndLemmas.{can_tell_tail_as, stream_ends, stream_strong, tells_stream_as, whole_counts}
 use Rattle.cedr_run.proofs.threads.tell_stream.Goals as goal

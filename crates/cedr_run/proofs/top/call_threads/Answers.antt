@@ -1,7 +1,7 @@
 use Rattle.std.proofs.Common.{Some, refl}
-use Rattle.cedr_run.specs.Commands.{Command}
-use Rattle.cedr_run.specs.Seen.{seen_files, seen_sink}
-use Rattle.cedr_run.proofs.EndingLemmas.{ends_command}
+use Rattle.cedr_commands.specs.Commands.{Command}
+use Rattle.cedr_commands.specs.Seen.{seen_files, seen_sink}
+use Rattle.cedr_commands.proofs.EndingLemmas.{ends_command}
 use Rattle.cedr_run.proofs.PlanLemmas.{done_alone, has_run_by}
 use Rattle.cedr_run.proofs.top.call_threads.Goals as goal
 

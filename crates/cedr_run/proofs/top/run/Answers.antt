@@ -1,7 +1,7 @@
 use Rattle.std.proofs.Common.{◌≡◌, Option, Some, ap, subst, ◌∙◌, map}
 use Rattle.std.specs.String.{string_bytes}
-use Rattle.cedr_run.specs.Commands.{Command, command_of}
-use Rattle.cedr_run.specs.Seen.{seen_files, seen_sink}
+use Rattle.cedr_commands.specs.Commands.{Command, command_of}
+use Rattle.cedr_commands.specs.Seen.{seen_files, seen_sink}
 use Rattle.cedr_run.specs.Strong.{StreamsStrong}
 use Rattle.cedr_run.specs.Threads.{HasRun}
 use Rattle.cedr_run.proofs.StrongLemmas.{streams_strong_by}

@@ -1,7 +1,7 @@
 use Rattle.std.proofs.Common.{◌≤◌, ◌++◌, ap, sym, ◌∙◌, subst, rules}
 use Rattle.cedr_history.specs.Ends.{part}
 use Rattle.cedr_history.proofs.Fronts.{prefix_self}
-use Rattle.cedr_run.specs.Seen.{seen_sink}
+use Rattle.cedr_commands.specs.Seen.{seen_sink}
 use Rattle.cedr_run.specs.Threads.{WroteList}
 use Rattle.cedr_run.proofs.StreamLemmas.{read_more}
 use Rattle.cedr_run.proofs.streaming.StreamerWatcher.look.Goals as goal

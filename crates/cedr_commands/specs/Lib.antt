@@ -1,0 +1,11 @@
+pub mod Refusals
+pub mod Commands
+pub mod Files
+pub mod Seen
+pub mod Resuming
+pub mod Answers
+pub mod Events
+pub mod Outcomes
+pub mod Steps
+pub mod Ending
+pub mod Codes
