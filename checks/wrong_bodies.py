@@ -33,6 +33,7 @@ JOBS = ["--jobs", "2"]
 UNPROVED = re.compile(r"^fn (\S+): (?:no proof|not proved)(.*)", re.M)
 IN_A_PROOF = re.compile(r"^(?:\./)?proofs/(\S+)/\w+\.antt:\d+:\d+: error: (.*)", re.M)
 IN_A_TEXT = re.compile(r"^note: (?:\./)?(src/\S+?):(\d+):\d+: it is not proved", re.M)
+CYCLE = re.compile(r"^ *#\[cycle\((\w+)\)\]\n(?: *#\[.*\]\n)* *(?:pub(?:\(\w+\))? )?fn (\w+)", re.M)
 LACKS_A_NAME = re.compile("has no field|is not in scope|has no `|was not admitted")
 ROW = re.compile(r"^\| [^|]+ \| `(\w+)` \| (gate|together) \|", re.M)
 
@@ -97,13 +98,23 @@ def put_together(kit, crate, edits: list, to: str):
     return together, all_texts
 
 
+def proved_in(folder: str, texts: dict) -> list:
+    """The functions whose proof stands in a folder of proofs/: one, or those of a cycle of calls, whose folder has its name and a +."""
+    *module, name = folder.split("/")
+    if not name.startswith("+"):
+        return ["::".join([*(part.lstrip("+") for part in module), name])]
+    files = ["src/" + "/".join(module) + end for end in (".rt", "/mod.rt")] if module else ["src/lib.rt", "src/main.rt"]
+    pairs = [pair for file in files if file in texts for pair in CYCLE.findall(texts[file])]
+    return ["::".join([*module, function]) for cycle, function in pairs if cycle == name[1:]]
+
+
 def judge(said: str, crate: str, texts: dict):
     """A test whether a check refuses a function of these texts, by where it begins and a pattern of its names. The check names it
     as not proved, and a goal of its own: one that a search didn't prove, an error in its own proof, or a note at a line of it."""
     unproved = dict(UNPROVED.findall(said))
     searched = {name for name, why in unproved.items() if "`search` did not prove" in why}
     folders = {path for path, why in IN_A_PROOF.findall(said) if not LACKS_A_NAME.search(why)}
-    proofs = {f"{crate}::" + "::".join(part.lstrip("+") for part in path.split("/")) for path in folders}
+    proofs = {f"{crate}::{name}" for path in folders for name in proved_in(path, texts)}
     lines = [(path, texts[path].split("\n"), int(line) - 1) for path, line in IN_A_TEXT.findall(said) if path in texts]
     noted = {(path, function[0]) for path, text, at in lines for function in [function_at(text, at)] if function}
 
@@ -128,6 +139,11 @@ def refused_together(kit, crate, edits: list, kept: str):
     return list(together), [edit for edit, functions in together.items() if any(is_refused(*one) for one in functions.items())]
 
 
+def is_refused_alone(kit, came) -> bool:
+    """Whether the kit says of an edit that it was refused: by a word of its own, or an older one by yes or no."""
+    return came in [getattr(kit, word, True) for word in ("REFUSED", "AT_LIMIT")]
+
+
 def tried(kit, crate, edits: list):
     """Tries all of a crate's edits: what is wrong with some, and how many copies it took."""
     kept, copies, left, alone, wrong = f"{crate.folder}/out/incremental", 0, edits, [], []
@@ -140,7 +156,7 @@ def tried(kit, crate, edits: list):
     for edit in alone:
         came, text = kit.must_fail(crate, str(edit), JOBS, kept)
         print(f"{crate.name}: {edit.stem} isn't seen among others, so it was tried alone: {text.partition(': ')[2]}", flush=True)
-        wrong += [] if came in (kit.REFUSED, kit.AT_LIMIT) else [edit]
+        wrong += [] if is_refused_alone(kit, came) else [edit]
     if kit.checked(crate, {}, JOBS, kept).returncode:
         print(f"{crate.name} isn't proved without an edit, so this says nothing of its edits")
         wrong = edits
