@@ -1,6 +1,8 @@
 #!/usr/bin/env python3
 """Runs the gate, stamps each of its lines, and tells its longest way: which crate began when, when it ended, and what it waited for.
 
+The longest way is that of checks of which each waits for the one before: on more processors the gate takes that long at least.
+
 It runs `rt ci` at the top of the repository and writes to LOG each line of it behind the seconds since the begin. `rt ci` tells a
 crate when it has ended. When its checks began is seen in the table of processes, twice a second: a check names its crate, and
 that of an edit runs in a folder of its own. So LOG has a line more where the first check of a crate, of its tests or of its edits
@@ -151,11 +153,25 @@ def read(log: Path):
     return {key: (begins[key], ends.get(key, last), spent.get(key, 0)) for key in begins}, last
 
 
-def waited_for(key, times: dict, under: dict):
-    """What ended last of all that the checks of a crate's part wait for, if there is any."""
+def needed(key, times: dict, under: dict) -> list:
+    """What the checks of a crate's part wait for."""
     name, part = key
     first = [(name, "proof"), (name, "tests")] if part == "edits" else [(one, "proof") for one in under[name]]
-    return max((one for one in first if one in times), key=lambda one: times[one][1], default=None)
+    return [one for one in first if one in times]
+
+
+def waited_for(key, times: dict, under: dict):
+    """What ended last of all that these checks wait for, if there is any."""
+    return max(needed(key, times, under), key=lambda one: times[one][1], default=None)
+
+
+def longest_way(times: dict, under: dict):
+    """The checks of which each waits for the one before and that take longest together, and how long that is."""
+    ways = {}
+    for key in sorted(times, key=lambda one: times[one][1]):
+        before = max((ways[one] for one in needed(key, times, under)), default=(0.0, []))
+        ways[key] = before[0] + times[key][1] - times[key][0], [*before[1], key]
+    return max(ways.values())
 
 
 def minutes(seconds: float) -> str:
@@ -170,15 +186,13 @@ def row(key, times: dict, under: dict) -> str:
 
 
 def tell(log: Path) -> None:
-    """Writes the way to the last check that ended, and what all took."""
+    """Writes the longest way, and what all took."""
     times, last = read(log)
     under = below()
-    key, way = max(times, key=lambda one: times[one][1]), []
-    while key:
-        way.append(key)
-        key = waited_for(key, times, under)
+    longest, way = longest_way(times, under)
     head = "| crate | checks of its | begin | end | processor time | waited for |\n|---|---|---|---|---|---|"
-    print("\n".join(["The way to the last check:", "", head, *(row(one, times, under) for one in reversed(way)), ""]))
+    print("\n".join([f"The longest way, which would take {minutes(longest)} if no check waited for a processor:", "", head,
+                     *(row(one, times, under) for one in way), ""]))
     print("\n".join(["All, by when they began:", "", head, *(row(one, times, under) for one in sorted(times, key=lambda one: times[one][0])), ""]))
     for part in ("proof", "tests", "edits"):
         spent = [times[one][2] for one in times if one[1] == part]
