@@ -91,6 +91,15 @@ def plan_of(*nodes: dict) -> bytes:
     return json.dumps({"version": 1, "nodes": [SOURCE, *between, {"name": "out", "op": "output", "from": [last]}]}).encode()
 
 
+def long_plan(size: int) -> bytes:
+    """A plan of so many bytes, whose only test is on a long text that isn't of ASCII letters."""
+    nodes = [{**SOURCE}, {"name": "n", "op": "select", "from": ["s"], "where": [[0, "!=", {"text": ""}]]},
+             {"name": "out", "op": "output", "from": ["n"]}]
+    room = size - len(json.dumps({"version": 1, "nodes": nodes}, separators=(",", ":")))
+    nodes[1]["where"][0][2]["text"] = "\u00e9" * (room // 2) + "e" * (room % 2)
+    return json.dumps({"version": 1, "nodes": nodes}, ensure_ascii=False, separators=(",", ":")).encode()
+
+
 def refusals() -> list:
     """What is refused: files, the words, the status, and a part of what is said."""
     lines = {"s.csv": b"+,1,5,6,a,9223372036854775807\n+,2,5,6,a,1\n+,3,5,6,b,2\n"}
@@ -106,6 +115,9 @@ def refusals() -> list:
         (kept, ["plan.json", "2", "0"], 1, USAGE),
         (kept, ["plan.json", "2", "1", "3"], 1, USAGE),
         (kept, ["plan.json", "48"], 1, b"at most 47 parts"),
+        (kept, ["plan.json", "9" * 5001], 1, b"at most 47 parts"),
+        (kept, ["plan.json", "0" * 5001], 1, USAGE),
+        ({**kept, "plan.json": long_plan(1_048_576)}, ["plan.json", "2"], 1, b"the plan of part 0 has 1048578 bytes"),
         (kept, ["none.json", "2"], 4, b"read fault\n"),
         ({**kept, "plan.json": b"{}"}, ["plan.json", "2"], 2, b"plan fault 3 node 0\n"),
         ({"plan.json": kept["plan.json"]}, ["plan.json", "2"], 4, b"s.csv is no file"),
@@ -145,6 +157,12 @@ def check_no_fields(check: ScaleCheck) -> None:
     check.compare("a source without fields", files, expected, check.called(files, "scale", "plan.json", "3"))
 
 
+def check_long_plan(check: ScaleCheck) -> None:
+    """A plan near the limit, most of whose letters take more bytes as escapes."""
+    files = {"plan.json": long_plan(1_048_000), "s.csv": b"+,1,5,6,a,1\n+,2,0,9,b,2\n"}
+    check.compare("a long plan", {}, check.called(files, "cedr", "run", "plan.json"), check.called(files, "scale", "plan.json", "2"))
+
+
 def check_example(check: ScaleCheck) -> None:
     """The example, as the page shows it, in several numbers of parts."""
     page = (ROOT / "docs/scale.md").read_text()
@@ -173,6 +191,7 @@ def main() -> int:
         faulty = check_plans(check, FAULTY_PLANS, ODD)
         refused = check_refusals(check) + check_faults(check)
         check_no_fields(check)
+        check_long_plan(check)
         check_example(check)
         left = [one.name for one in Path(folder).iterdir() if one.name != "bin"]
         check.compare("what is left behind", {}, (0, b"", b""), (0, repr(left).encode() if left else b"", b""))
