@@ -1,0 +1,133 @@
+"""A statement read by the grammar, and in sentences what keeps one from its form."""
+from __future__ import annotations
+
+import re
+
+import cedr_explain.advice as advice
+from cedr_explain.language import OPERATORS
+from cedr_plan.grammar import CLAUSE_WORDS, parser, told
+from cedr_plan.refused import Refused, listed
+from cedr_plan.text import Statement, check_begin
+from cedr_plan.tree import Builder
+
+DEEPEST = 64
+PATTERN = re.compile(r"EVENT\b(?!\s*=)")
+BEGUN = re.compile(r"(?:([^\W\d]\w*)|(`(?:[^`\\\n]|\\.)*`))\s*=\s*([^\W\d]\w*)?")
+BUILDER = Builder()
+# What other languages write, by the letters that stand at the place, and what is written here.
+SAID_ELSEWHERE = [
+    (r"or\b|OR\b|\|\|", "There is no `or`: two selects, each with one side, and a `union` of them say it."),
+    (r"&&|AND\b", "Tests are joined by `and`."),
+    (r"not\b|NOT\b|!(?!=)", "There is no `not`: turn the comparison round, as `!=` for `=` and `<` for `>=`."),
+    (r"'", "A text stands between double quotes (\")."),
+    (r"//|--|/\*", "What is said to people alone stands behind a `#`."),
+    (r";", "A statement ends with its line, and without a sign."),
+    (r"[Ww][Ii][Tt][Hh][Ii][Nn]\b", "Words are written in small letters: `within`."),
+    (r"[Ww][Hh][Ee][Rr][Ee]\b", "Words are written in small letters: `where`."),
+    (r"on\b|ON\b|when\b|having\b|if\b", "The tests of a node stand behind `where`."),
+    (r"as\b|AS\b", "Another name for a column stands in a list: keep load as kilowatts."),
+    (r"select\b|from\b", "A node has one operator: give what is read here a name and a line of its own."),
+    (r"[-+*/%](?![-/*])", "Nothing is worked out in a plan; what is computed becomes a column of the files."),
+    (r"\[|\{", "Columns stand between round brackets."),
+    (r"\d", "A number stands behind a word that says what it is, as `within 5 minutes`."),
+]
+# Where a word that can't stay is the one before the place.
+NO_TEXT = {'"': "This text has no closing quote in its line. A line break in a text is \\n, a tab \\t, and a quote \\\".",
+           "`": "This name has no closing backquote in its line."}
+
+
+def read(statement: Statement):
+    """The Node, the Setting or the Pattern that the statement is."""
+    import lark
+
+    check_begin(statement)
+    is_pattern = bool(PATTERN.match(statement.text))
+    check_depth(statement)
+    BUILDER.base = statement.place
+    try:
+        return parser(BUILDER).parse(statement.text, start="pattern" if is_pattern else "statement")
+    except lark.exceptions.UnexpectedCharacters as error:
+        raise Refused(statement.place + error.pos_in_stream, wrong_sign(statement, error.pos_in_stream)) from None
+    except lark.exceptions.UnexpectedToken as error:
+        place = len(statement.text.rstrip()) if error.token.type == "$END" else error.token.start_pos
+        raise Refused(*wrong_word(statement, error, place)) from None
+
+
+def check_depth(statement: Statement) -> None:
+    depth = 0
+    for found in re.finditer(r'"(?:[^"\\\n]|\\.)*"|#[^\n]*|[()]', statement.text):
+        depth += {"(": 1, ")": -1}.get(found[0], 0)
+        if depth > DEEPEST:
+            raise Refused(statement.place + found.start(), f"Brackets nest over {DEEPEST} deep here, and a plan has at most {DEEPEST} nodes.")
+
+
+def name_of(statement: Statement) -> str:
+    """The name that a statement gives, as far as it can be told; else nothing."""
+    found = BEGUN.match(statement.text)
+    return (found[1] or found[2].strip("`")) if found else ""
+
+
+def wrong_sign(statement: Statement, place: int) -> str:
+    sign = statement.text[place]
+    if sign in NO_TEXT:
+        return NO_TEXT[sign]
+    said = elsewhere(statement.text, place)
+    shown = f"`{sign}`" if sign.isprintable() else f"The sign {ord(sign):#04x}"
+    return f"{shown} can't stand here. {said}".rstrip()
+
+
+def elsewhere(text: str, place: int) -> str:
+    return next((why for form, why in SAID_ELSEWHERE if re.match(form, text[place:place + 40])), "")
+
+
+def wrong_word(statement: Statement, error, place: int) -> tuple:
+    """The place of the word that can't stay, and what is said of it."""
+    terminals = error.accepts or error.expected
+    accepted = accepted_words(statement, sorted(terminals))
+    is_end = error.token.type == "$END"
+    before = re.search(r"(\w+)[^\w\"`]*\Z", statement.text[:place])
+    meant = advice.near(before[1], [one for one in CLAUSE_WORDS if one != before[1]]) if before and not is_end else ""
+    if meant and before.start() > 0 and before[1] not in CLAUSE_WORDS and "WORD" not in terminals - {"WORD"} and not is_first(statement, before):
+        return statement.place + before.start(1), f"`{before[1]}` can't stand here. Perhaps `{meant}` is meant."
+    if is_end:
+        return statement.place + place, f"The statement ends here. {may_stand(accepted)}"
+    word = str(error.token)
+    keyword = advice.near(word, [one.strip("`") for one in accepted if one.startswith("`")])
+    said = f"Perhaps `{keyword}` is meant." if keyword and keyword != word else elsewhere(statement.text, place)
+    return statement.place + place, f"`{word}` can't stand here. {said or may_stand(accepted)}"
+
+
+def is_first(statement: Statement, found) -> bool:
+    """Whether the word is the name or the operator of the statement."""
+    begun = BEGUN.match(statement.text)
+    return bool(begun) and found.start(1) < begun.end()
+
+
+def accepted_words(statement: Statement, terminals) -> list:
+    """What may stand at the place, in words. Of clauses those that the operator has."""
+    begun = BEGUN.match(statement.text)
+    op = begun[3] if begun else None
+    own = clause_words(op) if op in OPERATORS else CLAUSE_WORDS
+    words = [told(one) for one in terminals]
+    kept = [one for one in words if one.strip("`") not in CLAUSE_WORDS or one.strip("`") in own]
+    return list(dict.fromkeys(kept))
+
+
+def may_stand(words: list) -> str:
+    return f"Here may stand {listed(words, 'or')}." if words else ""
+
+
+# The word of a clause where it isn't the document's member.
+WORD_OF = {"scope": "within", "hold": "for", "width": "for", "keys": "by"}
+# Members that are said without a clause.
+UNCLAUSED = ("file", "fields", "number")
+LEVEL_WORDS = ("strong", "middle", "block", "memory")
+
+
+def clauses_of(op: str) -> dict:
+    """The words of an operator's clauses, each with the member of the document that it says."""
+    return {WORD_OF.get(member, member): member for member in OPERATORS[op].members if member not in UNCLAUSED}
+
+
+def clause_words(op: str) -> tuple:
+    return (*clauses_of(op), *(("keep",) if op == "output" else ()), *(LEVEL_WORDS if OPERATORS[op].most else ()))

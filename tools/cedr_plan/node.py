@@ -1,0 +1,365 @@
+"""One statement as a node of a document, and the columns of the node by name."""
+from __future__ import annotations
+
+import csv
+from typing import NamedTuple
+
+import cedr_explain.advice as advice
+import cedr_explain.outside as outside
+from cedr_explain.language import EXTREMES, JOINING, MOST_FIELDS, OPERATORS, TYPES, Operator
+from cedr_explain.values import NAME
+from cedr_plan.columns import ORDINALS, Column, Reach, behind, check_unlike, of_one
+from cedr_plan.form import LEVEL_WORDS, clause_words, clauses_of
+from cedr_plan.refused import Refused, a_word, listed
+from cedr_plan.tests import listed_columns, tests_of, whole
+from cedr_plan.tree import Clause, Counted, File, Input, Name, Node, Span, spelt, text_of
+from cedr_plan.units import Unit, span_in
+
+ADDED = "kept"
+LONGEST_NAME = 64
+
+
+class Reading(NamedTuple):
+    """An input of a node: the node that it reads, what the node calls it, and its columns."""
+    node: str
+    short: str
+    place: int
+    columns: list
+    is_shortened: bool
+
+
+class Clauses:
+    """The clauses of a node by their words. One that its operator hasn't, or that stands twice, is refused."""
+
+    def __init__(self, node: Node) -> None:
+        self.node, self.by_word = node, {}
+        for one in node.clauses:
+            self.add(one)
+
+    def add(self, clause: Clause) -> None:
+        word, op = clause.word.text, self.node.op.text
+        allowed = clause_words(op)
+        if word not in allowed:
+            known = f"Its words are {listed(f'`{one}`' for one in allowed)}." if allowed else "It has no such words."
+            raise Refused(clause.word.place, f"`{word}` says nothing to {a_word(op)}. {known}")
+        if word in self.by_word:
+            raise Refused(clause.word.place, f"`{word}` stands twice. A node says it once.")
+        if {word, *self.by_word} >= {"strong", "middle"} or word in LEVEL_WORDS[:2] and {"block", "memory"} & set(self.by_word) \
+                or word in LEVEL_WORDS[2:] and {"strong", "middle"} & set(self.by_word):
+            raise Refused(clause.word.place, f"`{word}` is a second level. A node has one.")
+        self.by_word[word] = clause
+
+    def value(self, word: str, default=None):
+        found = self.by_word.get(word)
+        return found.value if found else default
+
+    def needed(self, word: str, example: str):
+        """The value of a clause that the operator can't do without."""
+        if word not in self.by_word:
+            op = self.node.op
+            raise Refused(op.place, f"{a_word(op.text).capitalize()} says `{word}`, which is missing here: {example}.")
+        return self.by_word[word].value
+
+
+class Maker:
+    """Makes the nodes of a document. `columns` has those of each node that is made, by its name."""
+
+    def __init__(self, unit: Unit | None = None) -> None:
+        self.unit, self.columns, self.operators = unit, {}, {}
+
+    def nodes(self, node: Node) -> list:
+        """The node of the statement; in front of an output with a `keep` the project that it stands for."""
+        self.check_name(node.name)
+        operator = self.operator(node)
+        if operator.most == 0:
+            return [self.source(node, Clauses(node))]
+        inputs = self.inputs(node, operator)
+        clauses = Clauses(node)
+        reach = reach_of(node, inputs)
+        made = {"name": node.name.text, "op": node.op.text, "from": [one.node for one in inputs]}
+        members = self.members(node, operator, clauses, reach)
+        level = self.level(node, clauses)
+        kept = self.project(node, clauses, reach, made) if node.op.text == "output" and "keep" in clauses.by_word else []
+        self.finish(node, self.result(node, clauses, inputs, reach) if not kept else self.columns[kept[0]["name"]])
+        return [*kept, {**made, **members, **level}]
+
+    def finish(self, node: Node, columns: list) -> None:
+        if len(columns) > MOST_FIELDS:
+            raise Refused(node.op.place, f"Its result would have {len(columns)} columns: "
+                                         f"{', '.join(column.told() for column in columns)}. It may have {MOST_FIELDS}. Put a "
+                                         "`project` in front of it that keeps the columns that are needed.")
+        self.columns[node.name.text] = columns
+        self.operators[node.name.text] = node.op.text
+
+    def check_name(self, name: Name) -> None:
+        if not NAME.fullmatch(name.text):
+            raise Refused(name.place, f"`{name.text}` names a node, whose name has 1 to {LONGEST_NAME} ASCII letters, digits and `_` alone.")
+        if name.text in self.columns:
+            raise Refused(name.place, f"`{name.text}` is the name of an earlier node too. Each node has a name of its own.")
+
+    def operator(self, node: Node) -> Operator:
+        op = node.op.text
+        if op not in OPERATORS:
+            meant = advice.operator_for(op, OPERATORS)
+            hint = f"Perhaps `{meant}` is meant, which {OPERATORS[meant].does}. " if meant else ""
+            raise Refused(node.op.place, f"`{op}` is no operator. {hint}The operators are {listed(OPERATORS)}.")
+        return OPERATORS[op]
+
+    # a source
+
+    def source(self, node: Node, _: Clauses) -> dict:
+        subject = node.subject
+        if not isinstance(subject, File):
+            raise Refused(node.op.place, 'A `source` reads a file, whose name stands between double quotes: '
+                                         f'{spelt(node.name.text)} = source "{node.name.text}.csv" (machine text, load int).')
+        if subject.columns is None:
+            raise Refused(subject.file.place, "The columns of its events are missing. They stand behind the file with their types: "
+                                              "(machine text, load int); () says that there are none.")
+        columns = self.by_header(subject) if subject.header else [own_column(one) for one in subject.columns]
+        check_unlike(columns, [one.place for one in subject.columns], f"`{node.name.text}`")
+        if len(columns) > MOST_FIELDS:
+            raise Refused(subject.columns[MOST_FIELDS].place, f"This is column {MOST_FIELDS + 1} of the source, and it may have {MOST_FIELDS}.")
+        self.finish(node, columns)
+        return {"name": node.name.text, "op": "source", "file": text_of(subject.file), "fields": [one.type for one in columns]}
+
+    def by_header(self, subject: File) -> list:
+        """The columns whose names are in the first line of a CSV. A `-` passes over one that isn't of the events."""
+        names = header_of(subject.header)
+        if len(names) != len(subject.columns):
+            raise Refused(subject.header.place, f"{subject.header.text} names {len(names)} columns, {', '.join(names)}, and "
+                                                f"{len(subject.columns)} types stand here. Each has its type, or a `-` where it is no "
+                                                "column of the events.")
+        columns = []
+        for name, column in zip(names, subject.columns):
+            if len(column.words) != 1:
+                raise Refused(column.place, "Behind a `header` the types alone stand here, since the file has the names.")
+            word = column.words[0]
+            if getattr(word, "kind", "") != "NONE":
+                columns.append(Column((name,), a_type(word)))
+        return columns
+
+    # what a node reads
+
+    def inputs(self, node: Node, operator: Operator) -> list:
+        op, subject = node.op, node.subject
+        if isinstance(subject, File):
+            raise Refused(subject.file.place, f"A file is read by a `source` alone. {a_word(op.text).capitalize()} reads nodes by their names.")
+        is_counted = "number" in operator.members
+        if isinstance(subject, Counted) != is_counted:
+            form = "atleast 2 of smoke, heat, gas within 10 seconds"
+            told = f"An `atleast` says how many of its inputs it takes: {form}." if is_counted else \
+                f"`{subject.number.text} of` stands before the inputs of an `atleast` alone."
+            raise Refused(op.place if is_counted else subject.number.place, told)
+        named = subject.inputs if is_counted else subject
+        least, most = operator.least, operator.most
+        if not least <= len(named) <= most:
+            wanted = f"{least}" if least == most else f"{least} to {most}"
+            hint = " A `union` in front of it makes one of up to four." if most == 1 else ""
+            place = named[most].name.place if len(named) > most else op.place
+            raise Refused(place, f"{a_word(op.text).capitalize()} reads {wanted} node{'s' * (most > 1)}, and {len(named)} "
+                                 f"{'stands' if len(named) == 1 else 'stand'} here.{hint}")
+        readings = [self.reading(one) for one in named]
+        if op.text in ("union", "atleast"):
+            self.check_alike(node, named, readings)
+        elif most > 1:
+            check_shorts(readings)
+        return readings
+
+    def reading(self, one: Input) -> Reading:
+        name = one.name.text
+        if name not in self.columns:
+            readable = [other for other, op in self.operators.items() if op != "output"]
+            near = advice.near(name, readable)
+            hint = f"Perhaps `{near}` is meant. " if near else ""
+            known = f"The nodes above are {listed(readable)}." if readable else "No node stands above."
+            raise Refused(one.name.place, f"There is no node `{name}` above. {hint}{known}")
+        if self.operators[name] == "output":
+            raise Refused(one.name.place, f"`{name}` is the output, which no node reads.")
+        short = one.short.text if one.short else name
+        return Reading(name, short, (one.short or one.name).place, self.columns[name], one.short is not None)
+
+    def check_alike(self, node: Node, named: list, readings: list) -> None:
+        """Inputs whose rows become one list have the same types, and no short names, since nothing could tell whose a row is."""
+        for one in named:
+            if one.short:
+                own = "first, second and so on, by their begins" if node.op.text == "atleast" else "as those of the first input"
+                raise Refused(one.short.place, f"The inputs of {a_word(node.op.text)} have no short names. Its columns are called {own}.")
+        types = [column.type for column in readings[0].columns]
+        for one in readings[1:]:
+            if [column.type for column in one.columns] != types:
+                told = "; ".join(f"`{each.node}` has {', '.join(column.told() for column in each.columns) or 'none'}" for each in readings)
+                raise Refused(one.place, f"The inputs of {a_word(node.op.text)} have columns of the same types: {told}. A `project` in front "
+                                         "of one can put its columns in order.")
+
+    # what a node says
+
+    def members(self, node: Node, operator: Operator, clauses: Clauses, reach: Reach) -> dict:
+        """The members of the document, in the order of the operator's table."""
+        words = {member: word for word, member in clauses_of(node.op.text).items()}
+        found = {}
+        for name, member in operator.members.items():
+            if member.kind == "number":
+                found[name] = self.count(node)
+                continue
+            word = words[name]
+            example = f"{spelt(node.name.text)} = {example_of(node.op.text)}"
+            if member.kind == "span":
+                span = clauses.needed(word, example)
+                found[name] = span_in(span_here(clauses.by_word[word], span), self.unit)
+            elif member.kind == "tests":
+                found[name] = tests_of(clauses.value(word, []), reach)
+            elif member.kind == "flag":
+                found[name] = word in clauses.by_word
+            else:
+                items = clauses.needed(word, example) if name == "keep" else clauses.value(word, [])
+                found[name] = listed_columns(items_here(clauses.by_word.get(word), items), reach, "sum" if name == "sum" else "")[0]
+                if member.optional and not found[name]:
+                    del found[name]
+        return found
+
+    def count(self, node: Node) -> int:
+        """How many of its inputs an `atleast` takes."""
+        number, named = node.subject.number, node.subject.inputs
+        value = whole(number, 1, 2**63)
+        if value > len(named):
+            raise Refused(number.place, f"{number.text} of {len(named)} inputs are asked for. It must be from 1 to {len(named)}.")
+        return value
+
+    def level(self, node: Node, clauses: Clauses) -> dict:
+        for word in LEVEL_WORDS[:2]:
+            if word in clauses.by_word:
+                return {"level": word}
+        spans = {word: clauses.by_word[word].value for word in LEVEL_WORDS[2:] if word in clauses.by_word}
+        if not spans:
+            return {}
+        if len(spans) == 1:
+            word = next(iter(spans))
+            raise Refused(clauses.by_word[word].word.place, "A level has a block, how long it waits, and a memory, how late a change may be, as in "
+                                                            "block 0 memory 1 hour. `inf` says without limit.")
+        bounds = {word: "inf" if span.words[0].kind == "INF" else span_in(span, self.unit, 0) for word, span in spans.items()}
+        if float(bounds["block"]) > float(bounds["memory"]):
+            raise Refused(spans["block"].place, "The block is over the memory. What is waited for can't be forgotten before: make the memory "
+                                                "as long at least.")
+        return {"level": bounds}
+
+    def project(self, node: Node, clauses: Clauses, reach: Reach, output: dict) -> list:
+        """The project that a `keep` at an output stands for. The output reads it."""
+        clause = clauses.by_word["keep"]
+        numbers, columns, places = listed_columns(clause.value, reach)
+        check_unlike(columns, places, "the answer")
+        name = self.free_name(node.name.text)
+        self.finish(node._replace(name=Name(name, node.name.place), op=node.op._replace(text="project")), columns)
+        made = {"name": name, "op": "project", "from": output["from"], "keep": numbers}
+        output["from"] = [name]
+        return [made]
+
+    def free_name(self, name: str) -> str:
+        """A name that no node has, for the project in front of the output of this name."""
+        wanted = f"{name[:LONGEST_NAME - 8]}_{ADDED}"
+        count = 2
+        while wanted in self.columns:
+            wanted, count = f"{name[:LONGEST_NAME - 8]}_{ADDED}{count}", count + 1
+        return wanted
+
+    def result(self, node: Node, clauses: Clauses, inputs: list, reach: Reach) -> list:
+        op = node.op.text
+        if op in JOINING or len(inputs) > 1 and op != "union":
+            own = reach.columns if op in JOINING else behind(inputs[0].short, inputs[0].columns)
+        elif op == "project":
+            own, places = listed_columns(clauses.value("keep"), reach)[1:]
+            check_unlike(own, places, f"`{node.name.text}`")
+        elif op == "group":
+            own = self.grouped(node, clauses, reach)
+        else:
+            own = inputs[0].columns
+        return own
+
+    def grouped(self, node: Node, clauses: Clauses, reach: Reach) -> list:
+        _, columns, places = listed_columns(clauses.value("by", []), reach)
+        if "count" in clauses.by_word:
+            clause = clauses.by_word["count"]
+            columns.append(Column(clause.value.parts if clause.value else ("count",), "int"))
+            places.append(clause.word.place)
+        for word in ("sum", *EXTREMES):
+            _, own, own_places = listed_columns(clauses.value(word, []), reach, word)
+            columns, places = columns + own, places + own_places
+        check_unlike(columns, places, f"`{node.name.text}`")
+        return columns
+
+
+def reach_of(node: Node, inputs: list) -> Reach:
+    """What the tests and the lists of a node call columns."""
+    op = node.op.text
+    if op == "atleast":
+        number = min(int(node.subject.number.text[:2]) if node.subject.number.text.isdigit() else 0, len(inputs))
+        return Reach([one for place in range(number) for one in behind(ORDINALS[place], inputs[0].columns)])
+    if len(inputs) == 1 or op == "union":
+        return of_one(inputs[0].node, inputs[0].short if inputs[0].is_shortened else None, inputs[0].columns)
+    return Reach([one for each in inputs for one in behind(each.short, each.columns)])
+
+
+def check_shorts(readings: list) -> None:
+    seen = set()
+    for one in readings:
+        if one.short in seen:
+            raise Refused(one.place, f"Two inputs are called `{one.short}` here. Give each a short name of its own, as in alarms a, alarms b.")
+        seen.add(one.short)
+
+
+def own_column(column) -> Column:
+    if len(column.words) != 2:
+        word = column.words[0]
+        told = "A `-` stands where a `header` names a column that is none of the events." if getattr(word, "kind", "") == "NONE" else \
+            f"The column `{word.text}` has no type. Write {spelt(word.text)} text, or {spelt(word.text)} int for a whole number."
+        raise Refused(column.place, told)
+    name, kind = column.words
+    return Column((name.text,), a_type(kind))
+
+
+def a_type(word) -> str:
+    if word.text not in TYPES:
+        about = advice.about_type(word.text).replace('"', "`")
+        raise Refused(word.place, f"`{word.text}` is no type. It must be `text` or `int`. {about}".rstrip())
+    return word.text
+
+
+def header_of(word) -> list:
+    """The names in the first line of a CSV."""
+    name = text_of(word)
+    try:
+        with open(name, newline="", encoding="utf-8-sig") as file:
+            names = next(csv.reader([file.readline(1_048_576)], strict=True), [])
+    except OSError as error:
+        raise Refused(word.place, f"The file {word.text}, whose header has the names, can't be read: "
+                                  f"{outside.why_not(name) or error.strerror}.") from None
+    except (ValueError, csv.Error):
+        raise Refused(word.place, f"The first line of {word.text} isn't the header of a CSV in UTF-8.") from None
+    if not all(names) or not names:
+        raise Refused(word.place, f"The first line of {word.text} has a column without a name.")
+    return names
+
+
+def span_here(clause: Clause, value) -> Span:
+    if not isinstance(value, Span):
+        raise Refused(clause.word.place, f"A span stands behind this `{clause.word.text}`, as in {clause.word.text} 5 minutes.")
+    return value
+
+
+def items_here(clause: Clause | None, value) -> list:
+    if isinstance(value, Span):
+        raise Refused(value.place, f"Columns stand behind this `{clause.word.text}`, as in {clause.word.text} machine.")
+    return value
+
+
+EXAMPLES = {
+    "select": "select reports where load >= 50", "project": "project reports keep machine, load", "union": "union day, night",
+    "join": "join orders o, payments p where o.number = p.number", "window": "window reports for 2 minutes",
+    "shift": "shift alarms by 60 seconds", "hop": "hop alarms every 1 hour for 1 hour", "group": "group reports by machine count sum load",
+    "sequence": "sequence installs i, shutdowns s within 12 hours where i.machine = s.machine",
+    "unless": "unless alarms a, visits v within 2 minutes for 1 second where a.machine = v.machine",
+    "atleast": "atleast 2 of smoke, heat, gas within 10 seconds", "except": "except due d, payments p where d.number = p.number",
+}
+
+
+def example_of(op: str) -> str:
+    return EXAMPLES.get(op, op)
