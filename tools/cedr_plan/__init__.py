@@ -11,6 +11,7 @@ tests       tests and lists of columns, as a document has them
 node        one statement as a node of a document
 plan        all statements as a plan
 pattern     an EVENT statement as statements of nodes
+between     the nodes of a NOT in a pattern
 document    a plan as the text of a JSON document
 words       a document as words
 ask         the program's answer to a plan in words, with the names of its columns

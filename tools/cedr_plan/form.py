@@ -29,9 +29,10 @@ SAID_ELSEWHERE = [
     (r"select\b|from\b", "A node has one operator: give what is read here a name and a line of its own."),
     (r"[-+*/%](?![-/*])", "Nothing is worked out in a plan; what is computed becomes a column of the files."),
     (r"\[|\{", "Columns stand between round brackets."),
+    (r",\d{3}\b", "The digits of a number stand without signs between: 43200."),
+    (r":", "A column's name and its type stand beside each other: machine text."),
     (r"\d", "A number stands behind a word that says what it is, as `within 5 minutes`."),
 ]
-# Where a word that can't stay is the one before the place.
 NO_TEXT = {'"': "This text has no closing quote in its line. A line break in a text is \\n, a tab \\t, and a quote \\\".",
            "`": "This name has no closing backquote in its line."}
 
@@ -40,6 +41,8 @@ def read(statement: Statement):
     """The Node, the Setting or the Pattern that the statement is."""
     import lark
 
+    if statement.text[0] in "{[":
+        raise Refused(statement.place, "This is JSON, and not a plan in words. `cedr-plan words PLAN` writes a document as words.")
     check_begin(statement)
     is_pattern = bool(PATTERN.match(statement.text))
     check_depth(statement)
@@ -82,19 +85,24 @@ def elsewhere(text: str, place: int) -> str:
 
 def wrong_word(statement: Statement, error, place: int) -> tuple:
     """The place of the word that can't stay, and what is said of it."""
-    terminals = error.accepts or error.expected
-    accepted = accepted_words(statement, sorted(terminals))
-    is_end = error.token.type == "$END"
-    before = re.search(r"(\w+)[^\w\"`]*\Z", statement.text[:place])
-    meant = advice.near(before[1], [one for one in CLAUSE_WORDS if one != before[1]]) if before and not is_end else ""
-    if meant and before.start() > 0 and before[1] not in CLAUSE_WORDS and "WORD" not in terminals - {"WORD"} and not is_first(statement, before):
-        return statement.place + before.start(1), f"`{before[1]}` can't stand here. Perhaps `{meant}` is meant."
-    if is_end:
+    accepted = accepted_words(statement, sorted(error.accepts or error.expected))
+    if error.token.type == "$END":
         return statement.place + place, f"The statement ends here. {may_stand(accepted)}"
+    misspelt = word_before(statement, place)
+    if misspelt:
+        meant = advice.near(misspelt[1], CLAUSE_WORDS)
+        return statement.place + misspelt.start(1), f"`{misspelt[1]}` can't stand here. Perhaps `{meant}` is meant."
     word = str(error.token)
     keyword = advice.near(word, [one.strip("`") for one in accepted if one.startswith("`")])
     said = f"Perhaps `{keyword}` is meant." if keyword and keyword != word else elsewhere(statement.text, place)
     return statement.place + place, f"`{word}` can't stand here. {said or may_stand(accepted)}"
+
+
+def word_before(statement: Statement, place: int):
+    """The word before the place, where it was taken for a short name and a word of a clause is meant."""
+    before = re.search(r"(\w+)\s*\Z", statement.text[:place])
+    is_taken = before and before[1] not in CLAUSE_WORDS and not is_first(statement, before)
+    return before if is_taken and advice.near(before[1], CLAUSE_WORDS) else None
 
 
 def is_first(statement: Statement, found) -> bool:

@@ -22,11 +22,10 @@ clause: WHERE tests
       | (KEEP | SUM | LEAST | GREATEST) items
       | KEEP OPEN _CLOSE
       | COUNT (_AS path)?
-      | STRONG
-      | MIDDLE
-      | (BLOCK | MEMORY) (span | INF)
+      | _LEV? (STRONG | MIDDLE)
+      | _LEV? (BLOCK | MEMORY) (span | INF)
 items: item (_COMMA item)*
-item: path (_AS path)?
+item: path ((_AS | _UAS) path)?
 span: (NUMBER WORD?)+
 tests: test (_AND test)*
 test: side SIGN side
@@ -36,7 +35,7 @@ name: WORD | QUOTED
 
 pattern: _EVENT name _WHEN expression (_UWHERE predicates)? (_OUTPUT items)? (_WITH _LEVEL clause+)?
 expression: name (_UAS? name)? | call
-call: (WORD | CANCEL) OPEN argument (_COMMA argument)* _CLOSE (_UAS name)?
+call: (WORD | CANCEL) OPEN argument (_COMMA argument)* _CLOSE
 argument: expression | span
 predicates: predicate (_UAND predicate)*
 predicate: _BRACE test (_UAND test)* _END
@@ -57,6 +56,7 @@ MIDDLE: "middle"
 BLOCK: "block"
 MEMORY: "memory"
 INF: "inf"
+_LEV: "level"
 _OF: "of"
 _AS: "as"
 _AND: "and"
@@ -92,12 +92,12 @@ TOLD = {
     "DATE": "a date", "SIGN": "a comparison", "OPEN": "`(`", "_CLOSE": "`)`", "_COMMA": "a comma", "_DOT": "a dot",
     "_BRACE": "`{`", "_END": "`}`", "NONE": "`-`", "$END": "the end of the statement", "_OF": "`of`", "_AS": "`as`", "_AND": "`and`",
     "_EVENT": "`EVENT`", "_WHEN": "`WHEN`", "_UWHERE": "`WHERE`", "_OUTPUT": "`OUTPUT`", "_WITH": "`WITH`",
-    "_LEVEL": "`LEVEL`", "_UAS": "`AS`", "_UAND": "`AND`", "CANCEL": "`CANCEL-WHEN`",
+    "_LEVEL": "`LEVEL`", "_LEV": "`level`", "_UAS": "`AS`", "_UAND": "`AND`", "CANCEL": "`CANCEL-WHEN`",
 }
 CLAUSE_WORDS = ("where", "within", "for", "every", "by", "keep", "count", "sum", "least", "greatest", "strong", "middle",
                 "block", "memory")
 # A short name that is one of these stands between backquotes.
-RESERVED = frozenset([*CLAUSE_WORDS, "header", "of", "as", "and", "inf", "EVENT", "WHEN", "WHERE", "OUTPUT", "WITH",
+RESERVED = frozenset([*CLAUSE_WORDS, "header", "of", "as", "and", "inf", "level", "EVENT", "WHEN", "WHERE", "OUTPUT", "WITH",
                       "LEVEL", "CONSISTENCY", "AS", "AND"])
 
 

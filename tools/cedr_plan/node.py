@@ -13,7 +13,7 @@ from cedr_plan.form import LEVEL_WORDS, clause_words, clauses_of
 from cedr_plan.refused import Refused, a_word, listed
 from cedr_plan.tests import listed_columns, tests_of, whole
 from cedr_plan.tree import Clause, Counted, File, Input, Name, Node, Span, spelt, text_of
-from cedr_plan.units import Unit, span_in
+from cedr_plan.units import span_in
 
 ADDED = "kept"
 LONGEST_NAME = 64
@@ -62,10 +62,11 @@ class Clauses:
 
 
 class Maker:
-    """Makes the nodes of a document. `columns` has those of each node that is made, by its name."""
+    """Makes the nodes of a document. `columns` has those of each node that is made, by its name; no node that is added is
+    called as one of those that are `taken`."""
 
-    def __init__(self, unit: Unit | None = None) -> None:
-        self.unit, self.columns, self.operators = unit, {}, {}
+    def __init__(self, taken: frozenset = frozenset()) -> None:
+        self.taken, self.unit, self.columns, self.operators = taken, None, {}, {}
 
     def nodes(self, node: Node) -> list:
         """The node of the statement; in front of an output with a `keep` the project that it stands for."""
@@ -100,7 +101,7 @@ class Maker:
     def operator(self, node: Node) -> Operator:
         op = node.op.text
         if op not in OPERATORS:
-            meant = advice.operator_for(op, OPERATORS)
+            meant = "source" if isinstance(node.subject, File) else advice.operator_for(op, OPERATORS)
             hint = f"Perhaps `{meant}` is meant, which {OPERATORS[meant].does}. " if meant else ""
             raise Refused(node.op.place, f"`{op}` is no operator. {hint}The operators are {listed(OPERATORS)}.")
         return OPERATORS[op]
@@ -257,7 +258,7 @@ class Maker:
         """A name that no node has, for the project in front of the output of this name."""
         wanted = f"{name[:LONGEST_NAME - 8]}_{ADDED}"
         count = 2
-        while wanted in self.columns:
+        while wanted in self.taken or wanted in self.columns:
             wanted, count = f"{name[:LONGEST_NAME - 8]}_{ADDED}{count}", count + 1
         return wanted
 

@@ -45,8 +45,9 @@ class Plan(NamedTuple):
 
 def compiled(text: str) -> Plan:
     """The plan of a text. Raises Found with all faults of a text that has some."""
-    reader = Reader()
-    for statement in statements(text):
+    found = list(statements(text))
+    reader = Reader(frozenset(map(form.name_of, found)))
+    for statement in found:
         reader.take(statement)
         if len(reader.faults) >= MOST_TOLD:
             break
@@ -56,8 +57,8 @@ def compiled(text: str) -> Plan:
 class Reader:
     """Takes the statements one after the other. A node that reads a faulty one isn't looked at any more."""
 
-    def __init__(self) -> None:
-        self.maker, self.faults, self.faulty = Maker(), [], set()
+    def __init__(self, names: frozenset) -> None:
+        self.maker, self.faults, self.faulty = Maker(names), [], set()
         self.settings, self.nodes, self.places, self.files, self.patterns = {}, [], [], {}, []
 
     def take(self, statement: Statement) -> None:
@@ -100,7 +101,10 @@ class Reader:
         if self.reads_faulty(node):
             self.faulty.add(node.name.text)
             return
-        made = self.maker.nodes(node)
+        self.add(node, self.maker.nodes(node))
+
+    def add(self, node: Node, made: list) -> None:
+        """Takes the nodes of the document that a statement stands for."""
         self.nodes += made
         self.places += [node.name.place] * len(made)
         if isinstance(node.subject, File):
@@ -132,8 +136,8 @@ class Reader:
     def of_pattern(self, one: Pattern) -> None:
         """A pattern stands for nodes behind all others of the text."""
         try:
-            for node in pattern.nodes_of(one, self.maker):
-                self.node(node)
+            for node, made in pattern.nodes_of(one, self.maker):
+                self.add(node, [made])
         except Refused as fault:
             self.faults.append(fault)
 

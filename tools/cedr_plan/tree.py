@@ -91,10 +91,9 @@ class Setting(NamedTuple):
 
 
 class Call(NamedTuple):
-    """An operator of a pattern with its arguments, each a Call, an Event or a Span, and a name of its own or none."""
+    """An operator of a pattern with its arguments, each a Call, an Event or a Span."""
     op: Word
     arguments: list
-    name: Union[Name, None]
 
 
 class Event(NamedTuple):
@@ -207,9 +206,8 @@ class Builder:
         return Event(*children, *[None] * (2 - len(children)))
 
     def call(self, children) -> Call:
-        op, _, *rest = [one if isinstance(one, tuple) else self.word(one) for one in children]
-        name = rest.pop() if isinstance(rest[-1], Name) else None
-        return Call(op, rest, name)
+        op, _, *arguments = [one if isinstance(one, (Call, Event, Span)) else self.word(one) for one in children]
+        return Call(op, arguments)
 
     def predicate(self, children) -> list:
         return children
