@@ -50,7 +50,7 @@ class Reach:
         if not self.columns:
             return "What the node reads has no columns."
         names = [column.name for column in self.columns]
-        ends = [one for one in names if one[-len(parts):] == parts]
+        ends = [one for one in names if one[-len(parts):] == parts] or [one for one in names if one[-1] == parts[-1]]
         shown = {spelt_path(one): one for one in names}
         near = advice.near(spelt_path(parts), shown) or self.near_end(parts, names)
         likely = ends or ([shown[near]] if near in shown else [])

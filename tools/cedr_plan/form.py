@@ -101,7 +101,7 @@ def wrong_word(statement: Statement, error, place: int) -> tuple:
 def word_before(statement: Statement, place: int):
     """The word before the place, where it was taken for a short name and a word of a clause is meant."""
     before = re.search(r"(\w+)\s*\Z", statement.text[:place])
-    is_taken = before and before[1] not in CLAUSE_WORDS and not is_first(statement, before)
+    is_taken = before and before[1] not in CLAUSE_WORDS and not is_first(statement, before) and not PATTERN.match(statement.text)
     return before if is_taken and advice.near(before[1], CLAUSE_WORDS) else None
 
 

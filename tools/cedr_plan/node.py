@@ -12,10 +12,12 @@ from cedr_plan.columns import ORDINALS, Column, Reach, behind, check_unlike, of_
 from cedr_plan.form import LEVEL_WORDS, clause_words, clauses_of
 from cedr_plan.refused import Refused, a_word, listed
 from cedr_plan.tests import listed_columns, tests_of, whole
-from cedr_plan.tree import Clause, Counted, File, Input, Name, Node, Span, spelt, text_of
+from cedr_plan.tree import (Clause, Counted, File, Input, Items, Name, Node, Path, Span, Tests, spelt,
+                            text_of)
 from cedr_plan.units import span_in
 
 ADDED = "kept"
+WEAK = "A weak level says its block and its memory, as in block 0 memory 1 hour."
 LONGEST_NAME = 64
 
 
@@ -164,6 +166,8 @@ class Maker:
             self.check_alike(node, named, readings)
         elif most > 1:
             check_shorts(readings)
+        elif named[0].short:
+            check_used(node, named[0].short)
         return readings
 
     def reading(self, one: Input) -> Reading:
@@ -305,6 +309,21 @@ def check_shorts(readings: list) -> None:
         if one.short in seen:
             raise Refused(one.place, f"Two inputs are called `{one.short}` here. Give each a short name of its own, as in alarms a, alarms b.")
         seen.add(one.short)
+
+
+def check_used(node: Node, short: Name) -> None:
+    """Refuses a short name of an only input that no column has in front: likely it is a misspelt word."""
+    if not any(path.parts[0] == short.text for one in node.clauses for path in paths_of(one.value)):
+        near = advice.near(short.text, clause_words(node.op.text))
+        hint = f"Perhaps `{near}` is meant." if near else WEAK if short.text.lower() == "weak" else "Leave it out."
+        raise Refused(short.place, f"`{short.text}` would be a short name of the input, and no column here has it in front. {hint}")
+
+
+def paths_of(value) -> list:
+    """The names of columns in what stands behind the word of a clause."""
+    if isinstance(value, Items):
+        return [item.path for item in value]
+    return [side for test in value for side in (test.left, test.right) if isinstance(side, Path)] if isinstance(value, Tests) else []
 
 
 def own_column(column) -> Column:

@@ -48,4 +48,4 @@ def listed(names, last: str = "and") -> str:
 
 
 def a_word(word: str) -> str:
-    return f"{'an' if word[0] in 'aeiou' else 'a'} `{word}`"
+    return f"{'an' if word[0] in 'aeiou' and word != 'union' else 'a'} `{word}`"
