@@ -97,7 +97,7 @@ TOLD = {
 CLAUSE_WORDS = ("where", "within", "for", "every", "by", "keep", "count", "sum", "least", "greatest", "strong", "middle",
                 "block", "memory")
 # A short name that is one of these stands between backquotes.
-RESERVED = frozenset([*CLAUSE_WORDS, "header", "of", "as", "and", "inf", "level", "EVENT", "WHEN", "WHERE", "OUTPUT", "WITH",
+RESERVED = frozenset([*CLAUSE_WORDS, "as", "and", "level", "EVENT", "WHEN", "WHERE", "OUTPUT", "WITH",
                       "LEVEL", "CONSISTENCY", "AS", "AND"])
 
 
