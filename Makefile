@@ -26,12 +26,12 @@ install:
 	cp -R README.md docs examples $(TO)/share/doc/cedr
 	install -D -m 644 docs/cedr.1 $(TO)/share/man/man1/cedr.1
 	install -D -m 644 completion/cedr.bash $(TO)/share/bash-completion/completions/cedr
-	ln -sf cedr $(TO)/share/bash-completion/completions/cedr-explain
+	for tool in cedr-explain cedr-plan; do ln -sf cedr $(TO)/share/bash-completion/completions/$$tool; done
 	install -D -m 644 completion/_cedr $(TO)/share/zsh/site-functions/_cedr
 
 uninstall:
 	rm -f $(TO)/bin/cedr $(TO)/bin/cedr_keys $(addprefix $(TO)/bin/,$(TOOLS)) $(TO)/share/man/man1/cedr.1
-	rm -f $(TO)/share/bash-completion/completions/cedr $(TO)/share/bash-completion/completions/cedr-explain
+	rm -f $(addprefix $(TO)/share/bash-completion/completions/,cedr cedr-explain cedr-plan)
 	rm -f $(TO)/share/zsh/site-functions/_cedr
 	rm -rf $(TO)/share/cedr $(TO)/share/doc/cedr
 

@@ -29,7 +29,7 @@ FEW = 64
 SECONDS = 20
 STOP = re.compile(r"`[^`]*`|[.:;] ")
 
-BASH_TEXT = """# Completion of cedr and cedr-explain for bash. Made from the table of commands in docs/program.md by
+BASH_TEXT = """# Completion of cedr, cedr-explain and cedr-plan for bash. Made from the table of commands in docs/program.md by
 # checks/completion.py --write. Change that table, and not this file.
 
 # What stands behind a command; the status is 1 where the word is none.
@@ -40,37 +40,57 @@ _cedr_words() {
   esac
 }
 
+# Offers what stands for a word of this kind.
+_cedr_kind() {
+  case $1 in
+    PLAN)
+      compopt -o filenames
+      mapfile -t COMPREPLY < <(compgen -f -X '!*.json' -- "$word"; compgen -d -- "$word") ;;
+    N:*) mapfile -t COMPREPLY < <(compgen -W "$(seq "${1#N:}")" -- "$word") ;;
+    N | '') ;;
+    *)
+      compopt -o filenames
+      mapfile -t COMPREPLY < <(compgen -f -- "$word") ;;
+  esac
+}
+
 _cedr() {
   local word=${COMP_WORDS[COMP_CWORD]} at kinds='' offered=''
   COMPREPLY=()
   for ((at = 1; at < COMP_CWORD; at++)); do
     if kinds=$(_cedr_words "${COMP_WORDS[at]}"); then break; fi
   done
-  if ((at == COMP_CWORD)); then
-    offered='@NAMES@'
-    if [[ ${COMP_WORDS[0]##*/} == cedr-explain ]]; then offered+=' --progress'; fi
-  else
+  if ((at < COMP_CWORD)); then
     read -ra kinds <<< "$kinds"
-    case ${kinds[COMP_CWORD - at - 1]-} in
-      PLAN)
-        compopt -o filenames
-        mapfile -t COMPREPLY < <(compgen -f -X '!*.json' -- "$word"; compgen -d -- "$word")
-        return ;;
-      N:*) offered=$(seq "${kinds[COMP_CWORD - at - 1]#N:}") ;;
-      N | '') return ;;
-      *)
-        compopt -o filenames
-        mapfile -t COMPREPLY < <(compgen -f -- "$word")
-        return ;;
-    esac
+    _cedr_kind "${kinds[COMP_CWORD - at - 1]-}"
+    return
   fi
+  offered='@NAMES@'
+  if [[ ${COMP_WORDS[0]##*/} == cedr-explain ]]; then offered+=' --progress'; fi
   mapfile -t COMPREPLY < <(compgen -W "$offered" -- "$word")
 }
 
+# The words of cedr-plan: its command, a file, and behind `ask` a command of the program without its plan.
+_cedr_plan() {
+  local word=${COMP_WORDS[COMP_CWORD]} kinds=''
+  COMPREPLY=()
+  case $COMP_CWORD:${COMP_WORDS[1]} in
+    1:*) mapfile -t COMPREPLY < <(compgen -W '@OF_PLAN@ --help' -- "$word") ;;
+    2:words) _cedr_kind PLAN ;;
+    2:compile | 2:check | 2:ask) _cedr_kind FILE ;;
+    3:ask) mapfile -t COMPREPLY < <(compgen -W '@ASKED@' -- "$word") ;;
+    *:ask)
+      kinds=$(_cedr_words "${COMP_WORDS[3]}") || return
+      read -ra kinds <<< "${kinds/PLAN/}"
+      _cedr_kind "${kinds[COMP_CWORD - 4]-}" ;;
+  esac
+}
+
 complete -F _cedr cedr cedr-explain
+complete -F _cedr_plan cedr-plan
 """
-ZSH_TEXT = """#compdef cedr cedr-explain
-# Completion of cedr and cedr-explain for zsh. Made from the table of commands in docs/program.md by
+ZSH_TEXT = """#compdef cedr cedr-explain cedr-plan
+# Completion of cedr, cedr-explain and cedr-plan for zsh. Made from the table of commands in docs/program.md by
 # checks/completion.py --write. Change that table, and not this file.
 
 _cedr() {
@@ -83,6 +103,10 @@ _cedr() {
   words_of=(
 @WORDS@
   )
+  if [[ ${service:-cedr} == cedr-plan ]]; then
+    _cedr_plan
+    return
+  fi
   [[ ${service:-cedr} == cedr-explain ]] && options=('--progress[say each second how far the files are read]')
   _arguments -C $options '1: :->command' '*:: :->word' && return
   if [[ $state == command ]]; then
@@ -90,16 +114,38 @@ _cedr() {
     return
   fi
   kinds=(${=words_of[$words[1]]})
-  case ${kinds[CURRENT - 1]} in
+  _cedr_kind "${kinds[CURRENT - 1]}"
+}
+
+# Offers what stands for a word of this kind.
+_cedr_kind() {
+  case $1 in
     PLAN) _files -g '*.json(-.)' ;;
-    N:*) compadd -- {1..${kinds[CURRENT - 1]#N:}} ;;
+    N:*) compadd -- {1..${1#N:}} ;;
     N | '') _message 'no more words' ;;
     *) _files ;;
   esac
 }
 
+# The words of cedr-plan: its command, a file, and behind `ask` a command of the program without its plan.
+_cedr_plan() {
+  case $CURRENT:$words[2] in
+    2:*) compadd -- @OF_PLAN@ --help ;;
+    3:words) _cedr_kind PLAN ;;
+    3:(compile|check|ask)) _cedr_kind FILE ;;
+    4:ask) compadd -- @ASKED@ ;;
+    *:ask)
+      kinds=(${=${words_of[$words[4]]}/PLAN/})
+      _cedr_kind "${kinds[CURRENT - 4]}" ;;
+    *) _message 'no more words' ;;
+  esac
+}
+
 _cedr "$@"
 """
+# The commands of cedr-plan, and those of the program that its `ask` takes.
+OF_PLAN = "compile words check ask"
+NOT_ASKED = ("check", "history", "make", "--help", "--version")
 
 # Words, the last of them begun, and what is offered, in a folder with these files. Where no plan begins so, zsh offers
 # other files.
@@ -125,6 +171,16 @@ TRIED = [
     (["cedr", "--prog"], []),
     (["cedr-explain", "--prog"], ["--progress"]),
     (["cedr-explain", "--progress", "run", "pl"], ["plan.json"]),
+    (["cedr-plan", "comp"], ["compile"]),
+    (["cedr-plan", "--h"], ["--help"]),
+    (["cedr-plan", "words", "pl"], ["plan.json"]),
+    (["cedr-plan", "ask", "ev"], ["events.csv"]),
+    (["cedr-plan", "ask", "events.csv", "str"], ["stream"]),
+    (["cedr-plan", "ask", "events.csv", "hist"], []),
+    (["cedr-plan", "ask", "events.csv", "pool", "16"], ["16"]),
+    (["cedr-plan", "ask", "events.csv", "resume", "plan.json", "ev"], ["events.csv"]),
+    (["cedr-plan", "ask", "events.csv", "run", "ev"], []),
+    (["cedr-plan", "check", "events.csv", "ev"], []),
 ]
 
 
@@ -142,20 +198,26 @@ def about(command: Command) -> str:
 
 def bash_text() -> str:
     words = "\n".join(f"    {one.name}) echo '{kinds(one)}' ;;" for one in commands())
-    return BASH_TEXT.replace("@WORDS@", words).replace("@NAMES@", " ".join(one.name for one in commands()))
+    return of_plan(BASH_TEXT).replace("@WORDS@", words).replace("@NAMES@", " ".join(one.name for one in commands()))
+
+
+def of_plan(text: str) -> str:
+    asked = " ".join(one.name for one in commands() if one.name not in NOT_ASKED)
+    return text.replace("@OF_PLAN@", OF_PLAN).replace("@ASKED@", asked)
 
 
 def zsh_text() -> str:
     lines = "\n".join(f"    '{one.name}:{about(one)}'" for one in commands())
     words = "\n".join(f"    {one.name} '{kinds(one)}'" for one in commands())
-    return ZSH_TEXT.replace("@COMMANDS@", lines).replace("@WORDS@", words)
+    return of_plan(ZSH_TEXT).replace("@COMMANDS@", lines).replace("@WORDS@", words)
 
 
 def in_bash(words: list, folder: Path) -> list:
     """What bash offers for the last of these words."""
-    script = ('source "$0"; compopt() { :; }; COMP_WORDS=("$@"); COMP_CWORD=$(($# - 1)); _cedr; '
+    script = ('source "$0"; compopt() { :; }; COMP_WORDS=("$@"); COMP_CWORD=$(($# - 1)); $FUNCTION; '
               'printf "%s\\n" "${COMPREPLY[@]}"')
-    done = subprocess.run(["bash", "-c", script, BASH, *words], cwd=folder, capture_output=True, text=True, check=False)
+    env = {**os.environ, "FUNCTION": "_cedr_plan" if words[0] == "cedr-plan" else "_cedr"}
+    done = subprocess.run(["bash", "-c", script, BASH, *words], cwd=folder, env=env, capture_output=True, text=True, check=False)
     return done.stdout.split("\n")[:-1] if done.stdout.strip() else done.stderr.split("\n")[:-1]
 
 

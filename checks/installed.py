@@ -23,8 +23,9 @@ from program import ROOT, built_program
 
 BUILD = re.compile(r"^\(cd (\S+) && (rt run [^)]*)\)$", re.MULTILINE)
 # What stands under share/, by where it is in the repository.
-SHARED = {"completion/cedr.bash": "bash-completion/completions/cedr-explain",
-          "completion/_cedr": "zsh/site-functions/_cedr", "docs/guide.md": "doc/cedr/docs/guide.md"}
+SHARED = [("completion/cedr.bash", "bash-completion/completions/cedr-explain"),
+          ("completion/cedr.bash", "bash-completion/completions/cedr-plan"),
+          ("completion/_cedr", "zsh/site-functions/_cedr"), ("docs/guide.md", "doc/cedr/docs/guide.md")]
 KEYS = ROOT / "crates/cedr_keys/out/cedr_keys"
 PLAN = b'{"version":1,"nodes":[{"name":"s","op":"source","file":"s.csv","fields":["text"]}]}'
 
@@ -84,7 +85,13 @@ def check_installed(prefix: Prefix) -> int:
     came = prefix.call("cedr-explain", "check", "plan.json")
     is_said = came[2].startswith("plan fault 13 node 0\n  plan.json:1:22: No node is the output")
     prefix.expect(came[0] == 2 and is_said, "cedr-explain", came)
-    for file, place in SHARED.items():
+    came = prefix.call("cedr-plan", "words", "plan.json")
+    is_said = came[2].startswith("plan.json:1:22: No node is the output")
+    prefix.expect(came[0] == 2 and is_said, "cedr-plan", came)
+    came = prefix.call("cedr-plan", "ask", str(ROOT / "examples/monday/failed.words"))
+    is_said = came[2].startswith(f"{ROOT}/examples/monday/failed.words:2:20: The file of `installs`") or "python3-lark" in came[2]
+    prefix.expect(came[0] in (4, 127) and is_said, "cedr-plan over files that aren't there", came)
+    for file, place in SHARED:
         there = prefix.path / "share" / place
         is_same = there.is_file() and there.read_bytes() == (ROOT / file).read_bytes()
         prefix.expect(is_same, place, "it isn't there, or another file")

@@ -34,13 +34,18 @@ SEE_ALSO = r"""
 .BR "cedr\-explain \-\-help" :
 a tool beside the program that says in sentences what a refusal means, and how far the files are read.
 .PP
+.BR "cedr\-plan \-\-help" :
+a tool that makes plans of words, with columns by name and spans with units, and answers with a header.
+.PP
 The pages that this one is made from stand in
 .I share/doc/cedr/docs
 of the installed copy:
 .I guide.md
 shows each operator at work,
+.I words.md
+has plans in words,
 .I plans.md
-has the plan language,
+the plan language,
 .I levels.md
 the levels,
 .I faults.md
