@@ -117,11 +117,11 @@ def check_round_trips(differences: Differences, program: Path, folder: Path) -> 
     rng = random.Random(SEED)
     for number in range(DOCUMENTS):
         data = random_document(rng)
-        made = words.words_of(Document(data))
         try:
+            made = words.words_of(Document(data))
             again = plan.compiled(made).text()
-        except plan.Found:
-            differences.expect([], said(made), f"words of {data.decode()}")
+        except (plan.Found, refused.Refused) as fault:
+            differences.expect("words, and a document again", repr(fault), f"the document {data.decode()}")
             continue
         differences.expect(said_by(json.loads(data)), json.loads(again), f"the document of the words\n{made}")
         if number < OF_THEM_CHECKED:

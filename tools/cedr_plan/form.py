@@ -27,10 +27,14 @@ SAID_ELSEWHERE = [
     (r"on\b|ON\b|when\b|having\b|if\b", "The tests of a node stand behind `where`."),
     (r"as\b|AS\b", "Another name for a column stands in a list: keep load as kilowatts."),
     (r"select\b|from\b", "A node has one operator: give what is read here a name and a line of its own."),
-    (r"[-+*/%](?![-/*])", "Nothing is worked out in a plan; what is computed becomes a column of the files."),
     (r"\[|\{", "Columns stand between round brackets."),
     (r",\d{3}\b", "The digits of a number stand without signs between: 43200."),
-    (r":", "A column's name and its type stand beside each other: machine text."),
+    (r":", "Leave the colon out, as in machine text and unit second."),
+    (r"(?:like|in|between|LIKE|IN|BETWEEN)\b", "A test compares two sides by =, !=, <, <=, > or >=; a range is two tests with `and`."),
+    (r"\*\s*(?:from|FROM)\b", "A node reads another one by its name, and all columns stay: large = select orders where amount >= 100."),
+    (r"\(", "Columns of a list stand without brackets, as in group reports by machine count sum load."),
+    (r'"', "A name stands without quotes, or between backquotes."),
+    (r"[-+*/%](?![-/*])", "Nothing is worked out in a plan; what is computed becomes a column of the files."),
     (r"\d", "A number stands behind a word that says what it is, as `within 5 minutes`."),
 ]
 NO_TEXT = {'"': "This text has no closing quote in its line. A line break in a text is \\n, a tab \\t, and a quote \\\".",
@@ -52,7 +56,8 @@ def read(statement: Statement):
     except lark.exceptions.UnexpectedCharacters as error:
         raise Refused(statement.place + error.pos_in_stream, wrong_sign(statement, error.pos_in_stream)) from None
     except lark.exceptions.UnexpectedToken as error:
-        place = len(statement.text.rstrip()) if error.token.type == "$END" else error.token.start_pos
+        # the end has the place of the last word before it
+        place = error.token.end_pos if error.token.type == "$END" else error.token.start_pos
         raise Refused(*wrong_word(statement, error, place)) from None
 
 
@@ -116,7 +121,7 @@ def accepted_words(statement: Statement, terminals) -> list:
     begun = BEGUN.match(statement.text)
     op = begun[3] if begun else None
     own = clause_words(op) if op in OPERATORS else CLAUSE_WORDS
-    words = [told(one) for one in terminals]
+    words = [told(one) for one in terminals if one != "_LEV"]
     kept = [one for one in words if one.strip("`") not in CLAUSE_WORDS or one.strip("`") in own]
     return list(dict.fromkeys(kept))
 

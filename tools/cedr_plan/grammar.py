@@ -92,7 +92,7 @@ TOLD = {
     "DATE": "a date", "SIGN": "a comparison", "OPEN": "`(`", "_CLOSE": "`)`", "_COMMA": "a comma", "_DOT": "a dot",
     "_BRACE": "`{`", "_END": "`}`", "NONE": "`-`", "$END": "the end of the statement", "_OF": "`of`", "_AS": "`as`", "_AND": "`and`",
     "_EVENT": "`EVENT`", "_WHEN": "`WHEN`", "_UWHERE": "`WHERE`", "_OUTPUT": "`OUTPUT`", "_WITH": "`WITH`",
-    "_LEVEL": "`LEVEL`", "_LEV": "`level`", "_UAS": "`AS`", "_UAND": "`AND`", "CANCEL": "`CANCEL-WHEN`",
+    "_LEVEL": "`LEVEL`", "_UAS": "`AS`", "_UAND": "`AND`", "CANCEL": "`CANCEL-WHEN`",
 }
 CLAUSE_WORDS = ("where", "within", "for", "every", "by", "keep", "count", "sum", "least", "greatest", "strong", "middle",
                 "block", "memory")

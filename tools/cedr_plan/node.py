@@ -329,9 +329,12 @@ def paths_of(value) -> list:
 def own_column(column) -> Column:
     if len(column.words) != 2:
         word = column.words[0]
-        told = "A `-` stands where a `header` names a column that is none of the events." if getattr(word, "kind", "") == "NONE" else \
-            f"The column `{word.text}` has no type. Write {spelt(word.text)} text, or {spelt(word.text)} int for a whole number."
-        raise Refused(column.place, told)
+        if getattr(word, "kind", "") == "NONE":
+            raise Refused(column.place, "A `-` stands where a `header` names a column that is none of the events.")
+        if word.text in TYPES:
+            raise Refused(column.place, f"The column of the type `{word.text}` has no name. It stands in front, as in machine {word.text}.")
+        raise Refused(column.place, f"The column `{word.text}` has no type. Write {spelt(word.text)} text, or {spelt(word.text)} int for a whole "
+                                    "number.")
     name, kind = column.words
     return Column((name.text,), a_type(kind))
 

@@ -77,9 +77,7 @@ class Reader:
     def set(self, setting: Setting) -> None:
         word, value = setting
         if word.text not in SETTINGS:
-            known = listed((f"`{one}`" for one in SETTINGS), "or")
-            raise Refused(word.place, f"`{word.text} {value.text}` is no statement. A node is a name, `=`, and an operator with what it reads; a "
-                                      f"line without `=` begins with {known}.")
+            raise Refused(word.place, f"`{word.text} {value.text}` is no statement. {about_statement(word.text, value.text)}")
         if word.text in self.settings:
             raise Refused(word.place, f"`{word.text}` stands twice. A plan says it once.")
         if self.nodes and word.text == "unit":
@@ -184,6 +182,16 @@ class Reader:
                 what = f"the {node['op']} `{node['name']}`"
                 raise Refused(place, f"Version {version} hasn't all that {what} says. Write version {least_version(node)}, or leave this line out: "
                                      "then the document has the least version that does.")
+
+
+def about_statement(word: str, behind: str) -> str:
+    """What a line without `=` is likely meant as."""
+    if word in OPERATORS:
+        return f"A node has a name in front of its operator: {'out' if word == 'output' else 'name'} = {word} {behind}."
+    if word.upper() == "EVENT":
+        return "A pattern begins with EVENT, and its words are in capitals."
+    known = listed((f"`{one}`" for one in SETTINGS), "or")
+    return f"A node is a name, `=`, and an operator with what it reads; a line without `=` begins with {known}."
 
 
 def least_version(node: dict) -> int:

@@ -24,14 +24,23 @@ def test_of(test: Test, reach: Reach) -> list:
         turned = f"; turn it round, as in {spelt_path(test.right.parts)} .. {test.left.text}" if isinstance(test.right, Path) else ""
         raise Refused(test.left.place, f"A test begins with a column, and not with {test.left.text}{turned}.")
     left = reach.find(test.left)
-    side, kind = side_of(test.right, reach)
     own = reach.columns[left]
+    check_quotes(test.right, own, reach)
+    side, kind = side_of(test.right, reach)
     if own.type != kind:
         told = spelt_path(test.right.parts) if isinstance(test.right, Path) else test.right.text
         hint = f' Write "{told}" for the text.' if own.type == "text" and not isinstance(test.right, Path) else ""
         raise Refused(test.left.place, f"`{spelt_path(own.name)}` is {A_TYPE[own.type]}, and {told} is {A_TYPE[kind]}. The two sides of a "
                                        f"test are of one type.{hint}")
     return [left, comparison, side]
+
+
+def check_quotes(side, own: Column, reach: Reach) -> None:
+    """Refuses a word that is no column and is compared with a text: its quotes are missing."""
+    if isinstance(side, Path) and len(side.parts) == 1 and own.type == "text" and not reach.places(side.parts):
+        shown = spelt_path(side.parts)
+        raise Refused(side.place, f'There is no column `{shown}` here. A text stands between double quotes: "{side.parts[0]}". '
+                                  f"{reach.meant(side.parts)}")
 
 
 def comparison_of(sign: Word) -> str:
