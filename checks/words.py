@@ -5,6 +5,7 @@
   says of it.
 - Of each mistake in word_mistakes.py the sentence is said that is written there by hand, at its place, with the line and
   a caret. Nothing is written then.
+- Texts that are spoilt at random are refused in the same form, or give a document that is a plan.
 - Each pattern in word_patterns.py has the answer that is worked out by hand, and a NOT over random events the one of its definition.
 - Each statement in the tables of docs/words.md gives the node and the columns beside it, the words that pages show give
   the documents under them, and each command of docs/words.md writes what stands under it.
@@ -52,11 +53,16 @@ from cedr_explain.plan import Plan as Document
 from cedr_plan import form, plan, refused, text, words
 
 TOOL = ROOT / "tools/cedr-plan"
-DOCUMENTS, OF_THEM_CHECKED, NOTS = 1_500, 150, 20
+DOCUMENTS, OF_THEM_CHECKED, NOTS, SPOILT = 1_500, 150, 20, 1_000
 SHOWN, SECONDS, SEED = 5, 60, 71
 CODE = re.compile("`([^`]+)`")
 PAIR = re.compile(r"```words\n((?:(?!```).)*?)```\n(?:(?!```).)*?```json\n(.*?)```", re.DOTALL)
 WORDS_BLOCK = re.compile(r"```words\n(.*?)```", re.DOTALL)
+PARTS = re.compile(r'"[^"\n]*"|\w+|\s+|.', re.DOTALL)
+ODD_PARTS = ["'", '"', "`", "\\", ";", "==", "-5", "1.5", "9" * 50, "inf", "é", "\x00", "\t", "\n", "#", "`a b`", "."]
+ODD_NAMES = ["1", "12h", "0_", "_", "A" * 64, "where", "keep", "count", "unit", "version", "edge", "output", "source", "inf", "of", "as", "and",
+             "EVENT", "WHEN", "WHERE", "AND", "OUTPUT", "WITH", "AS", "LEVEL", "level", "strong", "block", "header", "first", "c0", "text", "int"]
+ODD_TEXTS = ["", "a\nb", "\x00\x1f\x7f", '"', "\\", "\\n", "`", "#", "a # b", "é\u2028\x85\ufeff", "\U0001f600", "'", "where x = 1", "inf", "5"]
 UNIT_LENGTHS = {"nanosecond": 1, "microsecond": 1_000, "millisecond": 1_000_000, "second": 1_000_000_000, "minute": 60_000_000_000,
                 "hour": 3_600_000_000_000, "day": 86_400_000_000_000, "week": 604_800_000_000_000}
 GOOD = 'reports = source "reports.csv" (machine text, load int)\nout = output reports\n'
@@ -95,12 +101,25 @@ def said(source: str) -> list:
 
 
 def random_document(rng: random.Random) -> bytes:
-    """A plan that is accepted, as its bytes."""
+    """A plan that is accepted, as its bytes. Every third one has names and texts that are odd in words."""
     while True:
         maker = rng.choice([random_plans.Maker, random_networks.Maker, random_networks.SavedMaker])
-        data = random_plans.json_text(maker(rng).document()).encode()
+        document = maker(rng).document()
+        if rng.random() < 1 / 3:
+            make_odd(rng, document)
+        data = random_plans.json_text(document).encode()
         if plan_reference.check(data)[0] == 0:
             return data
+
+
+def make_odd(rng: random.Random, document: dict) -> None:
+    odd = dict(zip([node["name"] for node in document["nodes"]], rng.sample(ODD_NAMES, len(ODD_NAMES))))
+    for node in document["nodes"]:
+        node["name"] = odd.get(node["name"], node["name"])
+        node.update({"from": [odd.get(name, name) for name in node["from"]]} if "from" in node else {})
+        node.update({"file": rng.choice(ODD_TEXTS)} if "file" in node else {})
+        for test in node.get("where", []):
+            test[2].update({"text": rng.choice(ODD_TEXTS)} if "text" in test[2] else {})
 
 
 def said_by(document: dict) -> dict:
@@ -166,6 +185,32 @@ def check_several(differences: Differences) -> int:
     many = "unit second\n" + "".join(f"n{place} = filter\n" for place in range(100_000))
     differences.expect(10, len(said(many)) // 3, "a text of 100,000 faulty lines")
     return 2
+
+
+def check_spoilt(differences: Differences) -> int:
+    """Texts with parts left out, put in or changed for others: each is refused at a place of it, or gives a plan that is accepted."""
+    rng = random.Random(SEED)
+    page = (ROOT / "docs/words.md").read_text()
+    texts = [word_mistakes.TEXT, *WORDS_BLOCK.findall(page), *map(word_patterns.text_of, word_patterns.CASES)]
+    parts = [part for one in texts for part in PARTS.findall(one)] + ODD_PARTS
+    for _ in range(SPOILT):
+        source = spoilt(rng, PARTS.findall(rng.choice(texts)), parts)
+        try:
+            differences.expect(0, plan_reference.check(plan.compiled(source).text().encode())[0], f"the document of\n{source}")
+        except plan.Found as found:
+            lines = list(refused.all_placed("plan.words", source, found.faults))
+            in_form = [bool(re.match(r"plan\.words:\d+:\d+: ", one)) for one in lines[::3]]
+            differences.expect((True, 0), (all(in_form), len(lines) % 3), f"what is said of\n{source}")
+        except Exception as error:
+            differences.expect("a refusal", repr(error), f"the text\n{source}")
+    return SPOILT
+
+
+def spoilt(rng: random.Random, kept: list, parts: list) -> str:
+    for _ in range(rng.choice([1, 1, 2, 3])):
+        at, other = rng.randrange(len(kept)), rng.randrange(len(kept))
+        kept[at], kept[other] = rng.choice([(kept[at], kept[other]), (rng.choice(parts), kept[other]), ("", kept[other]), (kept[other], kept[at])])
+    return "".join(kept)
 
 
 # pages
@@ -403,11 +448,12 @@ def main() -> int:
         here = Path(folder)
         trips = check_round_trips(differences, program, here)
         mistakes = check_mistakes(differences) + check_several(differences)
+        spoilt_ones = check_spoilt(differences)
         rows, pairs = check_tables(differences), check_pairs(differences)
         commands = check_commands(differences, program, Path(copy))
         patterns, answers = check_patterns(differences, here), check_answers(differences, here)
         bad = check_bad_input(differences, here)
-    print(f"words: {trips} documents in words and back, {mistakes} texts with mistakes, {rows} rows of tables, {pairs} documents and {commands} commands "
+    print(f"words: {trips} documents in words and back, {mistakes} texts with mistakes, {spoilt_ones} spoilt ones, {rows} rows of tables, {pairs} documents and {commands} commands "
           f"of pages, {patterns} patterns, {answers} answers, {bad} bad inputs: {differences.count} differences")
     return 1 if differences.count else 0
 
