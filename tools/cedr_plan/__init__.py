@@ -7,6 +7,8 @@ tree        what a statement says, each part with its place
 form        a statement that isn't in form, in sentences
 units       spans of time, and times as dates
 columns     the columns of nodes by name
+clauses     the words behind what a node reads
+source      the columns of a source
 tests       tests and lists of columns, as a document has them
 node        one statement as a node of a document
 plan        all statements as a plan

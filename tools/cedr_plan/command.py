@@ -2,7 +2,6 @@
 from __future__ import annotations
 
 import os
-import sys
 import traceback
 from pathlib import Path
 
@@ -34,10 +33,11 @@ ask FILE [COMMAND WORD..]
               serial, audit, stream, live SCRIPT, save SCRIPT and resume CHECKPOINT SCRIPT
 --help        prints this text
 
-FILE is `-` for standard input. The program is the one that the variable CEDR names, else the
-one that was built or installed with this tool, else `cedr` on the path. What is refused is
-told on standard error with its file, line and column, and nothing is written then, but by
-stream, live and resume, which write as they go.
+FILE is `-` for standard input. The words are read by lark: apt-get install
+python3-lark. The program is the one that the variable CEDR names, else the one that was built
+or installed with this tool, else `cedr` on the path. What is refused is told on standard
+error with its file, line and column, and nothing is written then, but by stream, live and
+resume, which write as they go.
 
 Exit status: that of the program (2: the text or the document is refused; 3: a line of an
 event file has a fault; 4: a file can't be read; 5: a write was refused; 1: the words match no

@@ -5,6 +5,7 @@ import re
 
 import cedr_explain.advice as advice
 from cedr_explain.language import OPERATORS
+from cedr_plan.clauses import clause_words
 from cedr_plan.grammar import CLAUSE_WORDS, parser, told
 from cedr_plan.refused import Refused, listed
 from cedr_plan.text import Statement, check_begin
@@ -128,19 +129,3 @@ def accepted_words(statement: Statement, terminals) -> list:
 
 def may_stand(words: list) -> str:
     return f"Here may stand {listed(words, 'or')}." if words else ""
-
-
-# The word of a clause where it isn't the document's member.
-WORD_OF = {"scope": "within", "hold": "for", "width": "for", "keys": "by"}
-# Members that are said without a clause.
-UNCLAUSED = ("file", "fields", "number")
-LEVEL_WORDS = ("strong", "middle", "block", "memory")
-
-
-def clauses_of(op: str) -> dict:
-    """The words of an operator's clauses, each with the member of the document that it says."""
-    return {WORD_OF.get(member, member): member for member in OPERATORS[op].members if member not in UNCLAUSED}
-
-
-def clause_words(op: str) -> tuple:
-    return (*clauses_of(op), *(("keep",) if op == "output" else ()), *(LEVEL_WORDS if OPERATORS[op].most else ()))

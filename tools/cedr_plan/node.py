@@ -1,19 +1,17 @@
 """One statement as a node of a document, and the columns of the node by name."""
 from __future__ import annotations
 
-import csv
 from typing import NamedTuple
 
 import cedr_explain.advice as advice
-import cedr_explain.outside as outside
-from cedr_explain.language import EXTREMES, JOINING, MOST_FIELDS, OPERATORS, TYPES, Operator
+from cedr_explain.language import EXTREMES, JOINING, MOST_FIELDS, OPERATORS, Operator
 from cedr_explain.values import NAME
+from cedr_plan.clauses import LEVEL_WORDS, Clauses, clause_words, clauses_of, example_of, items_here, span_here
 from cedr_plan.columns import ORDINALS, Column, Reach, behind, check_unlike, of_one
-from cedr_plan.form import LEVEL_WORDS, clause_words, clauses_of
 from cedr_plan.refused import Refused, a_word, listed
+from cedr_plan.source import columns_of
 from cedr_plan.tests import listed_columns, tests_of, whole
-from cedr_plan.tree import (Clause, Counted, File, Input, Items, Name, Node, Path, Span, Tests, spelt,
-                            text_of)
+from cedr_plan.tree import Counted, File, Input, Items, Name, Node, Path, Tests, spelt, text_of
 from cedr_plan.units import span_in
 
 ADDED = "kept"
@@ -30,39 +28,6 @@ class Reading(NamedTuple):
     is_shortened: bool
 
 
-class Clauses:
-    """The clauses of a node by their words. One that its operator hasn't, or that stands twice, is refused."""
-
-    def __init__(self, node: Node) -> None:
-        self.node, self.by_word = node, {}
-        for one in node.clauses:
-            self.add(one)
-
-    def add(self, clause: Clause) -> None:
-        word, op = clause.word.text, self.node.op.text
-        allowed = clause_words(op)
-        if word not in allowed:
-            known = f"Its words are {listed(f'`{one}`' for one in allowed)}." if allowed else "It has no such words."
-            raise Refused(clause.word.place, f"`{word}` says nothing to {a_word(op)}. {known}")
-        if word in self.by_word:
-            raise Refused(clause.word.place, f"`{word}` stands twice. A node says it once.")
-        if {word, *self.by_word} >= {"strong", "middle"} or word in LEVEL_WORDS[:2] and {"block", "memory"} & set(self.by_word) \
-                or word in LEVEL_WORDS[2:] and {"strong", "middle"} & set(self.by_word):
-            raise Refused(clause.word.place, f"`{word}` is a second level. A node has one.")
-        self.by_word[word] = clause
-
-    def value(self, word: str, default=None):
-        found = self.by_word.get(word)
-        return found.value if found else default
-
-    def needed(self, word: str, example: str):
-        """The value of a clause that the operator can't do without."""
-        if word not in self.by_word:
-            op = self.node.op
-            raise Refused(op.place, f"{a_word(op.text).capitalize()} says `{word}`, which is missing here: {example}.")
-        return self.by_word[word].value
-
-
 class Maker:
     """Makes the nodes of a document. `columns` has those of each node that is made, by its name; no node that is added is
     called as one of those that are `taken`."""
@@ -74,10 +39,11 @@ class Maker:
         """The node of the statement; in front of an output with a `keep` the project that it stands for."""
         self.check_name(node.name)
         operator = self.operator(node)
-        if operator.most == 0:
-            return [self.source(node, Clauses(node))]
-        inputs = self.inputs(node, operator)
         clauses = Clauses(node)
+        if operator.most == 0:
+            self.finish(node, columns_of(node))
+            return [source_node(node, self.columns[node.name.text])]
+        inputs = self.inputs(node, operator)
         reach = reach_of(node, inputs)
         made = {"name": node.name.text, "op": node.op.text, "from": [one.node for one in inputs]}
         members = self.members(node, operator, clauses, reach)
@@ -107,39 +73,6 @@ class Maker:
             hint = f"Perhaps `{meant}` is meant, which {OPERATORS[meant].does}. " if meant else ""
             raise Refused(node.op.place, f"`{op}` is no operator. {hint}The operators are {listed(OPERATORS)}.")
         return OPERATORS[op]
-
-    # a source
-
-    def source(self, node: Node, _: Clauses) -> dict:
-        subject = node.subject
-        if not isinstance(subject, File):
-            raise Refused(node.op.place, 'A `source` reads a file, whose name stands between double quotes: '
-                                         f'{spelt(node.name.text)} = source "{node.name.text}.csv" (machine text, load int).')
-        if subject.columns is None:
-            raise Refused(subject.file.place, "The columns of its events are missing. They stand behind the file with their types: "
-                                              "(machine text, load int); () says that there are none.")
-        columns = self.by_header(subject) if subject.header else [own_column(one) for one in subject.columns]
-        check_unlike(columns, [one.place for one in subject.columns], f"`{node.name.text}`")
-        if len(columns) > MOST_FIELDS:
-            raise Refused(subject.columns[MOST_FIELDS].place, f"This is column {MOST_FIELDS + 1} of the source, and it may have {MOST_FIELDS}.")
-        self.finish(node, columns)
-        return {"name": node.name.text, "op": "source", "file": text_of(subject.file), "fields": [one.type for one in columns]}
-
-    def by_header(self, subject: File) -> list:
-        """The columns whose names are in the first line of a CSV. A `-` passes over one that isn't of the events."""
-        names = header_of(subject.header)
-        if len(names) != len(subject.columns):
-            raise Refused(subject.header.place, f"{subject.header.text} names {len(names)} columns, {', '.join(names)}, and "
-                                                f"{len(subject.columns)} types stand here. Each has its type, or a `-` where it is no "
-                                                "column of the events.")
-        columns = []
-        for name, column in zip(names, subject.columns):
-            if len(column.words) != 1:
-                raise Refused(column.place, "Behind a `header` the types alone stand here, since the file has the names.")
-            word = column.words[0]
-            if getattr(word, "kind", "") != "NONE":
-                columns.append(Column((name,), a_type(word)))
-        return columns
 
     # what a node reads
 
@@ -292,6 +225,10 @@ class Maker:
         return columns
 
 
+def source_node(node: Node, columns: list) -> dict:
+    return {"name": node.name.text, "op": "source", "file": text_of(node.subject.file), "fields": [one.type for one in columns]}
+
+
 def reach_of(node: Node, inputs: list) -> Reach:
     """What the tests and the lists of a node call columns."""
     op = node.op.text
@@ -324,65 +261,3 @@ def paths_of(value) -> list:
     if isinstance(value, Items):
         return [item.path for item in value]
     return [side for test in value for side in (test.left, test.right) if isinstance(side, Path)] if isinstance(value, Tests) else []
-
-
-def own_column(column) -> Column:
-    if len(column.words) != 2:
-        word = column.words[0]
-        if getattr(word, "kind", "") == "NONE":
-            raise Refused(column.place, "A `-` stands where a `header` names a column that is none of the events.")
-        if word.text in TYPES:
-            raise Refused(column.place, f"The column of the type `{word.text}` has no name. It stands in front, as in machine {word.text}.")
-        raise Refused(column.place, f"The column `{word.text}` has no type. Write {spelt(word.text)} text, or {spelt(word.text)} int for a whole "
-                                    "number.")
-    name, kind = column.words
-    return Column((name.text,), a_type(kind))
-
-
-def a_type(word) -> str:
-    if word.text not in TYPES:
-        about = advice.about_type(word.text).replace('"', "`")
-        raise Refused(word.place, f"`{word.text}` is no type. It must be `text` or `int`. {about}".rstrip())
-    return word.text
-
-
-def header_of(word) -> list:
-    """The names in the first line of a CSV."""
-    name = text_of(word)
-    try:
-        with open(name, newline="", encoding="utf-8-sig") as file:
-            names = next(csv.reader([file.readline(1_048_576)], strict=True), [])
-    except OSError as error:
-        raise Refused(word.place, f"The file {word.text}, whose header has the names, can't be read: "
-                                  f"{outside.why_not(name) or error.strerror}.") from None
-    except (ValueError, csv.Error):
-        raise Refused(word.place, f"The first line of {word.text} isn't the header of a CSV in UTF-8.") from None
-    if not all(names) or not names:
-        raise Refused(word.place, f"The first line of {word.text} has a column without a name.")
-    return names
-
-
-def span_here(clause: Clause, value) -> Span:
-    if not isinstance(value, Span):
-        raise Refused(clause.word.place, f"A span stands behind this `{clause.word.text}`, as in {clause.word.text} 5 minutes.")
-    return value
-
-
-def items_here(clause: Clause | None, value) -> list:
-    if isinstance(value, Span):
-        raise Refused(value.place, f"Columns stand behind this `{clause.word.text}`, as in {clause.word.text} machine.")
-    return value
-
-
-EXAMPLES = {
-    "select": "select reports where load >= 50", "project": "project reports keep machine, load", "union": "union day, night",
-    "join": "join orders o, payments p where o.number = p.number", "window": "window reports for 2 minutes",
-    "shift": "shift alarms by 60 seconds", "hop": "hop alarms every 1 hour for 1 hour", "group": "group reports by machine count sum load",
-    "sequence": "sequence installs i, shutdowns s within 12 hours where i.machine = s.machine",
-    "unless": "unless alarms a, visits v within 2 minutes for 1 second where a.machine = v.machine",
-    "atleast": "atleast 2 of smoke, heat, gas within 10 seconds", "except": "except due d, payments p where d.number = p.number",
-}
-
-
-def example_of(op: str) -> str:
-    return EXAMPLES.get(op, op)

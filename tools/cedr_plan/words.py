@@ -6,8 +6,8 @@ import json
 from cedr_explain.json_text import Value
 from cedr_explain.language import EXTREMES, OPERATORS
 from cedr_explain.plan import Plan
+from cedr_plan.clauses import LEVEL_WORDS, clauses_of
 from cedr_plan.columns import Column, Reach, prefixed
-from cedr_plan.form import LEVEL_WORDS, clauses_of
 from cedr_plan.grammar import RESERVED
 from cedr_plan.node import Maker, reach_of
 from cedr_plan.tree import (Clause, Counted, File, Input, Item, Items, Name, Node, Path, Span, Test, Tests, Word, spelt,
