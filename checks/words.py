@@ -63,6 +63,18 @@ ODD_PARTS = ["'", '"', "`", "\\", ";", "==", "-5", "1.5", "9" * 50, "inf", "é",
 ODD_NAMES = ["1", "12h", "0_", "_", "A" * 64, "where", "keep", "count", "unit", "version", "edge", "output", "source", "inf", "of", "as", "and",
              "EVENT", "WHEN", "WHERE", "AND", "OUTPUT", "WITH", "AS", "LEVEL", "level", "strong", "block", "header", "first", "c0", "text", "int"]
 ODD_TEXTS = ["", "a\nb", "\x00\x1f\x7f", '"', "\\", "\\n", "`", "#", "a # b", "é\u2028\x85\ufeff", "\U0001f600", "'", "where x = 1", "inf", "5"]
+SPANS = [("second", "1 hour 30 minutes", 5_400), ("second", "1.5 hours", 5_400), ("minute", "90 minutes", 90), ("millisecond", "2 s", 2_000),
+         ("day", "2 weeks", 14), ("nanosecond", "1us", 1_000), ("hour", "1 d 12 h", 36), ("week", "168 hours", 1)]
+# The types behind a header, the tests of a select over the source, and the types and tests of the document or what is said.
+HEADERS = {
+    ("text, text, int", '`ordered on` = "x" and kg > 2'): (["text", "text", "int"], [[1, "=", {"text": "x"}], [2, ">", {"int": 2}]]),
+    ("text, -, int", "kg > 2"): (["text", "int"], [[1, ">", {"int": 2}]]),
+    ("text, int", "kg > 2"): '"names.csv" names 3 columns, order, ordered on, kg, and 2 types stand here. Each has its type, or a `-` where it is '
+                             "no column of the events.",
+    ("text, text, kg int", "kg > 2"): "Behind a `header` the types alone stand here, since the file has the names.",
+    ("text, text, float", "kg > 2"): "`float` is no type. It must be `text` or `int`. There are no decimals: count in a smaller unit, as 1250 cents "
+                                     "for 12.50, and write `int`.",
+}
 UNIT_LENGTHS = {"nanosecond": 1, "microsecond": 1_000, "millisecond": 1_000_000, "second": 1_000_000_000, "minute": 60_000_000_000,
                 "hour": 3_600_000_000_000, "day": 86_400_000_000_000, "week": 604_800_000_000_000}
 GOOD = 'reports = source "reports.csv" (machine text, load int)\nout = output reports\n'
@@ -247,6 +259,24 @@ def check_tables(differences: Differences) -> int:
     return len(rows) + len(levels) + len(units) + len(reserved)
 
 
+def check_spans(differences: Differences) -> int:
+    for unit, span, wanted in SPANS:
+        made = taken(f'unit {unit}\na = source "a.csv" ()\nb = shift a by {span}\n')
+        differences.expect((wanted, []), (made.nodes[-1].get("by"), made.faults), f"{span} in {unit}s")
+    return len(SPANS)
+
+
+def check_headers(differences: Differences, folder: Path) -> int:
+    """Columns by the header of a CSV: with a blank in a name, a column that is left out, and carriage returns."""
+    (folder / "names.csv").write_bytes(b'order,"ordered on",kg\r\n1,2,3\r\n')
+    for (types, behind), wanted in HEADERS.items():
+        source = f'a = source "a.csv" header "{folder}/names.csv" ({types})\nb = select a where {behind}\n'
+        made = taken(source)
+        came = (made.nodes[0]["fields"], made.nodes[1]["where"]) if not made.faults else made.faults[0].told.replace(f"{folder}/", "")
+        differences.expect(wanted, came, source)
+    return len(HEADERS)
+
+
 def taken(source: str) -> plan.Reader:
     """What comes of the statements of a part of a text."""
     found = list(text.statements(source))
@@ -384,6 +414,7 @@ def check_bad_input(differences: Differences, folder: Path) -> int:
         (["ask", "good.words"], 3, "good.words:1:18: Line 2 of reports.csv, the file of `reports`, has a fault."),
         (["ask", "good.words", "live", "none.txt"], 4, "none.txt: The script can't be read: there is no such file."),
         (["ask", "good.words", "runs"], 1, "cedr-plan: `runs` is no command that answers a plan. They are run, pool N"),
+        (["ask", "good.words", "pool", "99"], 1, "cedr-plan: N is `99`. It must be a number from 1 to 16 in digits"),
         (["ask", "good.words", "pool"], 1, "cedr-plan: `pool` is no command that answers a plan."),
         (["compile"], 1, "usage: cedr-plan compile FILE | words PLAN | check FILE | ask FILE [COMMAND WORD..]"),
         (["compile", "good.words", "more"], 1, "usage: cedr-plan"),
@@ -449,11 +480,11 @@ def main() -> int:
         trips = check_round_trips(differences, program, here)
         mistakes = check_mistakes(differences) + check_several(differences)
         spoilt_ones = check_spoilt(differences)
-        rows, pairs = check_tables(differences), check_pairs(differences)
+        rows, pairs = check_tables(differences) + check_spans(differences) + check_headers(differences, here), check_pairs(differences)
         commands = check_commands(differences, program, Path(copy))
         patterns, answers = check_patterns(differences, here), check_answers(differences, here)
         bad = check_bad_input(differences, here)
-    print(f"words: {trips} documents in words and back, {mistakes} texts with mistakes, {spoilt_ones} spoilt ones, {rows} rows of tables, {pairs} documents and {commands} commands "
+    print(f"words: {trips} documents in words and back, {mistakes} texts with mistakes, {spoilt_ones} spoilt ones, {rows} rows of tables and other forms, {pairs} documents and {commands} commands "
           f"of pages, {patterns} patterns, {answers} answers, {bad} bad inputs: {differences.count} differences")
     return 1 if differences.count else 0
 

@@ -12,6 +12,7 @@ from typing import Iterator, NamedTuple
 import cedr_explain.command as explained
 import cedr_explain.language as language
 import cedr_explain.outside as outside
+import cedr_explain.usage as usage
 from cedr_explain.commands import COMMANDS, Call
 from cedr_explain.plan import Plan as Document
 from cedr_plan.plan import Plan
@@ -64,7 +65,7 @@ def with_program(asked: Asked, command: str, write) -> int:
         except OSError as error:
             raise Failed(UNSTARTED, f"cedr-plan: {program} can't be started: {error.strerror}") from None
         told = handed_on(process, write)
-        return status_of(asked, Call(words), process.returncode, told)
+        return status_of(asked, words, process.returncode, told)
 
 
 def handed_on(process: subprocess.Popen, write) -> list:
@@ -87,9 +88,9 @@ def handed_on(process: subprocess.Popen, write) -> list:
     return told
 
 
-def status_of(asked: Asked, call: Call, status: int, told: list) -> int:
+def status_of(asked: Asked, words: list, status: int, told: list) -> int:
     """The status of the program, whose refusal is told in sentences."""
-    lines = list(refusal(asked, call, status, told)) if status else []
+    lines = list(refusal(asked, words, status, told)) if status else []
     if lines:
         raise Failed(status if status > 0 else 128 - status, *lines)
     return DONE
@@ -154,10 +155,12 @@ def checked(asked: Asked) -> int:
 # refusals
 
 
-def refusal(asked: Asked, call: Call, status: int, told: list) -> Iterator[str]:
+def refusal(asked: Asked, words: list, status: int, told: list) -> Iterator[str]:
     """What a status of the program and its lines mean, at their places in the words."""
-    document = Document(asked.plan.text().encode())
-    if status == BAD_PLAN:
+    document, call = Document(asked.plan.text().encode()), Call(words)
+    if status == USAGE:
+        yield from (f"cedr-plan: {one}" for one in usage.explained(words))
+    elif status == BAD_PLAN:
         yield from of_node(asked, told)
     elif status == BAD_EVENTS:
         for line in told:
