@@ -45,6 +45,12 @@ CASES = [
     # two of the three: A and B as above, 10 and 11, 8 and 11, 11 and 14; the C of q at 15 begins with the B of q, and 3 after A
     Case("ATLEAST", "ATLEAST(2, A x, B y, C z, 10) WHERE {x.m = y.m} AND {y.m = z.m} OUTPUT first.n, second.n", "first.n,second.n",
          ["10,18,3,1", "11,18,3,7", "11,20,1,7", "14,20,1,4", "14,21,7,4", "15,22,2,5", "15,22,2,8"]),
+    # the sequences A at 10 and B at 14 of p, A at 12 and B at 15 of q; those of B and C: 8 and 11 of p, and 14 and 40, 30 and 40 of p
+    Case("ALL of SEQUENCEs",
+         "ALL(SEQUENCE(A x, B y, 10), SEQUENCE(B u, C v, 30), 30) WHERE {x.m = y.m} AND {u.m = v.m} AND {x.m = u.m}",
+         "first.x.m,first.x.n,first.y.m,first.y.n,second.x.m,second.x.n,second.y.m,second.y.n", ["14,41,p,3,p,7,p,1,p,4", "40,44,p,1,p,4,p,4,p,9", "40,44,p,1,p,4,p,6,p,9"]),
+    Case("SEQUENCE of an ALL", "SEQUENCE(ALL(A x, B y, 10), C z, 40) WHERE {x.m = y.m} AND {first.m = z.m} OUTPUT first.n, z.n", "first.n,z.n",
+         ["11,50,3,7", "40,50,3,9", "40,54,1,9"]),
     Case("ANY", "ANY(A x, C y) OUTPUT first.n", "first.n", ["10,11,1", "11,12,7", "12,13,2", "15,16,8", "40,41,9"]),
     # of p 11 lies between 10 and 14; of q 15 is where the last event begins, and so isn't between
     Case("NOT", "NOT(C z, SEQUENCE(A x, B y, 10)) WHERE {x.m = y.m} AND {x.m = z.m} OUTPUT x.m", "x.m", ["15,22,q"]),

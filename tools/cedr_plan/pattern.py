@@ -4,6 +4,7 @@ Each operator of a pattern becomes one node, or more where one can't say it, and
 that has all the events that they name."""
 from __future__ import annotations
 
+from collections import Counter
 from typing import NamedTuple
 
 import cedr_explain.advice as advice
@@ -95,6 +96,8 @@ class Translator:
             raise Refused(op.place, f"NOT has an event, and the SEQUENCE in which it must not come: {FORMS['NOT']}.")
         event = self.tested(self.event(rest[0]))
         parts, span = self.arguments(rest[1], 2, 4)
+        if self.apart(parts) != parts:
+            raise Refused(op.place, "Two parts of this SEQUENCE call their events first and second, and nothing says which of them is meant.")
         made = Between(self, op.place, event, parts, span).made()
         for variable in event.fronts:
             self.hidden[variable] = "what must not come, so no event of it is there afterwards"
@@ -117,7 +120,7 @@ class Translator:
 
     def joined(self, call: Call, op: str, parts: list, clauses: list) -> Part:
         """A node over these parts that calls each by a short name, with the tests of their events."""
-        shorts = self.shorts(parts)
+        shorts, parts = self.shorts(parts), self.apart(parts)
         fronts = {name: (short, *front) for part, short in zip(parts, shorts) for name, front in part.fronts.items()}
         tests = Tests(with_fronts(test, fronts) for test in self.taken(fronts))
         clauses = [*clauses, *([("where", tests)] if tests else [])]
@@ -127,7 +130,7 @@ class Translator:
         """ALL, ANY and ATLEAST: so many of these events, in whatever order they come."""
         number, rest = self.number(call)
         parts, span = self.arguments(call._replace(arguments=rest), 2, 4)
-        parts = [self.tested(part) for part in parts]
+        parts = self.apart([self.tested(part) for part in parts])
         number = number or Word(str(len(parts)), call.op.place, "NUMBER")
         names = [name for part in parts for name in part.fronts]
         tests = self.alike(call, parts, self.taken(dict.fromkeys(names, ())), whole(number, 1, 2**63))
@@ -139,6 +142,13 @@ class Translator:
         for one in names:
             self.hidden[one] = f"an {call.op.text}, whose events stand in the order of their begins: they are called first, second and so on"
         return Part(name.text, call.op.place, {one: (one,) for one in ORDINALS[:whole(number, 1, 2**63)]})
+
+    def apart(self, parts: list) -> list:
+        """The parts without the names of events that two of them have, as two ALL have a first one."""
+        counts = Counter(name for part in parts for name in part.fronts)
+        for name in [name for name, count in counts.items() if count > 1]:
+            self.hidden[name] = "two parts of the pattern, and nothing says which one is meant"
+        return [part._replace(fronts={name: front for name, front in part.fronts.items() if counts[name] == 1}) for part in parts]
 
     def number(self, call: Call) -> tuple:
         """How many of the events, or None for all; and the other arguments."""
@@ -170,16 +180,16 @@ class Translator:
 
     def alike(self, call: Call, parts: list, tests: list, number: int) -> Tests:
         """The tests of an ALL or an ATLEAST, which can't tell its events apart: that all have one value in a column."""
-        names = {name: part for part in parts for name in part.fronts}
+        home = {name: place for place, part in enumerate(parts) for name in part.fronts}
         groups = {}
         for test in tests:
-            columns = [self.column(path, names[path.parts[0]]) for path in paths_of(test)]
+            columns = [self.column(path, parts[home[path.parts[0]]]) for path in paths_of(test)]
             if test.sign.text != "=" or len(set(columns)) != 1:
                 raise self.unequal(call, test)
-            merge(groups.setdefault(columns[0], []), {path.parts[0] for path in paths_of(test)})
+            merge(groups.setdefault(columns[0], []), {home[path.parts[0]] for path in paths_of(test)})
         made = Tests()
         for number_of_column, sets in groups.items():
-            if len(sets[0]) != len(names):
+            if len(sets[0]) != len(parts):
                 raise self.unequal(call, tests[0])
             own = self.maker.columns[parts[0].node][number_of_column].name
             for before, after in zip(ORDINALS[:number - 1], ORDINALS[1:number]):
