@@ -20,7 +20,8 @@ SAID_ELSEWHERE = [
     (r"or\b|OR\b|\|\|", "There is no `or`: two selects, each with one side, and a `union` of them say it."),
     (r"&&|AND\b", "Tests are joined by `and`."),
     (r"not\b|NOT\b|!(?!=)", "There is no `not`: turn the comparison round, as `!=` for `=` and `<` for `>=`."),
-    (r"'", "A text stands between double quotes (\")."),
+    (r"['“”„‘’«»]", "A text stands between double quotes (\")."),
+    (r"[^\S ]", "A blank is the plain one or a tab."),
     (r"//|--|/\*", "What is said to people alone stands behind a `#`."),
     (r";", "A statement ends with its line, and without a sign."),
     (r"[Ww][Ii][Tt][Hh][Ii][Nn]\b", "Words are written in small letters: `within`."),
@@ -94,6 +95,10 @@ def wrong_word(statement: Statement, error, place: int) -> tuple:
     accepted = accepted_words(statement, sorted(error.accepts or error.expected))
     if error.token.type == "$END":
         return statement.place + place, f"The statement ends here. {may_stand(accepted)}"
+    begun = begun_again(statement, place)
+    if begun is not None:
+        return statement.place + begun, ("This line goes on with the statement above, since it begins with a blank. A statement begins at the begin "
+                                         "of its line.")
     misspelt = word_before(statement, place)
     if misspelt:
         meant = advice.near(misspelt[1], CLAUSE_WORDS)
@@ -102,6 +107,13 @@ def wrong_word(statement: Statement, error, place: int) -> tuple:
     keyword = advice.near(word, [one.strip("`") for one in accepted if one.startswith("`")])
     said = f"Perhaps `{keyword}` is meant." if keyword and keyword != word else elsewhere(statement.text, place)
     return statement.place + place, f"`{word}` can't stand here. {said or may_stand(accepted)}"
+
+
+def begun_again(statement: Statement, place: int) -> int | None:
+    """Where the line of this place begins with a name and `=`, as a statement does, though a blank stands in front."""
+    line = statement.text.rfind("\n", 0, place) + 1
+    name = len(statement.text[line:]) - len(statement.text[line:].lstrip(" \t")) + line
+    return name if 0 < line < name and BEGUN.match(statement.text, name) and place <= BEGUN.match(statement.text, name).end() else None
 
 
 def word_before(statement: Statement, place: int):

@@ -3,6 +3,7 @@ from __future__ import annotations
 
 from typing import NamedTuple
 
+import cedr_explain.advice as advice
 from cedr_explain.language import MOST_NODES, OPERATORS, PLAN_BYTES, VERSIONS
 from cedr_plan import form, pattern
 from cedr_plan.document import laid_out
@@ -190,6 +191,9 @@ def about_statement(word: str, behind: str) -> str:
         return f"A node has a name in front of its operator: {'out' if word == 'output' else 'name'} = {word} {behind}."
     if word.upper() == "EVENT":
         return "A pattern begins with EVENT, and its words are in capitals."
+    near = advice.near(word, SETTINGS)
+    if near:
+        return f"Perhaps `{near}` is meant."
     known = listed((f"`{one}`" for one in SETTINGS), "or")
     return f"A node is a name, `=`, and an operator with what it reads; a line without `=` begins with {known}."
 
