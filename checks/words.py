@@ -181,7 +181,7 @@ def check_mistakes(differences: Differences) -> int:
 
 def check_caret(differences: Differences, one, lines: list, number: int, column: int) -> None:
     """The caret stands under the sign at the place; what is left of it in the line may be cut."""
-    own = one.text.split("\n")[number - 1]
+    own = "".join(sign if sign.isprintable() else " " for sign in one.text.split("\n")[number - 1])
     shown, caret = lines[0][4:], len(lines[1]) - 1
     differences.expect("^", lines[1].strip(), f"{one.name}: the caret")
     if column <= len(own):

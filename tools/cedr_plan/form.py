@@ -12,8 +12,11 @@ from cedr_plan.text import Statement, check_begin
 from cedr_plan.tree import Builder
 
 DEEPEST = 64
+SETTINGS = ("unit", "epoch", "version", "edge")
+EVENT_LINE = re.compile(r"[+\-~=],")
 PATTERN = re.compile(r"EVENT\b(?!\s*=)")
 BEGUN = re.compile(r"(?:([^\W\d]\w*)|(`(?:[^`\\\n]|\\.)*`))\s*=\s*([^\W\d]\w*)?")
+FIRST_WORDS = re.compile(r"(\w*)[ \t]*(\w*)")
 BUILDER = Builder()
 # What other languages write, by the letters that stand at the place, and what is written here.
 SAID_ELSEWHERE = [
@@ -50,8 +53,9 @@ def read(statement: Statement):
     if statement.text[0] in "{[":
         raise Refused(statement.place, "This is JSON, and not a plan in words. `cedr-plan words PLAN` writes a document as words.")
     check_begin(statement)
-    is_pattern = bool(PATTERN.match(statement.text))
+    check_start(statement)
     check_depth(statement)
+    is_pattern = bool(PATTERN.match(statement.text))
     BUILDER.base = statement.place
     try:
         return parser(BUILDER).parse(statement.text, start="pattern" if is_pattern else "statement")
@@ -61,6 +65,29 @@ def read(statement: Statement):
         # the end has the place of the last word before it
         place = error.token.end_pos if error.token.type == "$END" else error.token.start_pos
         raise Refused(*wrong_word(statement, error, place)) from None
+
+
+def check_start(statement: Statement) -> None:
+    """Refuses what begins neither as a node, nor as a pattern or a setting."""
+    if EVENT_LINE.match(statement.text):
+        raise Refused(statement.place, "This is a line of an event file, and not a plan in words. A source reads such a file.")
+    if BEGUN.match(statement.text) or PATTERN.match(statement.text) or statement.text[0] == "`":
+        return
+    first, second = FIRST_WORDS.match(statement.text).groups()
+    if first and first not in SETTINGS:
+        raise Refused(statement.place, f"`{f'{first} {second}'.rstrip()}` is no statement. {about_statement(first, second)}")
+
+
+def about_statement(word: str, behind: str) -> str:
+    """What a line without `=` is likely meant as."""
+    if word in OPERATORS and behind:
+        return f"A node has a name in front of its operator: {'out' if word == 'output' else 'name'} = {word} {behind}."
+    if word.upper() == "EVENT":
+        return "A pattern begins with EVENT, and its words are in capitals."
+    near = advice.near(word, SETTINGS)
+    if near:
+        return f"Perhaps `{near}` is meant."
+    return f"A node is a name, `=`, and an operator with what it reads; a line without `=` begins with {listed((f'`{one}`' for one in SETTINGS), 'or')}."
 
 
 def check_depth(statement: Statement) -> None:

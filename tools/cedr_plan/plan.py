@@ -3,19 +3,17 @@ from __future__ import annotations
 
 from typing import NamedTuple
 
-import cedr_explain.advice as advice
 from cedr_explain.language import MOST_NODES, OPERATORS, PLAN_BYTES, VERSIONS
 from cedr_plan import form, pattern
 from cedr_plan.document import laid_out
 from cedr_plan.node import Maker
-from cedr_plan.refused import MOST_TOLD, Refused, listed
+from cedr_plan.refused import MOST_TOLD, Refused
 from cedr_plan.text import Statement, statements
 from cedr_plan.tree import File, Node, Pattern, Setting
 from cedr_plan.tests import whole
 from cedr_plan.units import Calendar, moment_of, unit_named
 
 MOST_EDGE = 1_024
-SETTINGS = ("unit", "epoch", "version", "edge")
 
 
 class Found(Exception):
@@ -50,7 +48,7 @@ def compiled(text: str) -> Plan:
     reader = Reader(frozenset(map(form.name_of, found)))
     for statement in found:
         reader.take(statement)
-        if len(reader.faults) >= MOST_TOLD:
+        if len(reader.faults) >= MOST_TOLD or len(reader.nodes) > MOST_NODES:
             break
     return reader.plan(text)
 
@@ -77,8 +75,6 @@ class Reader:
 
     def set(self, setting: Setting) -> None:
         word, value = setting
-        if word.text not in SETTINGS:
-            raise Refused(word.place, f"`{word.text} {value.text}` is no statement. {about_statement(word.text, value.text)}")
         if word.text in self.settings:
             raise Refused(word.place, f"`{word.text}` stands twice. A plan says it once.")
         if self.nodes and word.text == "unit":
@@ -183,19 +179,6 @@ class Reader:
                 what = f"the {node['op']} `{node['name']}`"
                 raise Refused(place, f"Version {version} hasn't all that {what} says. Write version {least_version(node)}, or leave this line out: "
                                      "then the document has the least version that does.")
-
-
-def about_statement(word: str, behind: str) -> str:
-    """What a line without `=` is likely meant as."""
-    if word in OPERATORS:
-        return f"A node has a name in front of its operator: {'out' if word == 'output' else 'name'} = {word} {behind}."
-    if word.upper() == "EVENT":
-        return "A pattern begins with EVENT, and its words are in capitals."
-    near = advice.near(word, SETTINGS)
-    if near:
-        return f"Perhaps `{near}` is meant."
-    known = listed((f"`{one}`" for one in SETTINGS), "or")
-    return f"A node is a name, `=`, and an operator with what it reads; a line without `=` begins with {known}."
 
 
 def least_version(node: dict) -> int:
