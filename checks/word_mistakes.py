@@ -257,6 +257,8 @@ PATTERNS = [
     pattern("an ANY with a span", "ANY(reports r, reports s, 5 s)", "5 s)", "ANY has no span, since one event is enough: ANY(A x, B y)."),
     pattern("a NOT of no sequence", "NOT(visits v, reports r)", "NOT", "NOT has an event, and the SEQUENCE in which it must not come: NOT(C z, SEQUENCE(A x, B y, 5 minutes))."),
     pattern("a NOT that is tied to one end", "NOT(visits v, SEQUENCE(reports r, reports s, 5 s)) WHERE {v.machine = r.machine}", "v.machine", "`v.machine` is tied to one end of the sequence alone."),
+    pattern("a NOT whose ends aren't equal", "NOT(visits v, SEQUENCE(reports r, reports s, 5 s)) WHERE {r.machine = v.machine} AND {v.machine = s.machine}",
+            "v.machine} AND", "`v.machine` is equal to `r.machine` and to `s.machine`. Say that these are equal too: {r.machine = s.machine}."),
     pattern("a NOT that is tied by another sign", "NOT(visits v, SEQUENCE(reports r, reports s, 5 s)) WHERE {v.cost < r.load}", "v.cost", "What must not come between is tied to the sequence by equal columns alone, and this test says `<`."),
     pattern("a level that there is none of", "reports r WITH LEVEL weak", "weak", "`weak` can't stand here."),
     pattern("events of other types in an ALL", "ALL(reports r, visits v, 5 s)", "visits v", "The inputs of an `atleast` have columns of the same types"),

@@ -5,7 +5,7 @@ import random
 import re
 from typing import NamedTuple
 
-TYPES = "".join(f'{name} = source "{name.lower()}.csv" (m text, n int)\n' for name in "ABC")
+TYPES = 'K = source "c.csv" (count text, n int)\n' + "".join(f'{name} = source "{name.lower()}.csv" (m text, n int)\n' for name in "ABC")
 # The begin, the machine and the number of each event. Each holds for one unit, but for the one of A at 10.
 EVENTS = {
     "A": [(10, "p", 1), (12, "q", 2)],
@@ -61,6 +61,9 @@ CASES = [
     # the B of p at 8 is before 10, and no B between 10 and 40 but 14 and 30
     Case("NOT of the last one's type", "NOT(B z, SEQUENCE(A x, B y, 100)) WHERE {x.m = y.m} AND {x.m = z.m} OUTPUT y.n", "y.n",
          ["14,110,4", "15,112,5"]),
+    # no A has the number of a B
+    Case("NOT by two columns", "NOT(C z, SEQUENCE(A x, B y, 10)) WHERE {x.m = y.m} AND {z.m = y.m} AND {z.n = x.n AND x.n = y.n}", "x.m,x.n,y.m,y.n", []),
+    Case("NOT of a column that is called count", "NOT(K z, SEQUENCE(A x, B y, 10)) WHERE {x.m = y.m} AND {z.count = x.m} OUTPUT x.m", "x.m", ["15,22,q"]),
     Case("NOT of three", "NOT(C z, SEQUENCE(B w, A x, B y, 10)) WHERE {w.m = x.m} AND {x.m = y.m} AND {y.m = z.m} OUTPUT w.n", "w.n", []),
     Case("one event", 'A x WHERE {x.m = "q"} OUTPUT x.n', "x.n", ["12,13,2"]),
     Case("one event without a name", "A", "m,n", ["12,13,q,2", "10,50,p,1"]),
@@ -84,14 +87,24 @@ def event_lines(name: str, rows: list) -> str:
                    for number, (begin, machine, value) in enumerate(rows))
 
 
-NOT_TEXT = TYPES + "EVENT q\nWHEN NOT(C z, SEQUENCE(A x, B y, {}))\nWHERE {{x.m = y.m}} AND {{z.m = y.m}}\nOUTPUT x.n, y.n\n"
+# The tests of a NOT, by which columns its events are tied, and by which those of the sequence are.
+NOT_TESTS = {
+    "{x.m = y.m} AND {z.m = y.m}": ((1,), (1,)),
+    "{x.m = y.m}": ((), (1,)),
+    "{x.m = y.m AND x.n = y.n} AND {z.m = y.m} AND {z.n = x.n}": ((1, 2), (1, 2)),
+    "{x.m = y.m AND x.n = y.n} AND {z.n = y.n}": ((2,), (1, 2)),
+}
 
 
 def random_not(rng: random.Random) -> tuple:
-    """A text, the lines of its files, and the rows by the definition: no event of C strictly between the two begins."""
-    events = {name: [(rng.randrange(25), rng.choice("pq"), rng.randrange(3)) for _ in range(rng.randrange(6))] for name in "ABC"}
-    span = rng.choice([3, 8, 20])
-    rows = [(first + span, second, x, y) for first, m, x in events["A"] for second, other, y in events["B"]
-            if m == other and first < second < first + span and not any(first < at < second and by == m for at, by, _ in events["C"])]
+    """A text, the lines of its files, and the rows by the definition: no such event of C strictly between the two begins."""
+    events = {name: [(rng.randrange(25), rng.choice("pq"), rng.randrange(2)) for _ in range(rng.randrange(7))] for name in "ABC"}
+    span, tests = rng.choice([3, 8, 20]), rng.choice([*NOT_TESTS])
+    tied, joined = NOT_TESTS[tests]
+    rows = [(x[0] + span, y[0], x[2], y[2]) for x in events["A"] for y in events["B"]
+            if all(x[column] == y[column] for column in joined) and x[0] < y[0] < x[0] + span
+            and not any(x[0] < z[0] < y[0] and all(z[column] == y[column] for column in tied) for z in events["C"])]
     lines = {f"{name.lower()}.csv": event_lines("", one) for name, one in events.items()}
-    return NOT_TEXT.format(span), lines, [f"{begin},{end},{x},{y}" for end, begin, x, y in sorted(rows)]
+    sources = "".join(line for line in TYPES.splitlines(keepends=True) if line[0] in "ABC")
+    text = f"{sources}EVENT q\nWHEN NOT(C z, SEQUENCE(A x, B y, {span}))\nWHERE {tests}\nOUTPUT x.n, y.n\n"
+    return text, lines, [f"{begin},{end},{x},{y}" for end, begin, x, y in sorted(rows)]

@@ -53,7 +53,7 @@ from cedr_explain.plan import Plan as Document
 from cedr_plan import form, plan, refused, text, words
 
 TOOL = ROOT / "tools/cedr-plan"
-DOCUMENTS, OF_THEM_CHECKED, NOTS, SPOILT = 1_500, 150, 20, 1_000
+DOCUMENTS, OF_THEM_CHECKED, NOTS, SPOILT = 1_500, 150, 30, 1_000
 SHOWN, SECONDS, SEED = 5, 60, 71
 CODE = re.compile("`([^`]+)`")
 PAIR = re.compile(r"```words\n((?:(?!```).)*?)```\n(?:(?!```).)*?```json\n(.*?)```", re.DOTALL)

@@ -10,7 +10,7 @@ from typing import NamedTuple
 from cedr_plan.refused import Refused
 from cedr_plan.tree import Item, Items, Path, Test, Tests, Word, spelt_path
 
-COUNTED = "counted"
+COUNTED, BEGUN = "counted", "events begun so far"
 
 
 class Key(NamedTuple):
@@ -21,32 +21,53 @@ class Key(NamedTuple):
 
 
 def keys_of(variable: str, tests: list, parts: list) -> list:
-    """The columns by which the tests tie z to the first part and to the last one, directly or by way of other events."""
-    classes = []
+    """The columns by which the tests tie z to both ends of the sequence, whose own tests say that these are equal."""
+    tied, own = {}, [test for test in tests if not names_event(test, variable)]
     for test in tests:
-        if test.sign.text == "=" and isinstance(test.right, Path):
-            joined = [one for one in classes if {test.left.parts, test.right.parts} & one]
-            classes = [one for one in classes if one not in joined] + [{test.left.parts, test.right.parts}.union(*joined)]
-    keys = {}
-    for test in tests:
-        own = next((path for path in (test.left, test.right) if isinstance(path, Path) and path.parts[0] == variable), None)
-        if own is None:
+        if test in own:
             continue
         if test.sign.text != "=":
-            raise Refused(test.left.place, f"What must not come between is tied to the sequence by equal columns alone, and this test says `{test.sign.text}`.")
-        tied = next(one for one in classes if own.parts in one)
-        ends = [tied_path(own, tied, part) for part in (parts[0], parts[-1])]
-        keys[own.parts[1:]] = Key(own.parts[1:], *ends)
-    return list(keys.values())
+            raise Refused(test.left.place, "What must not come between is tied to the sequence by equal columns alone, and this test says "
+                                           f"`{test.sign.text}`.")
+        here, there = sorted(test.paths(), key=lambda path: path.parts[0] != variable)
+        tied.setdefault(here.parts[1:], []).append((here, there))
+    return [key_of(column, pairs, equal_columns(own), parts) for column, pairs in tied.items()]
 
 
-def tied_path(own: Path, tied: set, part) -> Path:
-    for parts in sorted(tied):
+def key_of(column: tuple, pairs: list, equal: list, parts: list) -> Key:
+    here, first = pairs[0]
+    alike = next((one for one in equal if first.parts in one), {first.parts})
+    for _, other in pairs[1:]:
+        if other.parts not in alike:
+            told = f"{spelt_path(first.parts)} = {spelt_path(other.parts)}"
+            raise Refused(here.place, f"`{spelt_path(here.parts)}` is equal to `{spelt_path(first.parts)}` and to `{spelt_path(other.parts)}`. Say that "
+                                      f"these are equal too: {{{told}}}.")
+    return Key(column, *[end_of(here, first, alike, part) for part in (parts[0], parts[-1])])
+
+
+def equal_columns(tests: list) -> list:
+    """The sets of columns that these tests say are equal."""
+    classes = []
+    for test in tests:
+        if test.sign.text == "=" and len(test.paths()) == 2:
+            new = {path.parts for path in test.paths()}
+            met = [one for one in classes if new & one]
+            classes = [one for one in classes if one not in met] + [new.union(*met)]
+    return classes
+
+
+def end_of(here: Path, first: Path, alike: set, part) -> Path:
+    """The column of this end of the sequence among those that are equal to one of z."""
+    for parts in sorted(alike):
         if parts[0] in part.fronts:
-            return Path(parts, own.place)
-    missing = spelt_path((next(iter(part.fronts)), *own.parts[1:]))
-    raise Refused(own.place, f"`{spelt_path(own.parts)}` is tied to one end of the sequence alone. Say what it is equal to at the other end too, "
-                             f"as in {{{missing} = {spelt_path(own.parts)}}}.")
+            return Path(parts, here.place)
+    told = f"{spelt_path(first.parts)} = {spelt_path((next(iter(part.fronts)), *first.parts[1:]))}"
+    raise Refused(here.place, f"`{spelt_path(here.parts)}` is tied to one end of the sequence alone. Say which column of the other end is equal, as in "
+                              f"{{{told}}}.")
+
+
+def names_event(test: Test, variable: str) -> bool:
+    return any(path.parts[0] == variable for path in test.paths())
 
 
 class Between:
@@ -58,7 +79,7 @@ class Between:
         names = {name for part in (*parts, event) for name in part.fronts}
         tests = translator.taken(names)
         variable = next(iter(event.fronts))
-        self.tests = [test for test in tests if not any(path.parts[0] == variable for path in paths(test))]
+        self.tests = [test for test in tests if not names_event(test, variable)]
         self.keys = keys_of(variable, tests, parts)
 
     def made(self):
@@ -69,7 +90,8 @@ class Between:
         numbered = [self.numbered(first, self.counted(begun), [key.first for key in self.keys]),
                     self.numbered(last, self.counted(before), [key.last for key in self.keys])]
         alone = self.without(last, before)
-        same = Test(Path(("first", COUNTED, "count"), self.place), Word("=", self.place, "SIGN"), Path(("last", COUNTED, "count"), self.place))
+        ends = [Path((end, COUNTED, BEGUN), self.place) for end in ("first", "last")]
+        same = Test(ends[0], Word("=", self.place, "SIGN"), ends[1])
         ways = [self.matches([numbered[0], *self.parts[1:-1], numbered[1]], [same]),
                 self.matches([self.parts[0], *self.parts[1:-1], alone], [])]
         fronts = {name: (name,) for part in self.parts for name in part.fronts}
@@ -81,7 +103,7 @@ class Between:
 
     def counted(self, begun):
         items = Items(Item(Path(key.own, self.place), None) for key in self.keys)
-        return self.make.node("group", [(begun, "")], [*([("by", items)] if items else []), ("count", None)], self.place)
+        return self.make.node("group", [(begun, "")], [*([("by", items)] if items else []), ("count", Path((BEGUN,), self.place))], self.place)
 
     def numbered(self, part, counted, ends: list):
         """The part's rows beside how many events there were for their keys."""
@@ -101,7 +123,7 @@ class Between:
         """A sequence of these parts, whose columns are those of their events alone."""
         shorts = ["first", *(f"p{place}" for place in range(2, len(parts))), "last"]
         fronts = {name: (short, *front) for part, short in zip(parts, shorts) for name, front in part.fronts.items()}
-        own = [self.make.with_fronts(test, fronts) for test in self.tests]
+        own = [test.behind(fronts) for test in self.tests]
         clauses = [("within", self.span), *([("where", Tests([*own, *more]))] if own or more else [])]
         found = self.make.node("sequence", list(zip(parts, shorts)), clauses, self.place)
         items = Items(self.item(name, column, fronts) for part in self.parts for name in part.fronts
@@ -110,7 +132,3 @@ class Between:
 
     def item(self, name: str, column: tuple, fronts: dict) -> Item:
         return Item(Path((*fronts[name], *column), self.place), Path((name, *column), self.place))
-
-
-def paths(test: Test) -> list:
-    return [one for one in (test.left, test.right) if isinstance(one, Path)]

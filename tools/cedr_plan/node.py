@@ -11,7 +11,7 @@ from cedr_plan.columns import ORDINALS, Column, Reach, behind, check_unlike, of_
 from cedr_plan.refused import Refused, a_word, listed
 from cedr_plan.source import columns_of
 from cedr_plan.tests import listed_columns, tests_of, whole
-from cedr_plan.tree import Counted, File, Input, Items, Name, Node, Path, Tests, spelt, text_of
+from cedr_plan.tree import Counted, File, Input, Items, Name, Node, Tests, spelt, text_of
 from cedr_plan.units import span_in
 
 ADDED = "kept"
@@ -260,4 +260,4 @@ def paths_of(value) -> list:
     """The names of columns in what stands behind the word of a clause."""
     if isinstance(value, Items):
         return [item.path for item in value]
-    return [side for test in value for side in (test.left, test.right) if isinstance(side, Path)] if isinstance(value, Tests) else []
+    return [path for test in value for path in test.paths()] if isinstance(value, Tests) else []

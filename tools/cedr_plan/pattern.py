@@ -110,9 +110,6 @@ class Translator:
         self.add(name, Word(op, place), inputs, [clause(word, value, place) for word, value in clauses])
         return Part(name.text, place, {})
 
-    def with_fronts(self, test: Test, fronts: dict) -> Test:
-        return with_fronts(test, fronts)
-
     def columns_of(self, part: Part, name: str) -> list:
         """The columns of one event of a part, by their own names."""
         front = part.fronts[name]
@@ -122,7 +119,7 @@ class Translator:
         """A node over these parts that calls each by a short name, with the tests of their events."""
         shorts, parts = self.shorts(parts), self.apart(parts)
         fronts = {name: (short, *front) for part, short in zip(parts, shorts) for name, front in part.fronts.items()}
-        tests = Tests(with_fronts(test, fronts) for test in self.taken(fronts))
+        tests = Tests(test.behind(fronts) for test in self.taken(fronts))
         clauses = [*clauses, *([("where", tests)] if tests else [])]
         return self.node(op, list(zip(parts, shorts)), clauses, call.op.place)._replace(fronts=fronts)
 
@@ -183,10 +180,10 @@ class Translator:
         home = {name: place for place, part in enumerate(parts) for name in part.fronts}
         groups = {}
         for test in tests:
-            columns = [self.column(path, parts[home[path.parts[0]]]) for path in paths_of(test)]
+            columns = [self.column(path, parts[home[path.parts[0]]]) for path in test.paths()]
             if test.sign.text != "=" or len(set(columns)) != 1:
                 raise self.unequal(call, test)
-            merge(groups.setdefault(columns[0], []), {home[path.parts[0]] for path in paths_of(test)})
+            merge(groups.setdefault(columns[0], []), {home[path.parts[0]] for path in test.paths()})
         made = Tests()
         for number_of_column, sets in groups.items():
             if len(sets[0]) != len(parts):
@@ -214,7 +211,7 @@ class Translator:
 
     def taken(self, fronts: dict) -> list:
         """The tests that name these events alone. They are left no more."""
-        tests = [test for test in self.left if all(path.parts[0] in fronts for path in paths_of(test))]
+        tests = [test for test in self.left if all(path.parts[0] in fronts for path in test.paths())]
         self.left = [test for test in self.left if test not in tests]
         return tests
 
@@ -223,11 +220,11 @@ class Translator:
         tests = self.taken(part.fronts)
         if not tests:
             return part
-        where = Tests(with_fronts(test, part.fronts) for test in tests)
+        where = Tests(test.behind(part.fronts) for test in tests)
         return self.node("select", [(part, "")], [("where", where)], part.place)._replace(fronts=part.fronts)
 
     def untaken(self, test: Test) -> Refused:
-        for path in paths_of(test):
+        for path in test.paths():
             if path.parts[0] in self.hidden:
                 return Refused(path.place, f"`{spelt(path.parts[0])}` is of {self.hidden[path.parts[0]]}.")
         return Refused(test.sign.place, "No part of the pattern has both events of this test.")
@@ -297,7 +294,7 @@ def check_names(events: list, tests: list) -> None:
             raise Refused(own.place, f"Two events are called `{own.text}`. Give each a name of its own, as in {spelt(event.type.text)} x.")
         names[own.text] = event
     for test in tests:
-        for path in paths_of(test):
+        for path in test.paths():
             if path.parts[0] not in [*names, *ORDINALS] or len(path.parts) < 2:
                 raise no_event(path, names)
 
@@ -310,16 +307,6 @@ def no_event(path: Path, names) -> Refused:
     near = advice.near(path.parts[0], names)
     hint = f"Perhaps `{near}` is meant. " if near else ""
     return Refused(path.place, f"There is no event `{spelt(path.parts[0])}` here. {hint}The events are {listed(map(spelt, names))}.")
-
-
-def paths_of(test: Test) -> list:
-    return [one for one in (test.left, test.right) if isinstance(one, Path)]
-
-
-def with_fronts(test: Test, fronts: dict) -> Test:
-    """The test with the names by which a node calls the columns."""
-    sides = [Path((*fronts[one.parts[0]], *one.parts[1:]), one.place) if isinstance(one, Path) else one for one in (test.left, test.right)]
-    return Test(sides[0], test.sign, sides[1])
 
 
 def merge(sets: list, new: set) -> None:

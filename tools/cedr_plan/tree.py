@@ -49,6 +49,15 @@ class Test(NamedTuple):
     sign: Word
     right: object
 
+    def paths(self) -> list:
+        return [one for one in (self.left, self.right) if isinstance(one, Path)]
+
+    def behind(self, fronts: dict) -> Test:
+        """The test with what stands in front of the columns of each event in place of the event's name."""
+        sides = [Path((*fronts[one.parts[0]], *one.parts[1:]), one.place) if isinstance(one, Path) else one
+                 for one in (self.left, self.right)]
+        return Test(sides[0], self.sign, sides[1])
+
 
 class Clause(NamedTuple):
     """A word, and the Span, the Items, the Tests or the Path behind it, or nothing."""
