@@ -1,8 +1,9 @@
 -- How a command ends, from how its steps went.
-use Rattle.std.proofs.Common.{◌≡◌, ◌≢◌, ℕ, zero, suc, Bool, ◌<◌, ◌⊎◌, inl, inr, List, [], ◌∷◌, ◌++◌, take, Option, None, Some, Result, Ok, Err, refl, sym, ap, ◌∙◌, subst, rules, tests, false}
+use Rattle.std.proofs.Common.{◌≡◌, ◌≢◌, ℕ, suc, Bool, ◌<◌, ◌⊎◌, inl, inr, List, [], ◌∷◌, ◌++◌, take, Option, None, Some, Result, Ok, Err, refl, sym, ap, ◌∙◌, subst, rules, tests, false}
 use Rattle.std.specs.Prelude.{IfSome, OnOk, OnErr}
 use Rattle.std.specs.Io.KnownBytes.{Appends, Keeps}
 use Rattle.std.proofs.lemmas.List.{append-nil, append_assoc}
+use Rattle.cedr_guard.specs.Spelt.{State}
 use Rattle.cedr_io.specs.Asked.{AppendsFront}
 use Rattle.cedr_io.specs.Counts.{Rose, last_count}
 use Rattle.cedr_plan.specs.Drawn.{drawn}
@@ -10,6 +11,7 @@ use Rattle.cedr_plan.specs.Plans.{plan_of}
 use Rattle.cedr_plan.specs.declared.fault.PlanKind.{PlanKind}
 use Rattle.cedr_plan.specs.declared.plan.Plan.{Plan}
 use Rattle.cedr_plan.specs.declared.plan.PlanNode.{PlanNode}
+use Rattle.cedr_save.specs.Checkpoints.{plan_sources, IsCheckpoint}
 use Rattle.plan_answer.specs.Sources.{AsksFirst, AreTold, source_files}
 use Rattle.node_laws.specs.Lists.{Lists, AreTables}
 use Rattle.plan_serial.specs.Rounds.{ByLine, all_messages}
@@ -28,7 +30,7 @@ use Rattle.cedr_table.specs.Operators.{Tables}
 use Rattle.cedr_commands.specs.Answers.{AnswersInTurns, AnswersQuery, IsPlanOf, IsNoPlan, OfPlan, Gives, Refuses, Begins, RefusesPlan, RefusesSources, GivesPlan, BeginsPlan}
 use Rattle.cedr_commands.specs.Commands.{Command, named_files}
 use Rattle.cedr_commands.specs.Seen.{FilesSeen, SinkSeen, SinkGains}
-use Rattle.cedr_commands.specs.Outcomes.{status_of, outcome_text, TellsLack, CommandEnds, AsksOnly, AsksPlan}
+use Rattle.cedr_commands.specs.Outcomes.{status_of, outcome_text, TellsLack, CommandEnds, AsksOnly, AsksPlan, AsksBehind, HoldsCheckpoint}
 use Rattle.cedr_commands.specs.Steps.{Texts, WritesText, Says, OpensPlan, OpensSources, StopsSources, CountsStep, ReadsSources, AreOpened, EndsWith, EndsSources}
 use Rattle.cedr_commands.specs.Ending.{Ends}
 use Rattle.plan_live.proofs.ShownLemmas.{front_all}
@@ -121,23 +123,27 @@ asks_none asked = record { count = 0; added = sym (append-nil asked) }
 pub asks_one : (old new : List (List ℕ)) (name : List ℕ) (names : List (List ℕ)) → new ≡ old ++ name ∷ [] → AsksFirst old new (name ∷ names)
 asks_one old new name names is = record { count = 1; added = is }
 
-none_taken : (count : ℕ) → ◌≡◌ {A = List (List ℕ)} (take count []) []
-none_taken zero = refl
-none_taken (suc count) = refl
-
--- of some names the first one was asked for at most
-pub asks_few : (old new : List (List ℕ)) (name : List ℕ) (names : List (List ℕ)) → AsksFirst old new (name ∷ []) → AsksFirst old new (name ∷ names)
-asks_few old new name names asks = by_count asks.count asks.added where
-  by_count : (count : ℕ) → new ≡ old ++ take count (name ∷ []) → AsksFirst old new (name ∷ names)
-  by_count zero added = record { count = 0; added = added }
-  by_count (suc count) added = record { count = 1; added = added ∙ ap (λ (more : List (List ℕ)). old ++ name ∷ more) (none_taken count) }
-
 -- of some names the first one was asked for, and then first ones of the others
 pub asks_more : (old now new : List (List ℕ)) (name : List ℕ) (names : List (List ℕ)) → now ≡ old ++ name ∷ [] → AsksFirst now new names → AsksFirst old new (name ∷ names)
 asks_more old now new name names is asks = record {
   count = suc asks.count;
   added = asks.added ∙ (ap (λ (before : List (List ℕ)). before ++ take asks.count names) is ∙ append_assoc old (name ∷ []) (take asks.count names));
 }
+
+-- ---- files behind a plan
+
+-- where a plan was opened of which this holds, and the first ones of its file and of these were asked for
+pub behind_plan : (files files' : FilesSeen) (file : List ℕ) (plan : Plan) (holds : List PlanNode → Type 0) (names : List (List ℕ)) → OpensPlan (Ok plan) (files.content file) → holds plan.nodes.items → AsksFirst files.asked files'.asked (file ∷ names) → AsksBehind files files' file holds names
+behind_plan files files' file plan holds names opened holding asked = record {
+  nodes = plan.nodes.items;
+  plan = λ told is. opened_plan (files.content file) (told file) plan is.0 opened;
+  holding = holding;
+  asked = asked;
+}
+
+-- a file that was read as a checkpoint is one, where it holds what it held before
+pub held_checkpoint : (files : FilesSeen) (after : Option (List ℕ)) (checkpoint : List ℕ) (nodes : List PlanNode) (states : List State) → after ≡ files.content checkpoint → IfSome after (λ bytes. IsCheckpoint (plan_sources nodes) states bytes) → HoldsCheckpoint files checkpoint nodes
+held_checkpoint files after checkpoint nodes states same h told is = (states, subst (λ (content : Option (List ℕ)). IfSome content (λ bytes. IsCheckpoint (plan_sources nodes) states bytes)) (same ∙ is.0) h)
 
 -- ---- commands over sources
 

@@ -2,17 +2,20 @@
 use Rattle.std.specs.Prelude.{ℕ, ◌≡◌, ◌≢◌, ◌<◌, ◌⊎◌, List, [], ◌∷◌, ◌++◌, codes}
 use Rattle.std.specs.Io.KnownBytes.{Appends, Keeps}
 use Rattle.cedr_io.specs.Asked.{AppendsFront}
+use Rattle.cedr_guard.specs.Spelt.{State}
 use Rattle.cedr_plan.specs.declared.plan.PlanNode.{PlanNode}
+use Rattle.cedr_save.specs.Checkpoints.{plan_sources, IsCheckpoint}
 use Rattle.plan_answer.specs.Sources.{AsksFirst, AreTold, source_files}
 use Rattle.cedr_text.specs.Texts.{line_feed}
 use Rattle.cedr_commands.specs.declared.command.Job.{Job}
-use Rattle.cedr_commands.specs.declared.command.Job.TheVariants.{Serial, Run, Pool, Stream, Audit, Live, Resume}
+use Rattle.cedr_commands.specs.declared.command.Job.TheVariants.{Serial, Run, Pool, Stream, Audit, Live, Save, Resume}
 use Rattle.cedr_commands.specs.declared.outcome.Outcome.{Outcome}
 use Rattle.cedr_commands.specs.declared.outcome.Outcome.TheVariants as outcome
 use Rattle.cedr_commands.specs.declared.status.Status.{Status}
 use Rattle.cedr_commands.specs.declared.status.Status.TheVariants as status
 use Rattle.cedr_commands.specs.Answers.{IsPlanOf, OfPlan, Gives, Refuses, Begins, RefusesPlan, RefusesSaving, RefusesCheckpoint, StreamsSoFar}
 use Rattle.cedr_commands.specs.Commands.{Command, named_files}
+use Rattle.cedr_commands.specs.Resuming.{CanSavePlan}
 use Rattle.cedr_commands.specs.Refusals.{plan_fault_text, unsaved_text, checkpoint_fault_text}
 use Rattle.cedr_commands.specs.Seen.{FilesSeen, SinkSeen, NoneRose, BreaksOff}
 
@@ -109,10 +112,26 @@ pub record AsksPlan (files files' : FilesSeen) (file : List ℕ) : Type 0 where
   pub plan : (told : List ℕ → List ℕ) → AreTold files.content told (file ∷ []) → IsPlanOf (told file) nodes
   pub asked : AsksFirst files.asked files'.asked (file ∷ source_files nodes)
 
--- the named files alone, or where the command reads the sources of a plan those too
+-- of a plan of which this holds and the files behind it the first ones, each once and in this order
+pub record AsksBehind (files files' : FilesSeen) (file : List ℕ) (holds : List PlanNode → Type 0) (names : List (List ℕ)) : Type 0 where
+  pub nodes : List PlanNode
+  pub plan : (told : List ℕ → List ℕ) → AreTold files.content told (file ∷ []) → IsPlanOf (told file) nodes
+  pub holding : holds nodes
+  pub asked : AsksFirst files.asked files'.asked (file ∷ names)
+
+-- where it is known what this file holds, that is a checkpoint of a plan of these nodes
+abbrev pub HoldsCheckpoint : FilesSeen → List ℕ → List PlanNode → Type 0
+HoldsCheckpoint files checkpoint nodes = (told : List ℕ → List ℕ) → AreTold files.content told (checkpoint ∷ []) → (states : List State) × IsCheckpoint (plan_sources nodes) states (told checkpoint)
+
+-- The named files alone, or where the command reads the sources of a plan those too. A script is asked for only behind an
+-- accepted plan, and to save or resume only behind one that can be saved; a checkpoint too, and behind it the script only where it
+-- is a checkpoint of the plan.
 abbrev pub AsksOnly : Command → FilesSeen → FilesSeen → Type 0
 AsksOnly command files files' = asks command.job where
   asks : Job → Type 0
+  asks Live = AsksFirst files.asked files'.asked (command.file ∷ []) ⊎ AsksBehind files files' command.file (λ nodes. Unit {0}) (command.script ∷ [])
+  asks Save = AsksFirst files.asked files'.asked (command.file ∷ []) ⊎ AsksBehind files files' command.file CanSavePlan (command.script ∷ [])
+  asks Resume = AsksFirst files.asked files'.asked (command.file ∷ []) ⊎ (AsksBehind files files' command.file CanSavePlan (command.checkpoint ∷ []) ⊎ AsksBehind files files' command.file (λ nodes. CanSavePlan nodes × HoldsCheckpoint files command.checkpoint nodes) (command.checkpoint ∷ command.script ∷ []))
   asks Serial = AsksFirst files.asked files'.asked (named_files command) ⊎ AsksPlan files files' command.file
   asks Run = AsksFirst files.asked files'.asked (named_files command) ⊎ AsksPlan files files' command.file
   asks (Pool n) = AsksFirst files.asked files'.asked (named_files command) ⊎ AsksPlan files files' command.file

@@ -1,41 +1,49 @@
-use Rattle.std.proofs.Common.{Ok, Err, List, Option, Some, None, ◌∷◌, [], ◌∙◌, subst}
+use Rattle.std.proofs.Common.{Ok, Err, List, Option, Some, None, ◌∷◌, [], ◌∙◌, subst, inl, inr}
 use Rattle.cedr_guard.specs.declared.refusal.Refusal.{Refusal}
 use Rattle.cedr_guard.specs.declared.state.SourceState.{SourceState}
 use Rattle.cedr_io.specs.Counts.{Counts}
 use Rattle.cedr_plan.proofs.PlaceLemmas.{nodes_planned}
 use Rattle.plan_live.specs.Plays.{PlaysAfter}
 use Rattle.plan_live.specs.Resumed.{lines_from, states_in}
+use Rattle.cedr_commands.specs.Outcomes.{HoldsCheckpoint}
+use Rattle.cedr_commands.specs.Resuming.{CanSavePlan}
 use Rattle.cedr_commands.specs.Seen.{seen_files, seen_sink}
-use Rattle.cedr_commands.proofs.EndingLemmas.{asks_one, asks_few, asks_more, rose_above}
+use Rattle.cedr_commands.proofs.EndingLemmas.{asks_one, asks_more, behind_plan, held_checkpoint, rose_above}
 use Rattle.cedr_commands.proofs.ResumeLemmas.{resumes_whole, resumes_so_far, resume_done, resume_said, resume_write, resume_lack}
 use Rattle.cedr_commands.proofs.resume.resume.Goals as goal
 
 pub returns-in-Err-open_checkpoint-clause-asked : goal.returns-in-Err-open_checkpoint-clause-asked
-returns-in-Err-open_checkpoint-clause-asked g c = asks_more (g.F.Files.asked c.args.files.now) (g.F.Files.asked c.open_saved.new.files) (g.F.Files.asked c.open_checkpoint.new.files) c.args.file.now (c.args.checkpoint.now ∷ c.args.script.now ∷ []) c.in-Ok.ensures.asked (asks_few (g.F.Files.asked c.open_saved.new.files) (g.F.Files.asked c.open_checkpoint.new.files) c.args.checkpoint.now (c.args.script.now ∷ []) c.in-Err-open_checkpoint.ensures.asked)
+returns-in-Err-open_checkpoint-clause-asked g c = inr (inl (behind_plan (seen_files g.F.Files.content g.F.Files.faults g.F.Files.asked c.args.files.now) (seen_files g.F.Files.content g.F.Files.faults g.F.Files.asked c.open_checkpoint.new.files) c.args.file.now c.in-Ok.plan CanSavePlan (c.args.checkpoint.now ∷ []) c.in-Ok.ensures.opened c.in-Ok.ensures.can (asks_more (g.F.Files.asked c.args.files.now) (g.F.Files.asked c.open_saved.new.files) (g.F.Files.asked c.open_checkpoint.new.files) c.args.file.now (c.args.checkpoint.now ∷ []) c.in-Ok.ensures.asked c.in-Err-open_checkpoint.ensures.asked)))
 
 pub returns-in-Err-Failed-clause-asked : goal.returns-in-Err-Failed-clause-asked
-returns-in-Err-Failed-clause-asked g c = asks_more (g.F.Files.asked c.args.files.now) (g.F.Files.asked c.open_saved.new.files) (g.F.Files.asked c.read_file.new.files) c.args.file.now (c.args.checkpoint.now ∷ c.args.script.now ∷ []) c.in-Ok.ensures.asked
-    (asks_more (g.F.Files.asked c.open_saved.new.files) (g.F.Files.asked c.open_checkpoint.new.files) (g.F.Files.asked c.read_file.new.files) c.args.checkpoint.now (c.args.script.now ∷ []) c.in-Ok-open_checkpoint.ensures.asked c.in-Err-Failed.ensures.asked)
+returns-in-Err-Failed-clause-asked g c = inr (inr (behind_plan (seen_files g.F.Files.content g.F.Files.faults g.F.Files.asked c.args.files.now) (seen_files g.F.Files.content g.F.Files.faults g.F.Files.asked c.read_file.new.files) c.args.file.now c.in-Ok.plan (λ nodes. CanSavePlan nodes × HoldsCheckpoint (seen_files g.F.Files.content g.F.Files.faults g.F.Files.asked c.args.files.now) c.args.checkpoint.now nodes) (c.args.checkpoint.now ∷ c.args.script.now ∷ []) c.in-Ok.ensures.opened
+    (c.in-Ok.ensures.can, held_checkpoint (seen_files g.F.Files.content g.F.Files.faults g.F.Files.asked c.args.files.now) (g.F.Files.content c.open_saved.new.files c.args.checkpoint.now) c.args.checkpoint.now c.in-Ok.plan.nodes.items (states_in c.in-Ok-open_checkpoint.states.items) (c.in-Ok.ensures.contents c.args.checkpoint.now) c.in-Ok-open_checkpoint.ensures.opened.1)
+    (asks_more (g.F.Files.asked c.args.files.now) (g.F.Files.asked c.open_saved.new.files) (g.F.Files.asked c.read_file.new.files) c.args.file.now (c.args.checkpoint.now ∷ c.args.script.now ∷ []) c.in-Ok.ensures.asked (asks_more (g.F.Files.asked c.open_saved.new.files) (g.F.Files.asked c.open_checkpoint.new.files) (g.F.Files.asked c.read_file.new.files) c.args.checkpoint.now (c.args.script.now ∷ []) c.in-Ok-open_checkpoint.ensures.asked c.in-Err-Failed.ensures.asked))))
 
 pub returns-in-Err-OutOfMemory-clause-asked : goal.returns-in-Err-OutOfMemory-clause-asked
-returns-in-Err-OutOfMemory-clause-asked g c = asks_more (g.F.Files.asked c.args.files.now) (g.F.Files.asked c.open_saved.new.files) (g.F.Files.asked c.read_file.new.files) c.args.file.now (c.args.checkpoint.now ∷ c.args.script.now ∷ []) c.in-Ok.ensures.asked
-    (asks_more (g.F.Files.asked c.open_saved.new.files) (g.F.Files.asked c.open_checkpoint.new.files) (g.F.Files.asked c.read_file.new.files) c.args.checkpoint.now (c.args.script.now ∷ []) c.in-Ok-open_checkpoint.ensures.asked c.in-Err-OutOfMemory.ensures.asked)
+returns-in-Err-OutOfMemory-clause-asked g c = inr (inr (behind_plan (seen_files g.F.Files.content g.F.Files.faults g.F.Files.asked c.args.files.now) (seen_files g.F.Files.content g.F.Files.faults g.F.Files.asked c.read_file.new.files) c.args.file.now c.in-Ok.plan (λ nodes. CanSavePlan nodes × HoldsCheckpoint (seen_files g.F.Files.content g.F.Files.faults g.F.Files.asked c.args.files.now) c.args.checkpoint.now nodes) (c.args.checkpoint.now ∷ c.args.script.now ∷ []) c.in-Ok.ensures.opened
+    (c.in-Ok.ensures.can, held_checkpoint (seen_files g.F.Files.content g.F.Files.faults g.F.Files.asked c.args.files.now) (g.F.Files.content c.open_saved.new.files c.args.checkpoint.now) c.args.checkpoint.now c.in-Ok.plan.nodes.items (states_in c.in-Ok-open_checkpoint.states.items) (c.in-Ok.ensures.contents c.args.checkpoint.now) c.in-Ok-open_checkpoint.ensures.opened.1)
+    (asks_more (g.F.Files.asked c.args.files.now) (g.F.Files.asked c.open_saved.new.files) (g.F.Files.asked c.read_file.new.files) c.args.file.now (c.args.checkpoint.now ∷ c.args.script.now ∷ []) c.in-Ok.ensures.asked (asks_more (g.F.Files.asked c.open_saved.new.files) (g.F.Files.asked c.open_checkpoint.new.files) (g.F.Files.asked c.read_file.new.files) c.args.checkpoint.now (c.args.script.now ∷ []) c.in-Ok-open_checkpoint.ensures.asked c.in-Err-OutOfMemory.ensures.asked))))
 
 pub returns-in-Ok-None-clause-asked : goal.returns-in-Ok-None-clause-asked
-returns-in-Ok-None-clause-asked g c = asks_more (g.F.Files.asked c.args.files.now) (g.F.Files.asked c.open_saved.new.files) (g.F.Files.asked c.read_file.new.files) c.args.file.now (c.args.checkpoint.now ∷ c.args.script.now ∷ []) c.in-Ok.ensures.asked
-    (asks_more (g.F.Files.asked c.open_saved.new.files) (g.F.Files.asked c.open_checkpoint.new.files) (g.F.Files.asked c.read_file.new.files) c.args.checkpoint.now (c.args.script.now ∷ []) c.in-Ok-open_checkpoint.ensures.asked (asks_one (g.F.Files.asked c.open_checkpoint.new.files) (g.F.Files.asked c.read_file.new.files) c.args.script.now [] c.in-Ok-read_file.ensures.asked))
+returns-in-Ok-None-clause-asked g c = inr (inr (behind_plan (seen_files g.F.Files.content g.F.Files.faults g.F.Files.asked c.args.files.now) (seen_files g.F.Files.content g.F.Files.faults g.F.Files.asked c.read_file.new.files) c.args.file.now c.in-Ok.plan (λ nodes. CanSavePlan nodes × HoldsCheckpoint (seen_files g.F.Files.content g.F.Files.faults g.F.Files.asked c.args.files.now) c.args.checkpoint.now nodes) (c.args.checkpoint.now ∷ c.args.script.now ∷ []) c.in-Ok.ensures.opened
+    (c.in-Ok.ensures.can, held_checkpoint (seen_files g.F.Files.content g.F.Files.faults g.F.Files.asked c.args.files.now) (g.F.Files.content c.open_saved.new.files c.args.checkpoint.now) c.args.checkpoint.now c.in-Ok.plan.nodes.items (states_in c.in-Ok-open_checkpoint.states.items) (c.in-Ok.ensures.contents c.args.checkpoint.now) c.in-Ok-open_checkpoint.ensures.opened.1)
+    (asks_more (g.F.Files.asked c.args.files.now) (g.F.Files.asked c.open_saved.new.files) (g.F.Files.asked c.read_file.new.files) c.args.file.now (c.args.checkpoint.now ∷ c.args.script.now ∷ []) c.in-Ok.ensures.asked (asks_more (g.F.Files.asked c.open_saved.new.files) (g.F.Files.asked c.open_checkpoint.new.files) (g.F.Files.asked c.read_file.new.files) c.args.checkpoint.now (c.args.script.now ∷ []) c.in-Ok-open_checkpoint.ensures.asked (asks_one (g.F.Files.asked c.open_checkpoint.new.files) (g.F.Files.asked c.read_file.new.files) c.args.script.now [] c.in-Ok-read_file.ensures.asked)))))
 
 pub returns-in-Ok-Some-clause-asked : goal.returns-in-Ok-Some-clause-asked
-returns-in-Ok-Some-clause-asked g c = asks_more (g.F.Files.asked c.args.files.now) (g.F.Files.asked c.open_saved.new.files) (g.F.Files.asked c.read_file.new.files) c.args.file.now (c.args.checkpoint.now ∷ c.args.script.now ∷ []) c.in-Ok.ensures.asked
-    (asks_more (g.F.Files.asked c.open_saved.new.files) (g.F.Files.asked c.open_checkpoint.new.files) (g.F.Files.asked c.read_file.new.files) c.args.checkpoint.now (c.args.script.now ∷ []) c.in-Ok-open_checkpoint.ensures.asked (asks_one (g.F.Files.asked c.open_checkpoint.new.files) (g.F.Files.asked c.read_file.new.files) c.args.script.now [] c.in-Ok-read_file.ensures.asked))
+returns-in-Ok-Some-clause-asked g c = inr (inr (behind_plan (seen_files g.F.Files.content g.F.Files.faults g.F.Files.asked c.args.files.now) (seen_files g.F.Files.content g.F.Files.faults g.F.Files.asked c.read_file.new.files) c.args.file.now c.in-Ok.plan (λ nodes. CanSavePlan nodes × HoldsCheckpoint (seen_files g.F.Files.content g.F.Files.faults g.F.Files.asked c.args.files.now) c.args.checkpoint.now nodes) (c.args.checkpoint.now ∷ c.args.script.now ∷ []) c.in-Ok.ensures.opened
+    (c.in-Ok.ensures.can, held_checkpoint (seen_files g.F.Files.content g.F.Files.faults g.F.Files.asked c.args.files.now) (g.F.Files.content c.open_saved.new.files c.args.checkpoint.now) c.args.checkpoint.now c.in-Ok.plan.nodes.items (states_in c.in-Ok-open_checkpoint.states.items) (c.in-Ok.ensures.contents c.args.checkpoint.now) c.in-Ok-open_checkpoint.ensures.opened.1)
+    (asks_more (g.F.Files.asked c.args.files.now) (g.F.Files.asked c.open_saved.new.files) (g.F.Files.asked c.read_file.new.files) c.args.file.now (c.args.checkpoint.now ∷ c.args.script.now ∷ []) c.in-Ok.ensures.asked (asks_more (g.F.Files.asked c.open_saved.new.files) (g.F.Files.asked c.open_checkpoint.new.files) (g.F.Files.asked c.read_file.new.files) c.args.checkpoint.now (c.args.script.now ∷ []) c.in-Ok-open_checkpoint.ensures.asked (asks_one (g.F.Files.asked c.open_checkpoint.new.files) (g.F.Files.asked c.read_file.new.files) c.args.script.now [] c.in-Ok-read_file.ensures.asked)))))
 
 pub returns-in-Err-Failed-play_from-clause-asked : goal.returns-in-Err-Failed-play_from-clause-asked
-returns-in-Err-Failed-play_from-clause-asked g c = asks_more (g.F.Files.asked c.args.files.now) (g.F.Files.asked c.open_saved.new.files) (g.F.Files.asked c.read_file.new.files) c.args.file.now (c.args.checkpoint.now ∷ c.args.script.now ∷ []) c.in-Ok.ensures.asked
-    (asks_more (g.F.Files.asked c.open_saved.new.files) (g.F.Files.asked c.open_checkpoint.new.files) (g.F.Files.asked c.read_file.new.files) c.args.checkpoint.now (c.args.script.now ∷ []) c.in-Ok-open_checkpoint.ensures.asked (asks_one (g.F.Files.asked c.open_checkpoint.new.files) (g.F.Files.asked c.read_file.new.files) c.args.script.now [] c.in-Ok-read_file.ensures.asked))
+returns-in-Err-Failed-play_from-clause-asked g c = inr (inr (behind_plan (seen_files g.F.Files.content g.F.Files.faults g.F.Files.asked c.args.files.now) (seen_files g.F.Files.content g.F.Files.faults g.F.Files.asked c.read_file.new.files) c.args.file.now c.in-Ok.plan (λ nodes. CanSavePlan nodes × HoldsCheckpoint (seen_files g.F.Files.content g.F.Files.faults g.F.Files.asked c.args.files.now) c.args.checkpoint.now nodes) (c.args.checkpoint.now ∷ c.args.script.now ∷ []) c.in-Ok.ensures.opened
+    (c.in-Ok.ensures.can, held_checkpoint (seen_files g.F.Files.content g.F.Files.faults g.F.Files.asked c.args.files.now) (g.F.Files.content c.open_saved.new.files c.args.checkpoint.now) c.args.checkpoint.now c.in-Ok.plan.nodes.items (states_in c.in-Ok-open_checkpoint.states.items) (c.in-Ok.ensures.contents c.args.checkpoint.now) c.in-Ok-open_checkpoint.ensures.opened.1)
+    (asks_more (g.F.Files.asked c.args.files.now) (g.F.Files.asked c.open_saved.new.files) (g.F.Files.asked c.read_file.new.files) c.args.file.now (c.args.checkpoint.now ∷ c.args.script.now ∷ []) c.in-Ok.ensures.asked (asks_more (g.F.Files.asked c.open_saved.new.files) (g.F.Files.asked c.open_checkpoint.new.files) (g.F.Files.asked c.read_file.new.files) c.args.checkpoint.now (c.args.script.now ∷ []) c.in-Ok-open_checkpoint.ensures.asked (asks_one (g.F.Files.asked c.open_checkpoint.new.files) (g.F.Files.asked c.read_file.new.files) c.args.script.now [] c.in-Ok-read_file.ensures.asked)))))
 
 pub returns-clause-asked : goal.returns-clause-asked
-returns-clause-asked g c = asks_more (g.F.Files.asked c.args.files.now) (g.F.Files.asked c.open_saved.new.files) (g.F.Files.asked c.read_file.new.files) c.args.file.now (c.args.checkpoint.now ∷ c.args.script.now ∷ []) c.in-Ok.ensures.asked
-    (asks_more (g.F.Files.asked c.open_saved.new.files) (g.F.Files.asked c.open_checkpoint.new.files) (g.F.Files.asked c.read_file.new.files) c.args.checkpoint.now (c.args.script.now ∷ []) c.in-Ok-open_checkpoint.ensures.asked (asks_one (g.F.Files.asked c.open_checkpoint.new.files) (g.F.Files.asked c.read_file.new.files) c.args.script.now [] c.in-Ok-read_file.ensures.asked))
+returns-clause-asked g c = inr (inr (behind_plan (seen_files g.F.Files.content g.F.Files.faults g.F.Files.asked c.args.files.now) (seen_files g.F.Files.content g.F.Files.faults g.F.Files.asked c.read_file.new.files) c.args.file.now c.in-Ok.plan (λ nodes. CanSavePlan nodes × HoldsCheckpoint (seen_files g.F.Files.content g.F.Files.faults g.F.Files.asked c.args.files.now) c.args.checkpoint.now nodes) (c.args.checkpoint.now ∷ c.args.script.now ∷ []) c.in-Ok.ensures.opened
+    (c.in-Ok.ensures.can, held_checkpoint (seen_files g.F.Files.content g.F.Files.faults g.F.Files.asked c.args.files.now) (g.F.Files.content c.open_saved.new.files c.args.checkpoint.now) c.args.checkpoint.now c.in-Ok.plan.nodes.items (states_in c.in-Ok-open_checkpoint.states.items) (c.in-Ok.ensures.contents c.args.checkpoint.now) c.in-Ok-open_checkpoint.ensures.opened.1)
+    (asks_more (g.F.Files.asked c.args.files.now) (g.F.Files.asked c.open_saved.new.files) (g.F.Files.asked c.read_file.new.files) c.args.file.now (c.args.checkpoint.now ∷ c.args.script.now ∷ []) c.in-Ok.ensures.asked (asks_more (g.F.Files.asked c.open_saved.new.files) (g.F.Files.asked c.open_checkpoint.new.files) (g.F.Files.asked c.read_file.new.files) c.args.checkpoint.now (c.args.script.now ∷ []) c.in-Ok-open_checkpoint.ensures.asked (asks_one (g.F.Files.asked c.open_checkpoint.new.files) (g.F.Files.asked c.read_file.new.files) c.args.script.now [] c.in-Ok-read_file.ensures.asked)))))
 
 pub returns-in-Ok-None-clause-ends : goal.returns-in-Ok-None-clause-ends
 returns-in-Ok-None-clause-ends g c =

@@ -1,24 +1,25 @@
-use Rattle.std.proofs.Common.{Err, ◌∷◌, [], ◌∙◌, subst}
+use Rattle.std.proofs.Common.{Err, ◌∷◌, [], ◌∙◌, subst, inr}
+use Rattle.cedr_commands.specs.Resuming.{CanSavePlan}
 use Rattle.plan_live.specs.Judged.{JudgesScript}
 use Rattle.cedr_commands.specs.Seen.{seen_files, seen_sink}
-use Rattle.cedr_commands.proofs.EndingLemmas.{asks_one, asks_more}
+use Rattle.cedr_commands.proofs.EndingLemmas.{asks_one, asks_more, behind_plan}
 use Rattle.cedr_commands.proofs.ResumeLemmas.{saves_fault, save_said}
 use Rattle.cedr_commands.proofs.save.save.Goals as goal
 
 pub returns-in-Err-Failed-clause-asked : goal.returns-in-Err-Failed-clause-asked
-returns-in-Err-Failed-clause-asked g c = λ checkpoint. asks_more (g.F.Files.asked c.args.files.now) (g.F.Files.asked c.open_saved.new.files) (g.F.Files.asked c.read_file.new.files) c.args.file.now (c.args.script.now ∷ []) c.in-Ok.ensures.asked c.in-Err-Failed.ensures.asked
+returns-in-Err-Failed-clause-asked g c = λ checkpoint. inr (behind_plan (seen_files g.F.Files.content g.F.Files.faults g.F.Files.asked c.args.files.now) (seen_files g.F.Files.content g.F.Files.faults g.F.Files.asked c.read_file.new.files) c.args.file.now c.in-Ok.plan CanSavePlan (c.args.script.now ∷ []) c.in-Ok.ensures.opened c.in-Ok.ensures.can (asks_more (g.F.Files.asked c.args.files.now) (g.F.Files.asked c.open_saved.new.files) (g.F.Files.asked c.read_file.new.files) c.args.file.now (c.args.script.now ∷ []) c.in-Ok.ensures.asked c.in-Err-Failed.ensures.asked))
 
 pub returns-in-Err-OutOfMemory-clause-asked : goal.returns-in-Err-OutOfMemory-clause-asked
-returns-in-Err-OutOfMemory-clause-asked g c = λ checkpoint. asks_more (g.F.Files.asked c.args.files.now) (g.F.Files.asked c.open_saved.new.files) (g.F.Files.asked c.read_file.new.files) c.args.file.now (c.args.script.now ∷ []) c.in-Ok.ensures.asked c.in-Err-OutOfMemory.ensures.asked
+returns-in-Err-OutOfMemory-clause-asked g c = λ checkpoint. inr (behind_plan (seen_files g.F.Files.content g.F.Files.faults g.F.Files.asked c.args.files.now) (seen_files g.F.Files.content g.F.Files.faults g.F.Files.asked c.read_file.new.files) c.args.file.now c.in-Ok.plan CanSavePlan (c.args.script.now ∷ []) c.in-Ok.ensures.opened c.in-Ok.ensures.can (asks_more (g.F.Files.asked c.args.files.now) (g.F.Files.asked c.open_saved.new.files) (g.F.Files.asked c.read_file.new.files) c.args.file.now (c.args.script.now ∷ []) c.in-Ok.ensures.asked c.in-Err-OutOfMemory.ensures.asked))
 
 pub returns-in-Ok-script_states-clause-asked : goal.returns-in-Ok-script_states-clause-asked
-returns-in-Ok-script_states-clause-asked g c = λ checkpoint. asks_more (g.F.Files.asked c.args.files.now) (g.F.Files.asked c.open_saved.new.files) (g.F.Files.asked c.read_file.new.files) c.args.file.now (c.args.script.now ∷ []) c.in-Ok.ensures.asked (asks_one (g.F.Files.asked c.open_saved.new.files) (g.F.Files.asked c.read_file.new.files) c.args.script.now [] c.in-Ok-read_file.ensures.asked)
+returns-in-Ok-script_states-clause-asked g c = λ checkpoint. inr (behind_plan (seen_files g.F.Files.content g.F.Files.faults g.F.Files.asked c.args.files.now) (seen_files g.F.Files.content g.F.Files.faults g.F.Files.asked c.read_file.new.files) c.args.file.now c.in-Ok.plan CanSavePlan (c.args.script.now ∷ []) c.in-Ok.ensures.opened c.in-Ok.ensures.can (asks_more (g.F.Files.asked c.args.files.now) (g.F.Files.asked c.open_saved.new.files) (g.F.Files.asked c.read_file.new.files) c.args.file.now (c.args.script.now ∷ []) c.in-Ok.ensures.asked (asks_one (g.F.Files.asked c.open_saved.new.files) (g.F.Files.asked c.read_file.new.files) c.args.script.now [] c.in-Ok-read_file.ensures.asked)))
 
 pub returns-in-Err-Refused-clause-asked : goal.returns-in-Err-Refused-clause-asked
-returns-in-Err-Refused-clause-asked g c = λ checkpoint. asks_more (g.F.Files.asked c.args.files.now) (g.F.Files.asked c.open_saved.new.files) (g.F.Files.asked c.read_file.new.files) c.args.file.now (c.args.script.now ∷ []) c.in-Ok.ensures.asked (asks_one (g.F.Files.asked c.open_saved.new.files) (g.F.Files.asked c.read_file.new.files) c.args.script.now [] c.in-Ok-read_file.ensures.asked)
+returns-in-Err-Refused-clause-asked g c = λ checkpoint. inr (behind_plan (seen_files g.F.Files.content g.F.Files.faults g.F.Files.asked c.args.files.now) (seen_files g.F.Files.content g.F.Files.faults g.F.Files.asked c.read_file.new.files) c.args.file.now c.in-Ok.plan CanSavePlan (c.args.script.now ∷ []) c.in-Ok.ensures.opened c.in-Ok.ensures.can (asks_more (g.F.Files.asked c.args.files.now) (g.F.Files.asked c.open_saved.new.files) (g.F.Files.asked c.read_file.new.files) c.args.file.now (c.args.script.now ∷ []) c.in-Ok.ensures.asked (asks_one (g.F.Files.asked c.open_saved.new.files) (g.F.Files.asked c.read_file.new.files) c.args.script.now [] c.in-Ok-read_file.ensures.asked)))
 
 pub returns-clause-asked : goal.returns-clause-asked
-returns-clause-asked g c = λ checkpoint. asks_more (g.F.Files.asked c.args.files.now) (g.F.Files.asked c.open_saved.new.files) (g.F.Files.asked c.read_file.new.files) c.args.file.now (c.args.script.now ∷ []) c.in-Ok.ensures.asked (asks_one (g.F.Files.asked c.open_saved.new.files) (g.F.Files.asked c.read_file.new.files) c.args.script.now [] c.in-Ok-read_file.ensures.asked)
+returns-clause-asked g c = λ checkpoint. inr (behind_plan (seen_files g.F.Files.content g.F.Files.faults g.F.Files.asked c.args.files.now) (seen_files g.F.Files.content g.F.Files.faults g.F.Files.asked c.read_file.new.files) c.args.file.now c.in-Ok.plan CanSavePlan (c.args.script.now ∷ []) c.in-Ok.ensures.opened c.in-Ok.ensures.can (asks_more (g.F.Files.asked c.args.files.now) (g.F.Files.asked c.open_saved.new.files) (g.F.Files.asked c.read_file.new.files) c.args.file.now (c.args.script.now ∷ []) c.in-Ok.ensures.asked (asks_one (g.F.Files.asked c.open_saved.new.files) (g.F.Files.asked c.read_file.new.files) c.args.script.now [] c.in-Ok-read_file.ensures.asked)))
 
 pub returns-in-Err-Refused-clause-contents : goal.returns-in-Err-Refused-clause-contents
 returns-in-Err-Refused-clause-contents g c = λ n. c.in-Ok-read_file.ensures.contents n ∙ c.in-Ok.ensures.contents n
