@@ -1,5 +1,5 @@
 //! A stream of the changes of a plan's answer, by what is read of them while they come.
-ghost use Rattle.std.specs.Prelude.{◌≡◌, ◌++◌, List, OnErr, OnOk, []};
+ghost use Rattle.std.specs.Prelude.{◌≡◌, ◌++◌, List, OnErr, OnOk, [], false};
 ghost use Rattle.std.specs.Io.KnownBytes.{Appends};
 ghost use Rattle.cedr_base.specs.declared.change.Change.{Change as Changed};
 ghost use Rattle.cedr_io.specs.Asked.{AppendsFront};
@@ -71,7 +71,8 @@ pub(crate) struct Streamer<K: Sink> {
 
 impl<K: Sink> Streamer<K> {
     pub(crate) fn new(alloc: Global) -> Streamer<K>
-        ensures { (out : K) → ⟦<Streamer<K> as Watcher>⟧.stands out result out [] }
+        ensures stands { (out : K) → ⟦<Streamer<K> as Watcher>⟧.stands out result out [] }
+        ensures found { ⟦<Streamer<K> as Watcher>⟧.lacked result ≡ false }
     {
         Streamer {
             alloc,

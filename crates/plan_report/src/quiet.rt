@@ -1,4 +1,4 @@
-ghost use Rattle.std.specs.Prelude.{◌≡◌, [], length};
+ghost use Rattle.std.specs.Prelude.{◌≡◌, [], false, length};
 
 use crate::watcher::Watcher;
 use cedr_base::{Change, OutOfMemory};
@@ -18,7 +18,8 @@ pub struct Quiet {
 impl Quiet {
     /// It has seen nothing.
     pub fn new(alloc: Global) -> Quiet
-        ensures { ⟦<Quiet as Watcher>⟧.stands tt result tt [] }
+        ensures stands { ⟦<Quiet as Watcher>⟧.stands tt result tt [] }
+        ensures found { ⟦<Quiet as Watcher>⟧.lacked result ≡ false }
     {
         Quiet {
             count: 0,

@@ -39,7 +39,7 @@ report_run-requires-clause-worked g c =
     (c.args.sources.items, have_worked g.S.Source.rest g.S.Source.faults c.args.plan.now.nodes.items c.args.sources.items c.in_ok-crew.crew.workers.items c.turn_on.new.workers.items c.in_ok-crew.crew.reader c.in_ok-crew.crew.reader made still (c.turn_on.ensures.works made.roles pooled))
 
 pub report_run-requires-clause-watches : goal.report_run-requires-clause-watches
-report_run-requires-clause-watches g c = ([], c.new-quiet.ensures, (c.in_ok-crew.crew.reader.seen.changes, refl))
+report_run-requires-clause-watches g c = ([], c.new-quiet.ensures.stands, (c.in_ok-crew.crew.reader.seen.changes, refl))
 
 pub report_run-requires-clause-room : goal.report_run-requires-clause-room
 report_run-requires-clause-room g c =
