@@ -1,12 +1,12 @@
 -- All sources of a plan, read from files as a whole.
-use Rattle.std.specs.Prelude.{ℕ, ◌≡◌, ◌<◌, length, List, [], ◌∷◌, ◌++◌, true, false, Option, None, Some, Result, Ok, Err, Vec}
+use Rattle.std.specs.Prelude.{ℕ, ◌≡◌, ◌<◌, Bool, length, take, slice_index_or, List, [], ◌∷◌, ◌++◌, true, false, Option, None, Some, IfSome, Result, Ok, Err, Vec}
 use Rattle.std.specs.Global.{Global}
 use Rattle.cedr_base.specs.declared.change.Message.{Message}
 use Rattle.cedr_base.specs.declared.field.FieldType.{FieldType}
 use Rattle.cedr_guard.specs.declared.refusal.Refusal.{Refusal}
 use Rattle.cedr_guard.specs.Sources.{judged, messages_by_line}
 use Rattle.cedr_io.specs.Counts.{Rose}
-use Rattle.cedr_plan.specs.Places.{is_source}
+use Rattle.cedr_plan.specs.Places.{is_source, source_count}
 use Rattle.cedr_plan.specs.declared.plan.PlanNode.{PlanNode}
 use Rattle.cedr_source.specs.declared.fault.Unread.{Unread}
 use Rattle.cedr_source.specs.declared.fault.Unread.TheVariants as unread
@@ -55,6 +55,19 @@ AnswersSources (Ok left) told nodes = AreReadByLine told nodes left.items []
 AnswersSources (Err (sources_fault.Events faulty)) told nodes = (lines : ByLine) × AreReadByLine told nodes lines faulty.items × (0 < length faulty.items)
 AnswersSources (Err sources_fault.Read) told nodes = Unit {0}
 AnswersSources (Err sources_fault.OutOfMemory) told nodes = Unit {0}
+
+-- of each source of a plan, by its number among them: all messages that its file holds line by line, or their first fault
+abbrev pub AreReadOf : (List ℕ → Option (List ℕ)) → List PlanNode → List (Result (List (List Message)) Unread) → Type 0
+AreReadOf content nodes reads =
+    (place : ℕ) (node : PlanNode) (read : Result (List (List Message)) Unread) → place < length nodes → node ≡ slice_index_or nodes place node → is_source node.kind ≡ true → read ≡ slice_index_or reads (source_count (take place nodes)) read
+    → IfSome (content (file_of node.kind)) (λ all. AnswersFile read node.types.items all)
+
+-- a read was refused
+abbrev pub is_failed : {T : Type 0} → Result T Unread → Bool
+is_failed (Ok done) = false
+is_failed (Err (unread.Refused refusal)) = false
+is_failed (Err unread.Failed) = true
+is_failed (Err unread.OutOfMemory) = false
 
 -- the files' count rose where a read failed, and is as before at every other answer
 abbrev pub CountsSources : {T : Type 0} → Result T SourcesFault → ℕ → ℕ → Type 0

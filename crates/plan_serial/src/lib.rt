@@ -9,11 +9,13 @@
 mod answer;
 mod feeding;
 mod law;
+mod noting;
 mod query;
 mod sources;
 
 pub use answer::write_answer;
 pub use feeding::{feed_all, feed_round};
 pub use law::{fed_sources, lines_read};
+pub use noting::note_sources;
 pub use query::{answer_rows, answer_sources};
-pub use sources::{SourcesFault, read_sources};
+pub use sources::{SourcesFault, read_source, read_sources};

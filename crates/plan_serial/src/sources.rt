@@ -12,7 +12,7 @@ ghost use Rattle.cedr_text.specs.Shapes.{ShapeHasTypes};
 
 use cedr_base::{FieldType, OutOfMemory};
 use cedr_guard::message_laws;
-use cedr_io::{Files, OutsideFault};
+use cedr_io::{Files, OutsideFault, Source};
 use cedr_plan::{NodeKind, PlanNode};
 use cedr_source::{Entries, Unread, read_by_line};
 use cedr_text::Shape;
@@ -35,6 +35,21 @@ fn shape_of(alloc: Global, types: &[FieldType]) -> Result<Shape, OutOfMemory>
     Ok(Shape::Fields(Vec::from_slice(alloc, types)?))
 }
 
+/// All messages of a source of these types line by line, or its first fault. It reads what `read_by_line` reads.
+pub fn read_source<S: Source>(
+    alloc: Global,
+    types: &[FieldType],
+    source: &mut S,
+) -> Result<Entries, Unread>
+    ensures answer { IfSome (S.rest source.old) (λ all. AnswersFile result types.now all) }
+    ensures legal { IfOk result (λ entries. IsLegal (messages_in entries)) }
+    ensures counted { CountsSource result (S.faults source.old) (S.faults source.new) }
+{
+    message_laws();
+    let shape = shape_of(alloc, types)?;
+    read_by_line(alloc, shape, source)
+}
+
 /// All messages of a file line by line, or its first fault.
 fn read_file<F: Files>(
     alloc: Global,
@@ -49,14 +64,12 @@ fn read_file<F: Files>(
     ensures asked { AsksSource result (F.asked files.old) (F.asked files.new) (name.now ∷ []) }
     ensures contents { (n : List ℕ) → F.content files.new n ≡ F.content files.old n }
 {
-    message_laws();
-    let shape = shape_of(alloc, types)?;
     let mut source = match files.find(name) {
         Ok(source) => source,
         Err(OutsideFault::Failed) => return Err(Unread::Failed),
         Err(OutsideFault::OutOfMemory) => return Err(Unread::OutOfMemory),
     };
-    let entries = read_by_line(alloc, shape, &mut source);
+    let entries = read_source(alloc, types, &mut source);
     files.give_back(source);
     entries
 }
@@ -79,14 +92,14 @@ fn read_node<F: Files>(alloc: Global, files: &mut F, node: &PlanNode) -> Result<
 
 /// What was read of the sources so far: what each node has to give, and the sources that aren't accepted.
 #[derive(Drop)]
-struct ReadSoFar {
-    left: Vec<Entries>,
-    faulty: Vec<FaultySource>,
+pub(crate) struct ReadSoFar {
+    pub(crate) left: Vec<Entries>,
+    pub(crate) faulty: Vec<FaultySource>,
 }
 
 impl ReadSoFar {
     /// Notes what the node at a place gave.
-    fn note(
+    pub(crate) fn note(
         &mut self,
         alloc: Global,
         place: usize,
