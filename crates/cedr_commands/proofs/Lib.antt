@@ -2,6 +2,7 @@ pub mod CommandLemmas
 pub mod EventLemmas
 pub mod FileLemmas
 pub mod SayingLemmas
+pub mod AcceptedLemmas
 pub mod EndingLemmas
 pub mod ScriptLemmas
 pub mod ResumeLemmas

@@ -28,7 +28,7 @@ named_at : (b : Bool) (source : Source) (sources : List Source) → has_line_fee
 named_at true source sources name named = (name, named)
 named_at false source sources name named = named
 
-named_nodes : (earlier : List Node) (nodes : List PlanNode) → AreNodes earlier (map node_of nodes) → AreNamed (plan_sources nodes)
+pub named_nodes : (earlier : List Node) (nodes : List PlanNode) → AreNodes earlier (map node_of nodes) → AreNamed (plan_sources nodes)
 named_nodes earlier [] are = tt
 named_nodes earlier (node ∷ nodes) are =
     let all = (and_parts (nat_le 1 (length node.name) && nat_le (length node.name) 64) (list_all is_name_byte node.name) are.0.name).1 in

@@ -13,8 +13,9 @@ use Rattle.cedr_text.specs.Texts.{time_text}
 use Rattle.cedr_guard.specs.declared.state.EventState.{EventState}
 use Rattle.cedr_guard.specs.Judging.{row_lives}
 use Rattle.cedr_guard.specs.Spelt.{State, state_row, IsState, IsBareEvent, HasBare}
-use Rattle.cedr_plan.specs.declared.plan.Plan.{Plan}
-use Rattle.cedr_plan.specs.Rules.{IsPlan}
+use Rattle.cedr_plan.specs.declared.plan.PlanNode.{PlanNode}
+use Rattle.cedr_plan.specs.Rules.{ArePlanned}
+use Rattle.cedr_plan.proofs.PlaceLemmas.{planned_nodes}
 use Rattle.cedr_save.specs.Checkpoints.{Source, plan_sources, HasId, AreSaved, event_line, source_line, states_lines, head_line, end_line, checkpoint_lines, checkpoint_text, IsCheckpoint}
 use Rattle.cedr_save.specs.Lines.{IsSavedEvent}
 use Rattle.cedr_save.specs.Reading.{AreNamed}
@@ -23,7 +24,7 @@ use Rattle.cedr_save.proofs.TextLemmas.{time_same}
 use Rattle.cedr_save.proofs.LineLemmas.{id_same, mark_same, saved_event, checkpoint_whole}
 use Rattle.cedr_save.proofs.FollowLemmas.{StartsOther, not_event, last_lines, starts_other}
 use Rattle.cedr_save.proofs.ReadLemmas.{value_of, living_is, living_fields, typed_read, event_times}
-use Rattle.cedr_save.proofs.NameLemmas.{named_plan}
+use Rattle.cedr_save.proofs.NameLemmas.{named_nodes}
 
 -- ---- events
 
@@ -121,5 +122,5 @@ text_same sources one two named saved other bare plain same =
     states_same sources one two saved other bare plain (rest_same head_line head_line (last_lines sources one) (last_lines sources two) lines)
 
 -- the bytes of a checkpoint spell one list of states
-pub one_state : (plan : Plan) (states others : List State) (bytes : List ℕ) → IsPlan plan → IsCheckpoint (plan_sources plan.nodes.items) states bytes → IsCheckpoint (plan_sources plan.nodes.items) others bytes → states ≡ others
-one_state plan states others bytes is one two = text_same (plan_sources plan.nodes.items) states others (named_plan plan is) one.saved two.saved one.bare two.bare (sym one.text ∙ two.text)
+pub one_state : (nodes : List PlanNode) (states others : List State) (bytes : List ℕ) → ArePlanned nodes → IsCheckpoint (plan_sources nodes) states bytes → IsCheckpoint (plan_sources nodes) others bytes → states ≡ others
+one_state nodes states others bytes is one two = text_same (plan_sources nodes) states others (named_nodes [] nodes (planned_nodes nodes is)) one.saved two.saved one.bare two.bare (sym one.text ∙ two.text)

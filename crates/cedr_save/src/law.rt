@@ -1,7 +1,7 @@
 ghost use Rattle.std.specs.Prelude.{◌≡◌, ◌+◌, ◌^◌, ℕ, List};
 ghost use Rattle.cedr_guard.specs.Spelt.{State};
-ghost use Rattle.cedr_plan.specs.declared.plan.Plan.{Plan};
-ghost use Rattle.cedr_plan.specs.Rules.{IsPlan};
+ghost use Rattle.cedr_plan.specs.declared.plan.PlanNode.{PlanNode};
+ghost use Rattle.cedr_plan.specs.Rules.{ArePlanned};
 ghost use Rattle.cedr_save.specs.Checkpoints.{plan_sources, IsCheckpoint};
 ghost use Rattle.cedr_save.specs.Refusals.{RefusesBytes};
 ghost use Rattle.cedr_save.specs.declared.reader.TheConstants.{CHECKPOINT_LIMIT};
@@ -10,8 +10,8 @@ ghost use Rattle.cedr_save.specs.declared.reader.TheConstants.{CHECKPOINT_LIMIT}
 /// refused at a line spell none.
 pub fn checkpoint_law()
     ensures limit { CHECKPOINT_LIMIT ≡ 2 ^ 26 + 2 ^ 16 }
-    ensures one { (plan : Plan) (states others : List State) (bytes : List ℕ) → IsPlan plan
-        → IsCheckpoint (plan_sources plan.nodes.items) states bytes → IsCheckpoint (plan_sources plan.nodes.items) others bytes → states ≡ others }
-    ensures apart { (plan : Plan) (states : List State) (bytes : List ℕ) (line : ℕ) → IsPlan plan
-        → RefusesBytes (plan_sources plan.nodes.items) bytes line → IsCheckpoint (plan_sources plan.nodes.items) states bytes → ⊥ }
+    ensures one { (nodes : List PlanNode) (states others : List State) (bytes : List ℕ) → ArePlanned nodes
+        → IsCheckpoint (plan_sources nodes) states bytes → IsCheckpoint (plan_sources nodes) others bytes → states ≡ others }
+    ensures apart { (nodes : List PlanNode) (states : List State) (bytes : List ℕ) (line : ℕ)
+        → RefusesBytes (plan_sources nodes) bytes line → IsCheckpoint (plan_sources nodes) states bytes → ⊥ }
 {}

@@ -43,7 +43,8 @@ fields_alike : (a b : Shape) (types : List FieldType) (fields : Option (List (Li
 fields_alike a b types None has other = refl
 fields_alike a b types (Some fields) has other = events_alike a b types fields has other
 
-readings_alike : (a b : Shape) (types : List FieldType) (line : List ℕ) → ShapeHasTypes a types → ShapeHasTypes b types → reading a line ≡ reading b line
+-- shapes that have the same types read a line alike
+pub readings_alike : (a b : Shape) (types : List FieldType) (line : List ℕ) → ShapeHasTypes a types → ShapeHasTypes b types → reading a line ≡ reading b line
 readings_alike a b types [] has other = refl
 readings_alike a b types (byte ∷ line) has other =
     ap (λ said. if nat_lt LINE_LIMIT (length (byte ∷ line)) then Err LineTooLong else if breaks_form (byte ∷ line) then Err BadForm else as_some said) (fields_alike a b types (line_fields (byte ∷ line)) has other)

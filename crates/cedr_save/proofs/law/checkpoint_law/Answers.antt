@@ -11,4 +11,4 @@ pub returns-clause-one : goal.returns-clause-one
 returns-clause-one c = one_state
 
 pub returns-clause-apart : goal.returns-clause-apart
-returns-clause-apart c = λ plan states bytes line fits refused is. refused_apart (plan_sources plan.nodes.items) states bytes line refused is
+returns-clause-apart c = λ nodes states bytes line refused is. refused_apart (plan_sources nodes) states bytes line refused is
