@@ -3,7 +3,7 @@ use Rattle.std.proofs.Common.{◌≡◌, ℕ, ◌<◌, List, [], ◌∷◌, Bool
 use Rattle.std.specs.Prelude.{if◌then◌else◌}
 use Rattle.std.specs.Str.{bytes_eq}
 use Rattle.cedr_commands.specs.declared.command.Job.TheVariants.{Live, Save, Resume}
-use Rattle.cedr_commands.specs.Commands.{Command, command_of, threads_of, with_threads}
+use Rattle.cedr_commands.specs.Commands.{Command, command_of, part_count, threads_of, with_parts, with_threads}
 
 module _ {A : Type 0} (bytes : A → List ℕ) where
   -- fewer than two
@@ -21,21 +21,24 @@ module _ {A : Type 0} (bytes : A → List ℕ) where
   many_words (a ∷ b ∷ c ∷ d ∷ []) many = absurd (omega (arith, many))
   many_words (a ∷ b ∷ c ∷ d ∷ e ∷ words) many = refl
 
-  -- three of which the first is none of `live`, `save` and `pool`
-  pub other_three : (words : List A) (first : A) → length words ≡ 3 → first ≡ get_or words 0 first → bytes_eq (bytes first) (codes "live") ≡ false → bytes_eq (bytes first) (codes "save") ≡ false → bytes_eq (bytes first) (codes "pool") ≡ false → None ≡ command_of (map bytes words)
-  other_three [] first three is no_live no_save no_pool = absurd (omega (arith, three))
-  other_three (a ∷ []) first three is no_live no_save no_pool = absurd (omega (arith, three))
-  other_three (a ∷ b ∷ []) first three is no_live no_save no_pool = absurd (omega (arith, three))
-  other_three (a ∷ b ∷ c ∷ d ∷ words) first three is no_live no_save no_pool = absurd (omega (arith, three))
-  other_three (a ∷ b ∷ c ∷ []) first three is no_live no_save no_pool =
+  -- three of which the first is none of `live`, `save`, `pool` and `parts`
+  pub other_three : (words : List A) (first : A) → length words ≡ 3 → first ≡ get_or words 0 first → bytes_eq (bytes first) (codes "live") ≡ false → bytes_eq (bytes first) (codes "save") ≡ false → bytes_eq (bytes first) (codes "pool") ≡ false → bytes_eq (bytes first) (codes "parts") ≡ false
+      → None ≡ command_of (map bytes words)
+  other_three [] first three is no_live no_save no_pool no_parts = absurd (omega (arith, three))
+  other_three (a ∷ []) first three is no_live no_save no_pool no_parts = absurd (omega (arith, three))
+  other_three (a ∷ b ∷ []) first three is no_live no_save no_pool no_parts = absurd (omega (arith, three))
+  other_three (a ∷ b ∷ c ∷ d ∷ words) first three is no_live no_save no_pool no_parts = absurd (omega (arith, three))
+  other_three (a ∷ b ∷ c ∷ []) first three is no_live no_save no_pool no_parts =
       let other_than : (word : List ℕ) → bytes_eq (bytes first) word ≡ false → bytes_eq (bytes a) word ≡ false = λ word no. ap (λ (w : A). bytes_eq (bytes w) word) (sym is) ∙ no in
       let live : Option Command = Some (record { job = Live; file = bytes b; checkpoint = []; script = bytes c }) in
       let saved : Option Command = Some (record { job = Save; file = bytes b; checkpoint = []; script = bytes c }) in
       let pool : Option Command = with_threads (threads_of (bytes b)) (bytes c) in
+      let parts : Option Command = with_parts (part_count (bytes b)) (bytes c) in
       sym
-      (ap {B = Option Command} (λ (is_live : Bool). if is_live then live else if bytes_eq (bytes a) (codes "save") then saved else if bytes_eq (bytes a) (codes "pool") then pool else None) (other_than (codes "live") no_live)
-      ∙ (ap {B = Option Command} (λ (is_save : Bool). if is_save then saved else if bytes_eq (bytes a) (codes "pool") then pool else None) (other_than (codes "save") no_save)
-      ∙ ap {B = Option Command} (λ (is_pool : Bool). if is_pool then pool else None) (other_than (codes "pool") no_pool)))
+      (ap {B = Option Command} (λ (is_live : Bool). if is_live then live else if bytes_eq (bytes a) (codes "save") then saved else if bytes_eq (bytes a) (codes "pool") then pool else if bytes_eq (bytes a) (codes "parts") then parts else None) (other_than (codes "live") no_live)
+      ∙ (ap {B = Option Command} (λ (is_save : Bool). if is_save then saved else if bytes_eq (bytes a) (codes "pool") then pool else if bytes_eq (bytes a) (codes "parts") then parts else None) (other_than (codes "save") no_save)
+      ∙ (ap {B = Option Command} (λ (is_pool : Bool). if is_pool then pool else if bytes_eq (bytes a) (codes "parts") then parts else None) (other_than (codes "pool") no_pool)
+      ∙ ap {B = Option Command} (λ (is_parts : Bool). if is_parts then parts else None) (other_than (codes "parts") no_parts))))
 
   -- four of which the first isn't `resume`
   pub other_four : (words : List A) (first : A) → length words ≡ 4 → first ≡ get_or words 0 first → bytes_eq (bytes first) (codes "resume") ≡ false → None ≡ command_of (map bytes words)

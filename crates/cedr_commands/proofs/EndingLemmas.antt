@@ -1,5 +1,5 @@
 -- How a command ends, from how its steps went.
-use Rattle.std.proofs.Common.{◌≡◌, ◌≢◌, ℕ, suc, Bool, ◌<◌, ◌⊎◌, inl, inr, List, [], ◌∷◌, ◌++◌, take, Option, None, Some, Result, Ok, Err, refl, sym, ap, ◌∙◌, subst, rules, tests, false}
+use Rattle.std.proofs.Common.{◌≡◌, ◌≢◌, ℕ, suc, Bool, ◌<◌, ◌⊎◌, inl, inr, List, [], ◌∷◌, ◌++◌, take, Option, None, Some, Result, Ok, Err, refl, sym, ap, ◌∙◌, subst, rules, tests, arith, false}
 use Rattle.std.specs.Prelude.{IfSome, OnOk, OnErr}
 use Rattle.std.specs.Io.KnownBytes.{Appends, Keeps}
 use Rattle.std.proofs.lemmas.List.{append-nil, append_assoc}
@@ -18,7 +18,7 @@ use Rattle.plan_serial.specs.Rounds.{ByLine, all_messages}
 use Rattle.plan_serial.specs.Feeding.{AnswersInRounds}
 use Rattle.plan_serial.specs.Sources.{AreReadByLine}
 use Rattle.cedr_commands.specs.declared.command.Job.{Job}
-use Rattle.cedr_commands.specs.declared.command.Job.TheVariants.{History, Check, Serial, Run, Pool, Stream, Audit, Live, Make, Save, Resume}
+use Rattle.cedr_commands.specs.declared.command.Job.TheVariants.{History, Check, Serial, Run, Pool, Parts, Stream, Audit, Live, Make, Save, Resume}
 use Rattle.cedr_commands.specs.declared.outcome.Outcome.{Outcome}
 use Rattle.cedr_commands.specs.declared.outcome.Outcome.TheVariants as outcome
 use Rattle.cedr_commands.specs.declared.status.Status.{Status}
@@ -31,7 +31,7 @@ use Rattle.cedr_commands.specs.Answers.{AnswersInTurns, AnswersQuery, IsPlanOf, 
 use Rattle.cedr_commands.specs.Commands.{Command, named_files}
 use Rattle.cedr_commands.specs.Seen.{FilesSeen, SinkSeen, SinkGains}
 use Rattle.cedr_commands.specs.Outcomes.{status_of, outcome_text, TellsLack, CommandEnds, AsksOnly, AsksPlan, AsksBehind, HoldsCheckpoint}
-use Rattle.cedr_commands.specs.Steps.{Texts, WritesText, Says, OpensPlan, OpensSources, StopsSources, CountsStep, ReadsSources, AreOpened, EndsWith, EndsSources}
+use Rattle.cedr_commands.specs.Steps.{Texts, WritesText, Says, OpensPlan, OpensSources, StopsSources, CountsStep, ReadsSources, EndsPlan, EndsWith, EndsSources}
 use Rattle.cedr_commands.specs.Ending.{Ends}
 use Rattle.plan_live.proofs.ShownLemmas.{front_all}
 
@@ -48,9 +48,11 @@ pub kept_itself : (old : Option (List ℕ)) → Keeps old old
 kept_itself None = tt
 kept_itself (Some bytes) = refl
 
-nothing_appends : (old : Option (List ℕ)) → Appends old old []
-nothing_appends None = tt
-nothing_appends (Some bytes) = sym (append-nil bytes)
+-- a sink that kept what it had gained nothing
+pub appends_nothing : (old new : Option (List ℕ)) → Keeps old new → Appends old new []
+appends_nothing None new keeps = tt
+appends_nothing (Some xs) None keeps = absurd keeps
+appends_nothing (Some xs) (Some ys) keeps = keeps ∙ sym (append-nil xs)
 
 -- ---- a whole text
 
@@ -76,7 +78,7 @@ pub ends_said : (command : Command) (files files' : FilesSeen) (out : SinkSeen) 
     → ((told : List ℕ → List ℕ) (said : List ℕ) → said ≡ text → AreTold files.content told (named_files command) → Refuses files.content told command [] said)
     → CommandEnds command files files' out out o
 ends_said command files files' out (outcome.Events said) text h same refuses =
-    (record { files_count = same; out_count = refl }, (λ live stream resume. kept_itself out.written), λ told is. ([], refuses told said.items h is, nothing_appends out.written))
+    (record { files_count = same; out_count = refl }, (λ live stream resume. kept_itself out.written), λ told is. ([], refuses told said.items h is, appends_nothing out.written out.written (kept_itself out.written)))
 ends_said command files files' out outcome.OutOfMemory text h same refuses = inl (kept_itself out.written)
 ends_said command files files' out outcome.Done text h same refuses = absurd h
 ends_said command files files' out outcome.Usage text h same refuses = absurd h
@@ -153,43 +155,44 @@ told_same before after told [] same h = tt
 told_same before after told (name ∷ names) same h = (same name ∙ h.0, told_same before after told names same h.1)
 
 -- what holds of each command that reads sources
-by_job : (P : Job → Type 0) (job : Job) → ReadsSources job → P Serial → P Run → ((n : ℕ) → P (Pool n)) → P Audit → P Stream → P job
-by_job P Serial reads serial run pool audit stream = serial
-by_job P Run reads serial run pool audit stream = run
-by_job P (Pool n) reads serial run pool audit stream = pool n
-by_job P Audit reads serial run pool audit stream = audit
-by_job P Stream reads serial run pool audit stream = stream
-by_job P History reads serial run pool audit stream = absurd reads
-by_job P Check reads serial run pool audit stream = absurd reads
-by_job P Live reads serial run pool audit stream = absurd reads
-by_job P (Make n) reads serial run pool audit stream = absurd reads
-by_job P Save reads serial run pool audit stream = absurd reads
-by_job P Resume reads serial run pool audit stream = absurd reads
+by_job : (P : Job → Type 0) (job : Job) → ReadsSources job → P Serial → P Run → ((n : ℕ) → P (Pool n)) → ((n : ℕ) → P (Parts n)) → P Audit → P Stream → P job
+by_job P Serial reads serial run pool parts audit stream = serial
+by_job P Run reads serial run pool parts audit stream = run
+by_job P (Pool n) reads serial run pool parts audit stream = pool n
+by_job P (Parts n) reads serial run pool parts audit stream = parts n
+by_job P Audit reads serial run pool parts audit stream = audit
+by_job P Stream reads serial run pool parts audit stream = stream
+by_job P History reads serial run pool parts audit stream = absurd reads
+by_job P Check reads serial run pool parts audit stream = absurd reads
+by_job P Live reads serial run pool parts audit stream = absurd reads
+by_job P (Make n) reads serial run pool parts audit stream = absurd reads
+by_job P Save reads serial run pool parts audit stream = absurd reads
+by_job P Resume reads serial run pool parts audit stream = absurd reads
 
 pub named_one : (job : Job) (content : List ℕ → Option (List ℕ)) (told : List ℕ → List ℕ) (file checkpoint script : List ℕ) → ReadsSources job → AreTold content told (named_files (record { job = job; file = file; checkpoint = checkpoint; script = script })) → AreTold content told (file ∷ [])
 named_one job content told file checkpoint script reads =
-    by_job (λ (job : Job). AreTold content told (named_files (record { job = job; file = file; checkpoint = checkpoint; script = script })) → AreTold content told (file ∷ [])) job reads (λ h. h) (λ h. h) (λ n h. h) (λ h. h) (λ h. h)
+    by_job (λ (job : Job). AreTold content told (named_files (record { job = job; file = file; checkpoint = checkpoint; script = script })) → AreTold content told (file ∷ [])) job reads (λ h. h) (λ h. h) (λ n h. h) (λ n h. h) (λ h. h) (λ h. h)
 
 no_plan_of : (job : Job) (told : List ℕ → List ℕ) (file checkpoint script : List ℕ) (kind : PlanKind) (node : ℕ) → ReadsSources job → IsNoPlan (told file) kind node → RefusesPlan told (record { job = job; file = file; checkpoint = checkpoint; script = script }) kind node
-no_plan_of job told file checkpoint script kind node reads h = by_job (λ (job : Job). RefusesPlan told (record { job = job; file = file; checkpoint = checkpoint; script = script }) kind node) job reads h h (λ n. h) h h
+no_plan_of job told file checkpoint script kind node reads h = by_job (λ (job : Job). RefusesPlan told (record { job = job; file = file; checkpoint = checkpoint; script = script }) kind node) job reads h h (λ n. h) (λ n. h) h h
 
 pub refuses_of : (job : Job) (content : List ℕ → Option (List ℕ)) (told : List ℕ → List ℕ) (file checkpoint script said : List ℕ) → ReadsSources job → OfPlan content told file (λ nodes. RefusesSources told nodes said) → Refuses content told (record { job = job; file = file; checkpoint = checkpoint; script = script }) [] said
-refuses_of job content told file checkpoint script said reads h = by_job (λ (job : Job). Refuses content told (record { job = job; file = file; checkpoint = checkpoint; script = script }) [] said) job reads (refl, h) (refl, h) (λ n. (refl, h)) (refl, h) (record { nodes = h.nodes; plan = h.plan; holding = λ known. (h.holding known, inl refl) })
+refuses_of job content told file checkpoint script said reads h = by_job (λ (job : Job). Refuses content told (record { job = job; file = file; checkpoint = checkpoint; script = script }) [] said) job reads (refl, h) (refl, h) (λ n. (refl, h)) (λ n. (refl, h)) (refl, h) (record { nodes = h.nodes; plan = h.plan; holding = λ known. (h.holding known, inl refl) })
 
 pub gives_of : (job : Job) (content : List ℕ → Option (List ℕ)) (told : List ℕ → List ℕ) (file checkpoint script text : List ℕ) → ReadsSources job → OfPlan content told file (λ nodes. GivesPlan job told nodes text) → Gives content told (record { job = job; file = file; checkpoint = checkpoint; script = script }) text
 gives_of job content told file checkpoint script text reads =
-    by_job (λ (job : Job). OfPlan content told file (λ nodes. GivesPlan job told nodes text) → Gives content told (record { job = job; file = file; checkpoint = checkpoint; script = script }) text) job reads (λ h. h) (λ h. h) (λ n h. h) (λ h. h) (λ h. h)
+    by_job (λ (job : Job). OfPlan content told file (λ nodes. GivesPlan job told nodes text) → Gives content told (record { job = job; file = file; checkpoint = checkpoint; script = script }) text) job reads (λ h. h) (λ h. h) (λ n h. h) (λ n h. h) (λ h. h) (λ h. h)
 
 pub begins_of : (job : Job) (content : List ℕ → Option (List ℕ)) (told : List ℕ → List ℕ) (file checkpoint script text : List ℕ) → ReadsSources job → OfPlan content told file (λ nodes. BeginsPlan job told nodes text) → Begins content told (record { job = job; file = file; checkpoint = checkpoint; script = script }) text
 begins_of job content told file checkpoint script text reads =
-    by_job (λ (job : Job). OfPlan content told file (λ nodes. BeginsPlan job told nodes text) → Begins content told (record { job = job; file = file; checkpoint = checkpoint; script = script }) text) job reads (λ h. h) (λ h. h) (λ n h. h) (λ h. h) (λ h. h)
+    by_job (λ (job : Job). OfPlan content told file (λ nodes. BeginsPlan job told nodes text) → Begins content told (record { job = job; file = file; checkpoint = checkpoint; script = script }) text) job reads (λ h. h) (λ h. h) (λ n h. h) (λ n h. h) (λ h. h) (λ h. h)
 
 -- a command that reads sources may have asked for its plan alone, or for nothing
 pub plan_asked : (job : Job) (files files' : FilesSeen) (file checkpoint script : List ℕ) → ReadsSources job → AsksFirst files.asked files'.asked (file ∷ []) → AsksOnly (record { job = job; file = file; checkpoint = checkpoint; script = script }) files files'
-plan_asked job files files' file checkpoint script reads h = by_job (λ (job : Job). AsksOnly (record { job = job; file = file; checkpoint = checkpoint; script = script }) files files') job reads (inl h) (inl h) (λ n. inl h) (inl h) (inl h)
+plan_asked job files files' file checkpoint script reads h = by_job (λ (job : Job). AsksOnly (record { job = job; file = file; checkpoint = checkpoint; script = script }) files files') job reads (inl h) (inl h) (λ n. inl h) (λ n. inl h) (inl h) (inl h)
 
 asks_plan : (job : Job) (files files' : FilesSeen) (file checkpoint script : List ℕ) → ReadsSources job → AsksPlan files files' file → AsksOnly (record { job = job; file = file; checkpoint = checkpoint; script = script }) files files'
-asks_plan job files files' file checkpoint script reads h = by_job (λ (job : Job). AsksOnly (record { job = job; file = file; checkpoint = checkpoint; script = script }) files files') job reads (inr h) (inr h) (λ n. inr h) (inr h) (inr h)
+asks_plan job files files' file checkpoint script reads h = by_job (λ (job : Job). AsksOnly (record { job = job; file = file; checkpoint = checkpoint; script = script }) files files') job reads (inr h) (inr h) (λ n. inr h) (λ n. inr h) (inr h) (inr h)
 
 -- what accepted sources have
 abbrev pub AcceptedLeft : (List ℕ → List ℕ) → List PlanNode → Lists → Type 0
@@ -214,37 +217,24 @@ pub opened_told : (files : FilesSeen) (file : List ℕ) (nodes : List PlanNode) 
 unfolding IsOpened
 opened_told files file nodes opened = opened
 
--- and so were its sources
-pub are_opened : (files files' : FilesSeen) (file : List ℕ) (nodes : List PlanNode) (left : ByLine) → IsOpened files file nodes → files'.faults ≡ files.faults
-    → ((told : List ℕ → List ℕ) → AreTold files.content told (source_files nodes) → AreReadByLine told nodes left []) → AreOpened files files' file nodes left
-unfolding IsOpened
-are_opened files files' file nodes left opened same read = record { plan = opened; sources = read; faults = same }
-
 -- a command that reads the sources of an opened plan may have asked for the plan and their files, each once
 -- and in this order, or for the first ones of these
 pub sources_asked : (job : Job) (files files' : FilesSeen) (file checkpoint script : List ℕ) (nodes : List PlanNode) → ReadsSources job → IsOpened files file nodes → AsksFirst files.asked files'.asked (file ∷ source_files nodes) → AsksOnly (record { job = job; file = file; checkpoint = checkpoint; script = script }) files files'
 unfolding IsOpened
 sources_asked job files files' file checkpoint script nodes reads opened asked = asks_plan job files files' file checkpoint script reads (record { nodes = nodes; plan = opened; asked = asked })
 
--- its sources weren't
-pub sources_stopped : (T : Type 0) (job : Job) (file checkpoint script : List ℕ) (files files' : FilesSeen) (out : SinkSeen) (o : Outcome) (nodes : List PlanNode) → ReadsSources job → IsOpened files file nodes
-    → StopsSources {T = T} (Err o) → CountsStep {T = T} (Err o) files.faults files'.faults
-    → ((told : List ℕ → List ℕ) → AreTold files.content told (source_files nodes) → OpensSources (Err o) told nodes)
-    → CommandEnds (record { job = job; file = file; checkpoint = checkpoint; script = script }) files files' out out o
-unfolding IsOpened
-sources_stopped T job file checkpoint script files files' out (outcome.Events said) nodes reads opened stops counts refuses = (
-  record { files_count = counts; out_count = refl },
-  (λ live stream resume. kept_itself out.written),
-  λ told is. ([], refuses_of job files.content told file checkpoint script said.items reads (record { nodes = nodes; plan = opened told (named_one job files.content told file checkpoint script reads is); holding = λ all. refuses told all }), nothing_appends out.written),
-)
-sources_stopped T job file checkpoint script files files' out outcome.Read nodes reads opened stops counts refuses = (counts, refl, inl (kept_itself out.written))
-sources_stopped T job file checkpoint script files files' out outcome.OutOfMemory nodes reads opened stops counts refuses = inl (kept_itself out.written)
-sources_stopped T job file checkpoint script files files' out (outcome.BadPlan kind node) nodes reads opened stops counts refuses = absurd stops
-sources_stopped T job file checkpoint script files files' out (outcome.Unsaved node) nodes reads opened stops counts refuses = absurd stops
-sources_stopped T job file checkpoint script files files' out (outcome.BadCheckpoint line) nodes reads opened stops counts refuses = absurd stops
-sources_stopped T job file checkpoint script files files' out outcome.Done nodes reads opened stops counts refuses = absurd stops
-sources_stopped T job file checkpoint script files files' out outcome.Usage nodes reads opened stops counts refuses = absurd stops
-sources_stopped T job file checkpoint script files files' out outcome.Write nodes reads opened stops counts refuses = absurd stops
+-- the sources of an opened plan weren't
+pub plan_stopped : (T : Type 0) (job : Job) (nodes : List PlanNode) (files files' : FilesSeen) (out : SinkSeen) (o : Outcome) → StopsSources {T = T} (Err o) → CountsStep {T = T} (Err o) files.faults files'.faults
+    → ((told : List ℕ → List ℕ) → AreTold files.content told (source_files nodes) → OpensSources (Err o) told nodes) → EndsPlan job nodes files files' out out o
+plan_stopped T job nodes files files' out (outcome.Events said) stops counts refuses = (record { files_count = counts; out_count = refl }, kept_itself out.written, refuses)
+plan_stopped T job nodes files files' out outcome.Read stops counts refuses = (counts, refl, kept_itself out.written)
+plan_stopped T job nodes files files' out outcome.OutOfMemory stops counts refuses = inl (kept_itself out.written)
+plan_stopped T job nodes files files' out (outcome.BadPlan kind node) stops counts refuses = absurd stops
+plan_stopped T job nodes files files' out (outcome.Unsaved node) stops counts refuses = absurd stops
+plan_stopped T job nodes files files' out (outcome.BadCheckpoint line) stops counts refuses = absurd stops
+plan_stopped T job nodes files files' out outcome.Done stops counts refuses = absurd stops
+plan_stopped T job nodes files files' out outcome.Usage stops counts refuses = absurd stops
+plan_stopped T job nodes files files' out outcome.Write stops counts refuses = absurd stops
 
 -- they were: a text was written, or begun
 pub ends_text : (texts : Texts) (nodes : List PlanNode) (left : ByLine) (out out' : SinkSeen) (o : Outcome) (text : List ℕ) → WritesText o out out' text → ((told : List ℕ → List ℕ) → AreReadByLine told nodes left [] → texts told nodes text)
@@ -285,6 +275,7 @@ pub ends_in_turns : (job : Job) → ReadsSources job → job ≢ Stream → job 
 ends_in_turns Serial reads other unasked nodes left out out' o h = h
 ends_in_turns Run reads other unasked nodes left out out' o h = ends_weaker (AnswersInTurns false) (AnswersQuery false) (λ told nodes text answers. answers.query) nodes left out out' o h
 ends_in_turns (Pool n) reads other unasked nodes left out out' o h = ends_weaker (AnswersInTurns false) (AnswersQuery false) (λ told nodes text answers. answers.query) nodes left out out' o h
+ends_in_turns (Parts n) reads other unasked nodes left out out' o h = ends_weaker (AnswersInTurns false) (GivesPlan (Parts n)) (λ told nodes text answers. inr answers.query) nodes left out out' o h
 ends_in_turns Audit reads other unasked nodes left out out' o h = absurd (unasked refl)
 ends_in_turns Stream reads other unasked nodes left out out' o h = absurd (other refl)
 ends_in_turns History reads other unasked nodes left out out' o h = absurd reads
@@ -295,25 +286,52 @@ ends_in_turns Save reads other unasked nodes left out out' o h = absurd reads
 ends_in_turns Resume reads other unasked nodes left out out' o h = absurd reads
 
 -- they were, and what the command gives of them was written, or was begun
-pub sources_given : (job : Job) (file checkpoint script : List ℕ) (files files' : FilesSeen) (out out' : SinkSeen) (o : Outcome) (nodes : List PlanNode) (left : ByLine) → ReadsSources job → AreOpened files files' file nodes left → EndsSources job nodes left out out' o
-    → CommandEnds (record { job = job; file = file; checkpoint = checkpoint; script = script }) files files' out out' o
-sources_given job file checkpoint script files files' out out' outcome.Done nodes left reads opened h = (
-  record { files_count = opened.faults; out_count = h.0 },
-  λ told is. (h.1.text, gives_of job files.content told file checkpoint script h.1.text reads (record { nodes = nodes; plan = opened.plan told (named_one job files.content told file checkpoint script reads is); holding = λ all. h.1.gives told (opened.sources told all) }), h.1.wrote),
+pub plan_given : (job : Job) (nodes : List PlanNode) (left : ByLine) (files files' : FilesSeen) (out out' : SinkSeen) (o : Outcome) → ((told : List ℕ → List ℕ) → AreTold files.content told (source_files nodes) → AreReadByLine told nodes left []) → files'.faults ≡ files.faults
+    → EndsSources job nodes left out out' o → EndsPlan job nodes files files' out out' o
+plan_given job nodes left files files' out out' outcome.Done read same h = (record { files_count = same; out_count = h.0 }, record { text = h.1.text; gives = λ told is. h.1.gives told (read told is); wrote = h.1.wrote })
+plan_given job nodes left files files' out out' outcome.Write read same h = (h.0, record { text = h.1.text; begins = λ told is. h.1.begins told (read told is); wrote = h.1.wrote })
+plan_given job nodes left files files' out out' outcome.OutOfMemory read same (inl keeps) = inl keeps
+plan_given job nodes left files files' out out' outcome.OutOfMemory read same (inr h) = inr (record { text = h.text; begins = λ told is. h.begins told (read told is); wrote = h.wrote })
+plan_given job nodes left files files' out out' outcome.Usage read same h = absurd h
+plan_given job nodes left files files' out out' (outcome.Events said) read same h = absurd h
+plan_given job nodes left files files' out out' (outcome.BadPlan kind node) read same h = absurd h
+plan_given job nodes left files files' out out' (outcome.Unsaved node) read same h = absurd h
+plan_given job nodes left files files' out out' (outcome.BadCheckpoint line) read same h = absurd h
+plan_given job nodes left files files' out out' outcome.Read read same h = absurd h
+
+-- what holds of an opened plan where it is known what the files of its sources hold
+of_opened : (job : Job) (files now : FilesSeen) (file checkpoint script : List ℕ) (nodes : List PlanNode) → ReadsSources job → IsOpened files file nodes → ((name : List ℕ) → now.content name ≡ files.content name)
+    → (told : List ℕ → List ℕ) (holds : List PlanNode → Type 0) → AreTold files.content told (named_files (record { job = job; file = file; checkpoint = checkpoint; script = script })) → (AreTold now.content told (source_files nodes) → holds nodes) → OfPlan files.content told file holds
+of_opened job files now file checkpoint script nodes reads opened contents told holds named all = record {
+  nodes = nodes;
+  plan = opened_told files file nodes opened told (named_one job files.content told file checkpoint script reads named);
+  holding = λ known. all (told_same files.content now.content told (source_files nodes) contents known);
+}
+
+-- a command whose plan was opened ends as it does behind that
+pub plan_ended : (job : Job) → ReadsSources job → (files now files' : FilesSeen) (file checkpoint script : List ℕ) (nodes : List PlanNode) → IsOpened files file nodes → now.faults ≡ files.faults → ((name : List ℕ) → now.content name ≡ files.content name)
+    → (out out' : SinkSeen) (o : Outcome) → EndsPlan job nodes now files' out out' o → CommandEnds (record { job = job; file = file; checkpoint = checkpoint; script = script }) files files' out out' o
+plan_ended job reads files now files' file checkpoint script nodes opened same contents out out' outcome.Done h = (
+  record { files_count = h.0.files_count ∙ same; out_count = h.0.out_count },
+  λ told is. (h.1.text, gives_of job files.content told file checkpoint script h.1.text reads (of_opened job files now file checkpoint script nodes reads opened contents told (λ (ns : List PlanNode). GivesPlan job told ns h.1.text) is (h.1.gives told)), h.1.wrote),
 )
-sources_given job file checkpoint script files files' out out' outcome.Write nodes left reads opened h = (
+plan_ended job reads files now files' file checkpoint script nodes opened same contents out out' (outcome.Events said) h = (
+  record { files_count = h.0.files_count ∙ same; out_count = h.0.out_count },
+  (λ live stream resume. h.1),
+  λ told is. ([], refuses_of job files.content told file checkpoint script said.items reads (of_opened job files now file checkpoint script nodes reads opened contents told (λ (ns : List PlanNode). RefusesSources told ns said.items) is (h.2 told)), appends_nothing out.written out'.written h.1),
+)
+plan_ended job reads files now files' file checkpoint script nodes opened same contents out out' outcome.Read h = (omega (arith, same, h.0), h.1, inl h.2)
+plan_ended job reads files now files' file checkpoint script nodes opened same contents out out' outcome.Write h = (
   h.0,
-  λ told is. (h.1.text, begins_of job files.content told file checkpoint script h.1.text reads (record { nodes = nodes; plan = opened.plan told (named_one job files.content told file checkpoint script reads is); holding = λ all. h.1.begins told (opened.sources told all) }), h.1.wrote),
+  λ told is. (h.1.text, begins_of job files.content told file checkpoint script h.1.text reads (of_opened job files now file checkpoint script nodes reads opened contents told (λ (ns : List PlanNode). BeginsPlan job told ns h.1.text) is (h.1.begins told)), h.1.wrote),
 )
-sources_given job file checkpoint script files files' out out' outcome.OutOfMemory nodes left reads opened (inl keeps) = inl keeps
-sources_given job file checkpoint script files files' out out' outcome.OutOfMemory nodes left reads opened (inr h) =
-    inr (λ told is. (h.text, begins_of job files.content told file checkpoint script h.text reads (record { nodes = nodes; plan = opened.plan told (named_one job files.content told file checkpoint script reads is); holding = λ all. h.begins told (opened.sources told all) }), h.wrote))
-sources_given job file checkpoint script files files' out out' outcome.Usage nodes left reads opened h = absurd h
-sources_given job file checkpoint script files files' out out' (outcome.Events said) nodes left reads opened h = absurd h
-sources_given job file checkpoint script files files' out out' (outcome.BadPlan kind node) nodes left reads opened h = absurd h
-sources_given job file checkpoint script files files' out out' (outcome.Unsaved node) nodes left reads opened h = absurd h
-sources_given job file checkpoint script files files' out out' (outcome.BadCheckpoint line) nodes left reads opened h = absurd h
-sources_given job file checkpoint script files files' out out' outcome.Read nodes left reads opened h = absurd h
+plan_ended job reads files now files' file checkpoint script nodes opened same contents out out' outcome.OutOfMemory (inl keeps) = inl keeps
+plan_ended job reads files now files' file checkpoint script nodes opened same contents out out' outcome.OutOfMemory (inr h) =
+    inr (λ told is. (h.text, begins_of job files.content told file checkpoint script h.text reads (of_opened job files now file checkpoint script nodes reads opened contents told (λ (ns : List PlanNode). BeginsPlan job told ns h.text) is (h.begins told)), h.wrote))
+plan_ended job reads files now files' file checkpoint script nodes opened same contents out out' outcome.Usage h = absurd h
+plan_ended job reads files now files' file checkpoint script nodes opened same contents out out' (outcome.BadPlan kind node) h = absurd h
+plan_ended job reads files now files' file checkpoint script nodes opened same contents out out' (outcome.Unsaved node) h = absurd h
+plan_ended job reads files now files' file checkpoint script nodes opened same contents out out' (outcome.BadCheckpoint line) h = absurd h
 
 -- ---- what err gains where memory ran out
 

@@ -26,6 +26,7 @@ use Rattle.cedr_plan.specs.CheckTexts.{check_text}
 use Rattle.cedr_plan.specs.declared.fault.PlanKind.{PlanKind}
 use Rattle.cedr_plan.specs.declared.plan.PlanNode.{PlanNode}
 use Rattle.plan_runs.specs.Runs.{IsPartialRun, IsPrefix}
+use Rattle.plan_runs.specs.Without.{Remembers}
 use Rattle.plan_answer.specs.Queries.{source_nodes, AreAcceptedSources, IsAnswerText, IsStreamText, LeadsTo, given_text, query_rows, IsStrong}
 use Rattle.plan_serial.specs.Rounds.{ByLine, CameByLine}
 use Rattle.plan_serial.specs.Sources.{AreReadByLine}
@@ -33,7 +34,7 @@ use Rattle.plan_answer.specs.Sources.{source_files, AreTold, AllHaveGiven, fault
 use Rattle.cedr_text.specs.Shapes.{ShapeHasTypes}
 use Rattle.cedr_table.specs.Operators.{Tables}
 use Rattle.cedr_commands.specs.declared.command.Job.{Job}
-use Rattle.cedr_commands.specs.declared.command.Job.TheVariants.{History, Check, Serial, Run, Pool, Stream, Audit, Live, Make, Save, Resume}
+use Rattle.cedr_commands.specs.declared.command.Job.TheVariants.{History, Check, Serial, Run, Pool, Parts, Stream, Audit, Live, Make, Save, Resume}
 use Rattle.cedr_commands.specs.Commands.{Command}
 use Rattle.cedr_commands.specs.Refusals.{refusal_text}
 use Rattle.cedr_commands.specs.Resuming.{SavesScript, RefusesSaved, ResumesScript, ResumesSoFar, RefusesResumed, RefusesBytesOf}
@@ -90,6 +91,15 @@ pub record AnswersInTurns (always : Bool) (told : List ℕ → List ℕ) (nodes 
   pub read : AreReadByLine told nodes lines []
   pub rounds : CameByLine nodes lines query.text_is.ports query.text_is.given
 
+-- The sources are accepted, no port has a finite memory, and the text is the rows of the query over their canonical histories, in
+-- canonical order.
+pub record AnswersRows (told : List ℕ → List ℕ) (nodes : List PlanNode) (text : List ℕ) : Type 0 where
+  pub sources : Lists
+  pub histories : Tables
+  pub accepted : AreAcceptedSources told (source_nodes nodes) sources histories
+  pub remembers : Remembers nodes
+  pub text_is : text ≡ rows_text (in_order (query_rows nodes histories))
+
 -- the same as `AnswersQuery`, of the changes of the answer: they lead to the rows of the answer. Where the output is
 -- strong they are one addition for each of these, in canonical order
 pub record AnswersChanges (told : List ℕ → List ℕ) (nodes : List PlanNode) (text : List ℕ) : Type 0 where
@@ -143,6 +153,7 @@ abbrev pub GivesPlan : Job → (List ℕ → List ℕ) → List PlanNode → Lis
 GivesPlan Stream told nodes text = AnswersChanges told nodes text
 GivesPlan Audit told nodes text = AnswersInTurns true told nodes text
 GivesPlan Serial told nodes text = AnswersInTurns false told nodes text
+GivesPlan (Parts n) told nodes text = AnswersRows told nodes text ⊎ AnswersQuery false told nodes text
 GivesPlan job told nodes text = AnswersQuery false told nodes text
 
 -- the texts of which a front is written where writing or memory fails
@@ -215,6 +226,7 @@ Gives content told command text = gives command.job where
   gives Serial = OfPlan content told command.file (λ nodes. GivesPlan Serial told nodes text)
   gives Run = OfPlan content told command.file (λ nodes. GivesPlan Run told nodes text)
   gives (Pool n) = OfPlan content told command.file (λ nodes. GivesPlan (Pool n) told nodes text)
+  gives (Parts n) = OfPlan content told command.file (λ nodes. GivesPlan (Parts n) told nodes text)
   gives Audit = OfPlan content told command.file (λ nodes. GivesPlan Audit told nodes text)
   gives Stream = OfPlan content told command.file (λ nodes. GivesPlan Stream told nodes text)
   gives Live = OfPlanAlone (told command.file) (λ nodes. IsPlayed nodes (told command.script) text None)
@@ -231,6 +243,7 @@ Refuses content told command text said = refuses command.job where
   refuses Serial = (text ≡ []) × OfPlan content told command.file (λ nodes. RefusesSources told nodes said)
   refuses Run = (text ≡ []) × OfPlan content told command.file (λ nodes. RefusesSources told nodes said)
   refuses (Pool n) = (text ≡ []) × OfPlan content told command.file (λ nodes. RefusesSources told nodes said)
+  refuses (Parts n) = (text ≡ []) × OfPlan content told command.file (λ nodes. RefusesSources told nodes said)
   refuses Audit = (text ≡ []) × OfPlan content told command.file (λ nodes. RefusesSources told nodes said)
   refuses Stream = OfPlan content told command.file (λ nodes. RefusesSources told nodes said × ((text ≡ []) ⊎ StreamsFront told nodes text))
   refuses Live = OfPlanAlone (told command.file) (λ nodes. RefusesScript command.script (told command.script) nodes text said)

@@ -3,7 +3,7 @@ use Rattle.std.specs.Prelude.{ℕ, ◌≡◌, ◌≢◌, ◌<◌, ◌≤◌, Lis
 use Rattle.std.specs.Str.{bytes_eq}
 use Rattle.cedr_text.specs.Numbers.{whole_number}
 use Rattle.cedr_commands.specs.declared.command.Job.{Job}
-use Rattle.cedr_commands.specs.declared.command.Job.TheVariants.{History, Check, Serial, Run, Pool, Stream, Audit, Live, Make, Save, Resume}
+use Rattle.cedr_commands.specs.declared.command.Job.TheVariants.{History, Check, Serial, Run, Pool, Parts, Stream, Audit, Live, Make, Save, Resume}
 
 -- what to do, with which file, from which checkpoint, and with which script
 pub record Command : Type 0 where
@@ -55,23 +55,35 @@ abbrev pub with_threads : Option ℕ → List ℕ → Option Command
 with_threads None plan = None
 with_threads (Some n) plan = Some (record { job = Pool n; file = plan; checkpoint = []; script = [] })
 
+-- a number of parts from 1 to 16, of one or two digits
+abbrev pub part_count : List ℕ → Option ℕ
+part_count word = number_up_to 2 16 word
+
+-- the command `parts` with so many parts of a plan's keys
+abbrev pub with_parts : Option ℕ → List ℕ → Option Command
+with_parts None plan = None
+with_parts (Some n) plan = Some (record { job = Parts n; file = plan; checkpoint = []; script = [] })
+
 -- `history FILE`, `check PLAN`, `serial PLAN`, `run PLAN`, `stream PLAN`, `audit PLAN`, `live PLAN SCRIPT`, `make N`, `pool N PLAN`,
--- `save PLAN SCRIPT`, `resume PLAN CHECKPOINT SCRIPT`
+-- `parts N PLAN`, `save PLAN SCRIPT`, `resume PLAN CHECKPOINT SCRIPT`
 abbrev pub command_of : List (List ℕ) → Option Command
 command_of (word ∷ file ∷ []) = if bytes_eq word (codes "make") then with_events (events_of file) else with_file (job_of word) file
 command_of (word ∷ first ∷ second ∷ []) =
     if bytes_eq word (codes "live") then Some (record { job = Live; file = first; checkpoint = []; script = second })
     else if bytes_eq word (codes "save") then Some (record { job = Save; file = first; checkpoint = []; script = second })
     else if bytes_eq word (codes "pool") then with_threads (threads_of first) second
+    else if bytes_eq word (codes "parts") then with_parts (part_count first) second
     else None
 command_of (word ∷ first ∷ second ∷ third ∷ []) =
     if bytes_eq word (codes "resume") then Some (record { job = Resume; file = first; checkpoint = second; script = third }) else None
 command_of words = None
 
--- the number of a job is in its range: a workload has from 1 to 100,000 events a source, and a pool from 1 to 16 threads
+-- the number of a job is in its range: a workload has from 1 to 100,000 events a source, a pool from 1 to 16 threads, and a plan
+-- from 1 to 16 parts
 abbrev pub IsNumbered : Job → Type 0
 IsNumbered (Make n) = (0 < n) × (n ≤ 100000)
 IsNumbered (Pool n) = (0 < n) × (n ≤ 16)
+IsNumbered (Parts n) = (0 < n) × (n ≤ 16)
 IsNumbered job = Unit {0}
 
 -- the words match none of `run PLAN`, `stream PLAN` and `pool N PLAN`

@@ -8,7 +8,7 @@ use Rattle.cedr_save.specs.Checkpoints.{plan_sources, IsCheckpoint}
 use Rattle.plan_answer.specs.Sources.{AsksFirst, AreTold, source_files}
 use Rattle.cedr_text.specs.Texts.{line_feed}
 use Rattle.cedr_commands.specs.declared.command.Job.{Job}
-use Rattle.cedr_commands.specs.declared.command.Job.TheVariants.{Serial, Run, Pool, Stream, Audit, Live, Save, Resume}
+use Rattle.cedr_commands.specs.declared.command.Job.TheVariants.{Serial, Run, Pool, Parts, Stream, Audit, Live, Save, Resume}
 use Rattle.cedr_commands.specs.declared.outcome.Outcome.{Outcome}
 use Rattle.cedr_commands.specs.declared.outcome.Outcome.TheVariants as outcome
 use Rattle.cedr_commands.specs.declared.status.Status.{Status}
@@ -23,7 +23,7 @@ use Rattle.cedr_commands.specs.Seen.{FilesSeen, SinkSeen, NoneRose, BreaksOff}
 
 -- the text where the words match no command
 abbrev pub usage_text : List ℕ
-usage_text = codes "usage: cedr history FILE | check PLAN | serial PLAN | run PLAN | stream PLAN | audit PLAN | live PLAN SCRIPT | make N | pool N PLAN | save PLAN SCRIPT | resume PLAN CHECKPOINT SCRIPT" ++ line_feed ∷ []
+usage_text = codes "usage: cedr history FILE | check PLAN | serial PLAN | run PLAN | stream PLAN | audit PLAN | live PLAN SCRIPT | make N | pool N PLAN | parts N PLAN | save PLAN SCRIPT | resume PLAN CHECKPOINT SCRIPT" ++ line_feed ∷ []
 
 -- the text where a file wasn't found, or a read was refused
 abbrev pub read_text : List ℕ
@@ -135,6 +135,7 @@ AsksOnly command files files' = asks command.job where
   asks Serial = AsksFirst files.asked files'.asked (named_files command) ⊎ AsksPlan files files' command.file
   asks Run = AsksFirst files.asked files'.asked (named_files command) ⊎ AsksPlan files files' command.file
   asks (Pool n) = AsksFirst files.asked files'.asked (named_files command) ⊎ AsksPlan files files' command.file
+  asks (Parts n) = AsksFirst files.asked files'.asked (named_files command) ⊎ AsksPlan files files' command.file
   asks Audit = AsksFirst files.asked files'.asked (named_files command) ⊎ AsksPlan files files' command.file
   asks Stream = AsksFirst files.asked files'.asked (named_files command) ⊎ AsksPlan files files' command.file
   asks job = AsksFirst files.asked files'.asked (named_files command)

@@ -20,12 +20,12 @@ use Rattle.plan_serial.specs.Rounds.{ByLine}
 use Rattle.plan_serial.specs.Sources.{AreReadByLine}
 use Rattle.plan_answer.specs.declared.faulty.FaultySource.{FaultySource}
 use Rattle.cedr_commands.specs.declared.command.Job.{Job}
-use Rattle.cedr_commands.specs.declared.command.Job.TheVariants.{Serial, Run, Pool, Stream, Audit}
+use Rattle.cedr_commands.specs.declared.command.Job.TheVariants.{Serial, Run, Pool, Parts, Stream, Audit}
 use Rattle.cedr_commands.specs.declared.outcome.Outcome.{Outcome}
 use Rattle.cedr_commands.specs.declared.outcome.Outcome.TheVariants as outcome
-use Rattle.cedr_commands.specs.Answers.{IsPlanOf, IsNoPlan, OfPlanAlone, RefusesSources, GivesPlan, BeginsPlan}
+use Rattle.cedr_commands.specs.Answers.{Contents, IsNoPlan, OfPlanAlone, RefusesSources, GivesPlan, BeginsPlan}
 use Rattle.cedr_commands.specs.Refusals.{refusal_text}
-use Rattle.cedr_commands.specs.Seen.{FilesSeen, SinkSeen}
+use Rattle.cedr_commands.specs.Seen.{FilesSeen, SinkSeen, NoneRose}
 
 -- ---- texts
 
@@ -144,15 +144,10 @@ abbrev pub ReadsSources : Job → Type 0
 ReadsSources Serial = Unit {0}
 ReadsSources Run = Unit {0}
 ReadsSources (Pool n) = Unit {0}
+ReadsSources (Parts n) = Unit {0}
 ReadsSources Audit = Unit {0}
 ReadsSources Stream = Unit {0}
 ReadsSources job = ⊥
-
--- a plan of these nodes was read from a file, and its sources have these lines left
-pub record AreOpened (files files' : FilesSeen) (file : List ℕ) (nodes : List PlanNode) (left : ByLine) : Type 0 where
-  pub plan : (told : List ℕ → List ℕ) → AreTold files.content told (file ∷ []) → IsPlanOf (told file) nodes
-  pub sources : (told : List ℕ → List ℕ) → AreTold files.content told (source_files nodes) → AreReadByLine told nodes left []
-  pub faults : files'.faults ≡ files.faults
 
 -- what is written of a plan and its sources, by what the files of these hold
 abbrev pub Texts : Type 1
@@ -187,3 +182,29 @@ EndsWith gives begins nodes left out out' outcome.Read = ⊥
 -- the same of what a command gives of a plan and its sources
 abbrev pub EndsSources : Job → List PlanNode → ByLine → SinkSeen → SinkSeen → Outcome → Type 0
 EndsSources job nodes left out out' o = EndsWith (GivesPlan job) (BeginsPlan job) nodes left out out' o
+
+-- ---- behind a plan
+
+-- of an opened plan of these nodes such a text was written, where it is known what the files of its sources hold
+pub record GavePlan (texts : Texts) (content : Contents) (nodes : List PlanNode) (out out' : SinkSeen) : Type 0 where
+  pub text : List ℕ
+  pub gives : (told : List ℕ → List ℕ) → AreTold content told (source_files nodes) → texts told nodes text
+  pub wrote : Appends out.written out'.written text
+
+-- the same of a front of such a text
+pub record BeganPlan (texts : Texts) (content : Contents) (nodes : List PlanNode) (out out' : SinkSeen) : Type 0 where
+  pub text : List ℕ
+  pub begins : (told : List ℕ → List ℕ) → AreTold content told (source_files nodes) → texts told nodes text
+  pub wrote : AppendsFront out.written out'.written text
+
+-- How a command ends behind an opened plan of these nodes, where it writes its text when that is whole.
+abbrev pub EndsPlan : Job → List PlanNode → FilesSeen → FilesSeen → SinkSeen → SinkSeen → Outcome → Type 0
+EndsPlan job nodes files files' out out' outcome.Done = NoneRose files files' out out' × GavePlan (GivesPlan job) files.content nodes out out'
+EndsPlan job nodes files files' out out' (outcome.Events said) = NoneRose files files' out out' × Keeps out.written out'.written × ((told : List ℕ → List ℕ) → AreTold files.content told (source_files nodes) → RefusesSources told nodes said.items)
+EndsPlan job nodes files files' out out' outcome.Read = (files.faults < files'.faults) × (out'.faults ≡ out.faults) × Keeps out.written out'.written
+EndsPlan job nodes files files' out out' outcome.Write = (out.faults < out'.faults) × BeganPlan (BeginsPlan job) files.content nodes out out'
+EndsPlan job nodes files files' out out' outcome.OutOfMemory = Keeps out.written out'.written ⊎ BeganPlan (BeginsPlan job) files.content nodes out out'
+EndsPlan job nodes files files' out out' outcome.Usage = ⊥
+EndsPlan job nodes files files' out out' (outcome.BadPlan kind node) = ⊥
+EndsPlan job nodes files files' out out' (outcome.Unsaved node) = ⊥
+EndsPlan job nodes files files' out out' (outcome.BadCheckpoint line) = ⊥

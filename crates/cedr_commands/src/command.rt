@@ -18,6 +18,8 @@ pub enum Job {
     Run,
     /// The same, with so many threads for all nodes of the plan.
     Pool(u64),
+    /// The same, by so many parts of the keys, where the plan keeps one.
+    Parts(u64),
     /// Writes the changes of a plan's answer as they come.
     Stream,
     /// Writes the answer of a plan and what its ports forgot.
@@ -106,6 +108,10 @@ pub fn named_command(words: &[String]) -> Option<(Job, &str, &str, &str)>
             "pool" => {
                 let threads = count(2, 16, first.as_bytes())?;
                 Some((Job::Pool(threads), second.as_str(), "", ""))
+            }
+            "parts" => {
+                let parts = count(2, 16, first.as_bytes())?;
+                Some((Job::Parts(parts), second.as_str(), "", ""))
             }
             _ => None,
         },

@@ -29,8 +29,9 @@ mod status;
 
 pub use alone::{run_alone, run_named};
 pub use command::{Job, named_command};
-pub use law::resumed_commands;
+pub use law::{accepted_commands, resumed_commands};
 pub use outcome::Outcome;
 pub use plan::open_plan;
 pub use saying::{refuse_sources, write_text};
+pub use sources::on_plan;
 pub use status::Status;

@@ -1,15 +1,14 @@
-ghost use Rattle.std.specs.Prelude.{◌≡◌, ◌≢◌, ◌<◌, List, ℕ, IfOk, IfErr};
+ghost use Rattle.std.specs.Prelude.{◌≡◌, ◌≢◌, ◌<◌, List, ℕ, IfOk};
 ghost use Rattle.cedr_io.specs.Counts.{last_count};
 ghost use Rattle.cedr_plan.specs.Rules.{IsPlan};
 ghost use Rattle.plan_serial.specs.Feeding.{AreSources};
 ghost use Rattle.plan_answer.specs.Sources.{AsksFirst, AreTold, source_files};
 ghost use Rattle.cedr_commands.specs.Answers.{AnswersInTurns};
-ghost use Rattle.cedr_commands.specs.declared.command.Job.{Job};
 ghost use Rattle.cedr_commands.specs.declared.command.Job.TheVariants.{Stream};
 ghost use Rattle.cedr_commands.specs.Commands.{Command};
 ghost use Rattle.cedr_commands.specs.Outcomes.{CommandEnds, AsksOnly};
-ghost use Rattle.cedr_commands.specs.Seen.{SinkSeen, seen_files, seen_sink};
-ghost use Rattle.cedr_commands.specs.Steps.{CountsStep, StopsSources, OpensSources, ReadsSources, AreOpened, EndsWith, EndsSources};
+ghost use Rattle.cedr_commands.specs.Seen.{seen_files, seen_sink};
+ghost use Rattle.cedr_commands.specs.Steps.{CountsStep, StopsSources, OpensSources, ReadsSources, EndsPlan, EndsWith, EndsSources};
 
 use crate::command::Job;
 use crate::outcome::Outcome;
@@ -43,33 +42,6 @@ fn open_sources<F: Files>(
         Err(SourcesFault::Events(faulty)) => Err(refuse_sources(alloc, nodes, &faulty)),
         Err(SourcesFault::Read) => Err(Outcome::Read),
         Err(SourcesFault::OutOfMemory) => Err(Outcome::OutOfMemory),
-    }
-}
-
-/// A plan and all messages of its sources line by line, or how a command ends without them. No source is held whole beside
-/// these.
-fn open<F: Files>(
-    alloc: Global,
-    file: &[u8],
-    files: &mut F,
-) -> Result<(Plan, Vec<Entries>), Outcome>
-    requires { F.faults files.old < last_count }
-    ensures plan { IfOk result (λ r. IsPlan r.0) }
-    ensures sources { IfOk result (λ r. AreSources r.0.nodes.items r.1.items) }
-    ensures opened { IfOk result (λ r. AreOpened (seen_files F.content F.faults F.asked files.old) (seen_files F.content F.faults F.asked files.new) file.now r.0.nodes.items r.1.items) }
-    ensures ends { IfErr result (λ o. (job : Job) (checkpoint script : List ℕ) (out : SinkSeen) → ReadsSources job → CommandEnds (record { job = job; file = file.now; checkpoint = checkpoint; script = script })
-        (seen_files F.content F.faults F.asked files.old) (seen_files F.content F.faults F.asked files.new) out out o) }
-    ensures asked { (job : Job) (checkpoint script : List ℕ) → ReadsSources job → AsksOnly (record { job = job; file = file.now; checkpoint = checkpoint; script = script })
-        (seen_files F.content F.faults F.asked files.old) (seen_files F.content F.faults F.asked files.new) }
-    ensures contents { (n : List ℕ) → F.content files.new n ≡ F.content files.old n }
-{
-    let plan = match open_plan(alloc, file, files) {
-        Ok(plan) => plan,
-        Err(outcome) => return Err(outcome),
-    };
-    match open_sources(alloc, &plan, files) {
-        Ok(left) => Ok((plan, left)),
-        Err(outcome) => Err(outcome),
     }
 }
 
@@ -108,6 +80,31 @@ fn give<K: Sink>(alloc: Global, job: Job, plan: &Plan, left: Vec<Entries>, out: 
     }
 }
 
+/// Reads the sources of a plan, and writes what the command gives of them, on one thread: of `run`, `pool` and `parts` what
+/// `serial` gives. The text is written as a whole. At every outcome each source that was found was given back.
+pub fn on_plan<F: Files, K: Sink>(
+    alloc: Global,
+    job: Job,
+    plan: &Plan,
+    files: &mut F,
+    out: &mut K,
+) -> Outcome
+    requires files_count { F.faults files.old < last_count }
+    requires out_counts { K.faults out.old < last_count }
+    requires job { ReadsSources job }
+    requires alone { job ≢ Stream }
+    requires plan { IsPlan plan.now }
+    ensures ends { EndsPlan job plan.now.nodes.items (seen_files F.content F.faults F.asked files.old) (seen_files F.content F.faults F.asked files.new)
+        (seen_sink K.written K.faults out.old) (seen_sink K.written K.faults out.new) result }
+    ensures asked { AsksFirst (F.asked files.old) (F.asked files.new) (source_files plan.now.nodes.items) }
+    ensures contents { (n : List ℕ) → F.content files.new n ≡ F.content files.old n }
+{
+    match open_sources(alloc, plan, files) {
+        Ok(left) => give(alloc, job, plan, left, out),
+        Err(outcome) => outcome,
+    }
+}
+
 /// Reads a plan and its sources, and writes what the command gives of them, where it waits for nobody.
 pub(crate) fn on_sources<F: Files, K: Sink>(
     alloc: Global,
@@ -127,8 +124,8 @@ pub(crate) fn on_sources<F: Files, K: Sink>(
         (seen_files F.content F.faults F.asked files.old) (seen_files F.content F.faults F.asked files.new) }
     ensures contents { (n : List ℕ) → F.content files.new n ≡ F.content files.old n }
 {
-    match open(alloc, file, files) {
-        Ok((plan, left)) => give(alloc, job, &plan, left, out),
+    match open_plan(alloc, file, files) {
+        Ok(plan) => on_plan(alloc, job, &plan, files, out),
         Err(outcome) => outcome,
     }
 }

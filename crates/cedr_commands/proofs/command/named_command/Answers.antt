@@ -6,7 +6,7 @@ use Rattle.cedr_commands.proofs.command.named_command.Goals.{in_default-via-then
 
 pub returns-in_default-as_str-clause-named : goal.returns-in_default-as_str-clause-named
 returns-in_default-as_str-clause-named c =
-    other_three string_bytes c.args.words.now c.word-item-then-words-lt4.result (omega (arith, c.in-len3.len_at_least, c.in-len3.len_below)) c.word-item-then-words-lt4.is (search rules) (search rules) (search rules)
+    other_three string_bytes c.args.words.now c.word-item-then-words-lt4.result (omega (arith, c.in-len3.len_at_least, c.in-len3.len_below)) c.word-item-then-words-lt4.is (search rules) (search rules) (search rules) (search rules)
 
 pub returns-in_default-clause-named : goal.returns-in_default-clause-named
 returns-in_default-clause-named c = elim c.in_default.branch [
