@@ -23,6 +23,9 @@ cedr stream PLAN          cedr stream plan.json
 cedr pool N PLAN          cedr pool 4 plan.json
     writes what run writes, with N threads for all nodes, N from 1 to 16, where run has one
     for each node. It is no quicker than run, and takes no more threads than it is told.
+cedr parts N PLAN         cedr parts 4 plan.json
+    writes what run writes, by N parts of the keys of its events, each on a thread, N from 1
+    to 16. A plan that keeps no key, or has a finite memory, is answered as serial does.
 cedr live PLAN SCRIPT     cedr live plan.json script.txt
     reads no event file. Each line of the script is an event line after the name of its
     source and a comma, or ? alone, at which the rows so far are written, and then up to

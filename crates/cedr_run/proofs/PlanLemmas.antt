@@ -8,7 +8,7 @@ use Rattle.plan_answer.specs.Sources.{AreTold, AsksFirst, source_files}
 use Rattle.plan_edges.specs.Wires.{carried, ports_of}
 use Rattle.cedr_worker.specs.declared.ran.Ran.{Ran}
 use Rattle.cedr_commands.specs.declared.command.Job.{Job}
-use Rattle.cedr_commands.specs.declared.command.Job.TheVariants.{History, Check, Serial, Run, Pool, Stream, Audit, Live, Make, Save, Resume}
+use Rattle.cedr_commands.specs.declared.command.Job.TheVariants.{History, Check, Serial, Run, Pool, Parts, Stream, Audit, Live, Make, Save, Resume}
 use Rattle.cedr_commands.specs.declared.outcome.Outcome.{Outcome}
 use Rattle.cedr_commands.specs.declared.outcome.Outcome.TheVariants as outcome
 use Rattle.cedr_commands.specs.declared.status.Status.{Status}
@@ -20,13 +20,7 @@ use Rattle.cedr_commands.specs.Outcomes.{CommandEnds, IsSilentAtRead, Wrote, Wro
 use Rattle.cedr_commands.specs.Seen.{FilesSeen, SinkSeen}
 use Rattle.cedr_commands.specs.Steps.{OpensPlan, ReadsSources}
 use Rattle.cedr_run.specs.Threads.{AnswersBy, BeganRun, BeginsBy, GaveRun, HasRun, IsSilentBy, IsThreaded, RunEnds, WroteRun}
-use Rattle.cedr_commands.proofs.EndingLemmas.{IsOpened, begins_of, gives_of, named_one, opened_told, refuses_of, told_same}
-
--- a sink that kept what it had gained nothing
-appends_nothing : (old new : Option (List ℕ)) → Keeps old new → Appends old new []
-appends_nothing None new keeps = tt
-appends_nothing (Some xs) None keeps = absurd keeps
-appends_nothing (Some xs) (Some ys) keeps = keeps ∙ sym (append-nil xs)
+use Rattle.cedr_commands.proofs.EndingLemmas.{IsOpened, appends_nothing, begins_of, gives_of, named_one, opened_told, refuses_of, told_same}
 
 -- all names were asked for, so first ones were
 pub asks_all : (old new names : List (List ℕ)) → new ≡ old ++ names → AsksFirst old new names
@@ -61,6 +55,7 @@ by_threaded P Stream is run pool stream = stream
 by_threaded P History is run pool stream = absurd is
 by_threaded P Check is run pool stream = absurd is
 by_threaded P Serial is run pool stream = absurd is
+by_threaded P (Parts n) is run pool stream = absurd is
 by_threaded P Audit is run pool stream = absurd is
 by_threaded P Live is run pool stream = absurd is
 by_threaded P (Make n) is run pool stream = absurd is

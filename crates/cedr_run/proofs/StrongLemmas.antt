@@ -44,7 +44,7 @@ use Rattle.plan_runs.specs.Partials.{AllBeginTables, BeginsTable}
 use Rattle.node_laws.proofs.Additions.{only_adds}
 use Rattle.plan_runs.proofs.PartialOutput.{output_adds, output_ascends}
 use Rattle.cedr_commands.specs.declared.command.Job.{Job}
-use Rattle.cedr_commands.specs.declared.command.Job.TheVariants.{History, Check, Serial, Run, Pool, Stream, Audit, Live, Make, Save, Resume}
+use Rattle.cedr_commands.specs.declared.command.Job.TheVariants.{History, Check, Serial, Run, Pool, Parts, Stream, Audit, Live, Make, Save, Resume}
 use Rattle.cedr_commands.specs.Answers.{AddsInOrder, AllHaveBegun, HasBegun, StreamsSoFar}
 use Rattle.cedr_commands.specs.Seen.{FilesSeen, SinkSeen}
 use Rattle.cedr_run.specs.Strong.{AddsGood, AllHaveGood, StreamsPlan, StreamsStrong, WroteGood, WroteStrong}
@@ -255,6 +255,7 @@ streams_strong_by Check files file checkpoint script out out' streams = tt
 streams_strong_by Serial files file checkpoint script out out' streams = tt
 streams_strong_by Run files file checkpoint script out out' streams = tt
 streams_strong_by (Pool n) files file checkpoint script out out' streams = tt
+streams_strong_by (Parts n) files file checkpoint script out out' streams = tt
 streams_strong_by Audit files file checkpoint script out out' streams = tt
 streams_strong_by Live files file checkpoint script out out' streams = tt
 streams_strong_by (Make n) files file checkpoint script out out' streams = tt

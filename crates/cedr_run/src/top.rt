@@ -12,13 +12,15 @@ use crate::ending::Ending;
 use crate::threads::{Threaded, on_threads};
 use cedr_commands::{Job, Status, named_command, run_named};
 use cedr_io::{Files, Gate, Sink};
+use cedr_parts::run_parts;
 use std::alloc::Global;
 use std::sync::{Arc, Wait};
 use std::thread::Threads;
 use std::time::Clock;
 
 /// Carries out the command that the words name, and answers how it ended. `run`, `stream` and `pool` may wait, and so need not
-/// return. They turn the workers of their plan on threads, and each of these turns passes the gate.
+/// return. They turn the workers of their plan on threads, and each of these turns passes the gate. `parts` takes threads
+/// without workers.
 pub fn run<
     R: Threads + Wait + Clock + Copy + Drop + Send + Sync + 'static,
     F: Files,
@@ -53,6 +55,10 @@ where
     match named_command(words) {
         Some((job @ (Job::Run | Job::Pool(_) | Job::Stream), file, _, _)) => {
             call_threads(rt, alloc, job, file.as_bytes(), files, out, err, gate)
+        }
+        Some((Job::Parts(count), file, _, _)) => {
+            let status = run_parts(&rt, alloc, count, file.as_bytes(), files, out, err);
+            bare(alloc, status)
         }
         named => bare(alloc, run_named(alloc, named, files, out, err)),
     }
