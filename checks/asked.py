@@ -15,8 +15,8 @@ EMPTY = object()
 ON_SOURCES = ("serial", "run", "audit", "stream")
 ON_THREADS = ("run", "stream")
 ON_SCRIPTS = ("live", "save", "resume")
-THREADS = re.compile("[0-9]{1,2}")
-MOST_THREADS = 16
+FEW = re.compile("[0-9]{1,2}")
+MOST = 16
 
 
 class Asked(NamedTuple):
@@ -35,16 +35,19 @@ class Asked(NamedTuple):
     text: bytes = b""
 
 
-def is_pool(word: str) -> bool:
-    return THREADS.fullmatch(word) is not None and 1 <= int(word) <= MOST_THREADS
+def is_few(word: str) -> bool:
+    """Whether it is a number of threads, or of parts."""
+    return FEW.fullmatch(word) is not None and 1 <= int(word) <= MOST
 
 
 def read(words: list, find) -> Asked:
     """What these words ask for. `find` answers the bytes of a file, or none where it can't be read. A pool is asked what `run`
-    is, and a script that goes on from a checkpoint what `live` is, behind the messages of the states."""
+    is, parts what `serial` is, and a script that goes on from a checkpoint what `live` is, behind the messages of the states."""
     command, *operands = words or [""]
-    if command == "pool" and len(operands) == 2 and is_pool(operands[0]):
+    if command == "pool" and len(operands) == 2 and is_few(operands[0]):
         return read(["run", operands[1]], find)
+    if command == "parts" and len(operands) == 2 and is_few(operands[0]):
+        return read(["serial", operands[1]], find)
     if command == "make" and len(operands) == 1 and made.is_size(operands[0]):
         return Asked(command, 0, b"", made.plan(), [made.lines(int(operands[0]), source) for source in (0, 1)])
     if len(operands) != {"live": 2, "save": 2, "resume": 3, **dict.fromkeys(ON_SOURCES, 1)}.get(command):

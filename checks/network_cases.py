@@ -287,14 +287,19 @@ NO_COMMAND = [["run"], ["serial"], ["audit"], ["stream"], ["live"], ["make"], ["
               ["runs", "plan.json"], ["stream", "plan.json", ""], ["--run", "plan.json"],
               *(["make", word] for word in NO_SIZES), ["pool"], ["pool", "3"], ["pool", "plan.json"],
               ["pool", "plan.json", "3"], ["pool", "3", "plan.json", "x"], ["Pool", "3", "plan.json"],
-              ["run", "3", "plan.json"], *(["pool", word, "plan.json"] for word in NO_POOLS)]
+              ["run", "3", "plan.json"], *(["pool", word, "plan.json"] for word in NO_POOLS), ["parts"], ["parts", "3"],
+              ["parts", "plan.json"], ["parts", "plan.json", "3"], ["parts", "3", "plan.json", "x"],
+              *(["parts", word, "plan.json"] for word in NO_POOLS)]
 
 
 def asking(name: str, command: str):
-    """The words that ask a case, each with its name: those of its command, and where that is `run` those of pools."""
+    """The words that ask a case, each with its name: those of its command, where that is `run` those of pools, and where it is
+    `serial` those of parts."""
     yield name, [command, "plan.json"]
     for threads in POOLS if command == "run" else []:
         yield f"{name}, by pool {threads}", ["pool", threads, "plan.json"]
+    for parts in POOLS if command == "serial" else []:
+        yield f"{name}, in {parts} parts", ["parts", parts, "plan.json"]
 
 
 def all_cases():
@@ -319,7 +324,7 @@ def all_cases():
 def unread():
     good, bad = passing(MIDDLE), passing('{"block":9,"memory":5}')
     fault, told = b"read fault\n", b"plan fault 7 node 2\n"
-    for command in ("serial", "run", "audit", "stream", "pool 3"):
+    for command in ("serial", "run", "audit", "stream", "pool 3", "parts 3"):
         words = command.split()
         yield NetworkCase(f"{command} without a plan", {}, [*words, "none.json"], 4, b"", fault)
         yield NetworkCase(f"{command} without a source", {"plan.json": good.replace(b"s.csv", b"none.csv")},

@@ -135,7 +135,7 @@ def check_full_device(check: NetworkCheck) -> int:
     faulty = network_cases.files_of(network_cases.passing('"strong"'), {"s": "x"})
     script = {**rows, "x.txt": b"?\n"}
     refused, done, told = (5, b"", b"write fault\n"), (0, b"", b""), (3, b"", b"events s line 1 fault 2\n")
-    commands = [*([command] for command in asked.ON_SOURCES), ["pool", "3"]]
+    commands = [*([command] for command in asked.ON_SOURCES), ["pool", "3"], ["parts", "3"]]
     table = [(rows, [*words, "plan.json"], refused) for words in commands]
     table += [(none, [*words, "plan.json"], done) for words in commands if words != ["audit"]]
     table += [(faulty, [*words, "plan.json"], told) for words in commands]
@@ -152,7 +152,7 @@ def check_refused_reads(check: NetworkCheck) -> int:
     files = {"plan.json": data, "u.csv": b"+,1,1,3,b\n=,50\n"}
     write_files(check.folder, files)
     try:
-        for command in (*asked.ON_SOURCES, "pool 3"):
+        for command in (*asked.ON_SOURCES, "pool 3", "parts 3"):
             words = [*command.split(), "plan.json"]
             status, out, err = terminal.refused_read(check.program, check.folder, words)
             front = out if command == "stream" and b"+,1,2,a\n+,1,3,b\n".startswith(out) else b""
@@ -161,18 +161,18 @@ def check_refused_reads(check: NetworkCheck) -> int:
     except terminal.NoTerminal as reason:
         print(f"networks: reads that fail in the middle are skipped: there is no terminal ({reason})")
         return 0
-    return len(asked.ON_SOURCES) + 1
+    return len(asked.ON_SOURCES) + 2
 
 
 def check_pipes(check: NetworkCheck) -> int:
     """Sources that are named pipes are read like files."""
     folder = ROOT / "examples/monday"
     plan, sources = folder / "failed.json", {one.name: one.read_bytes() for one in folder.glob("*.csv")}
-    for command in ("run", "serial"):
+    for command in ("run", "serial", "parts 2"):
         with pipes.named(check.folder, sources):
-            came = check.run([command, plan])
+            came = check.run([*command.split(), plan])
         check.compare(f"{command} over named pipes", sources, (0, b"1300,1301,oven-1\n", b""), came)
-    return 2
+    return 3
 
 
 def main() -> int:

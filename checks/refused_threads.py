@@ -1,11 +1,11 @@
 #!/usr/bin/env python3
-"""`cedr run` and `cedr pool` give the same bytes where all of their threads are refused, where some are, and where none is, and
-the changes of `cedr stream` lead to them.
+"""`cedr run`, `cedr pool` and `cedr parts` give the same bytes where all of their threads are refused, where some are, and where
+none is, and the changes of `cedr stream` lead to them.
 
-Each thread asks for 8 MiB of addresses, and a plan's run for one thread a node, or a pool for as many as it has. The limit on
-addresses that the program is run under leaves room for none, for some, or for all of the seven threads of
-`examples/failed_restarts.json`, whose rows are those that README.md shows. Each limit leaves some 4 MB beside the threads: where
-they leave next to nothing, memory may run out, as the program then says.
+Each thread asks for 8 MiB of addresses, and a plan's run for one thread a node, a pool for as many as it has, and parts for one
+less than there are of them. The limit on addresses that the program is run under leaves room for none, for some, or for all of the
+seven threads of `examples/failed_restarts.json`, whose rows are those that README.md shows. Each limit leaves some 4 MB beside the
+threads: where they leave next to nothing, memory may run out, as the program then says.
 """
 import os
 import resource
@@ -51,7 +51,7 @@ def main():
     wrong = 0
     for limit in LIMITS:
         for _ in range(TIMES):
-            for words in ("run",), ("pool", "4"):
+            for words in ("run",), ("pool", "4"), ("parts", "4"):
                 told = run(limit, *words)
                 if told != (0, ROWS, b""):
                     wrong += 1
@@ -60,7 +60,7 @@ def main():
             if streamed[0] or streamed[2] or not leads_to_rows(streamed[1]):
                 wrong += 1
                 print(f"refused_threads: stream under {limit} kilobytes of addresses: {streamed}")
-    print(f"refused_threads: {len(LIMITS)} limits, each {TIMES} times by run, pool and stream: {wrong} wrong")
+    print(f"refused_threads: {len(LIMITS)} limits, each {TIMES} times by run, pool, parts and stream: {wrong} wrong")
     return 1 if wrong else 0
 
 

@@ -100,11 +100,13 @@ FILES = {
     "e.csv": A + b"+,3,7,inf,\"z,\"\n", "faulty.csv": A + b"+,1,1,2\n",
     "saved.txt": SAVED, "spoilt.txt": SAVED[:-4], "next.txt": NEXT, "faulty_next.txt": NEXT + b"a\n",
     "refused.json": plan(MIDDLE, MIDDLE).replace(b"b.csv", b"faulty.csv"),
+    "keyed.json": plan(MIDDLE, MIDDLE).replace(b'"where":[]', b'"where":[[0,"=",{"column":2}]]'),
 }
 PLANS = ["strong.json", "middle.json", "weak.json"]
 COMMANDS = [["history", "e.csv"], ["history", "faulty.csv"], ["check", "strong.json"], ["check", "faulty.json"], ["make", "3"],
             *[[command, name] for command in asked.ON_SOURCES for name in [*PLANS, "refused.json"]],
             *[["pool", "3", name] for name in [*PLANS, "refused.json"]],
+            *[["parts", "3", name] for name in [*PLANS, "keyed.json", "refused.json"]],
             *[["live", name, "script.txt"] for name in PLANS], ["live", "middle.json", "faulty.txt"],
             *[["save", name, "script.txt"] for name in PLANS], ["save", "middle.json", "faulty.txt"],
             *[["resume", name, "saved.txt", "next.txt"] for name in PLANS],

@@ -8,6 +8,7 @@ COMMANDS = {
     "run": ("PLAN",),
     "stream": ("PLAN",),
     "pool": ("N", "PLAN"),
+    "parts": ("N", "PLAN"),
     "live": ("PLAN", "SCRIPT"),
     "save": ("PLAN", "SCRIPT"),
     "resume": ("PLAN", "CHECKPOINT", "SCRIPT"),
@@ -18,7 +19,7 @@ COMMANDS = {
     "make": ("N",),
 }
 ALONE = ("--help", "--version")
-MOST = {"pool": 16, "make": 100_000}
+MOST = {"pool": 16, "parts": 16, "make": 100_000}
 # These read a plan, and none of its sources' files.
 WITHOUT_SOURCES = ("check", "live", "save", "resume")
 

@@ -11,7 +11,7 @@ SAID_FOR_COMMANDS = {
     "-V": "--version", "exec": "run", "answer": "run", "execute": "run", "query": "run", "validate": "check",
     "test": "check", "lint": "check", "show": "history", "cat": "history", "watch": "stream", "tail": "stream",
     "checkpoint": "save", "snapshot": "save", "store": "save", "restore": "resume", "continue": "resume", "load": "resume",
-    "parallel": "pool", "threads": "pool", "bench": "make",
+    "parallel": "parts", "cores": "parts", "part": "parts", "shards": "parts", "threads": "pool", "bench": "make",
 }
 
 

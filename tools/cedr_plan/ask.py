@@ -20,8 +20,9 @@ from cedr_plan.refused import (BAD_CHECKPOINT, BAD_EVENTS, BAD_PLAN, DONE, NO_ME
                                UNWRITTEN, USAGE, Failed, placed)
 
 # What the commands write that answer a plan: rows, changes of rows, or something that is handed on as it is.
-FRONT = {"run": ("begin", "end"), "pool": ("begin", "end"), "serial": ("begin", "end"), "audit": ("begin", "end"),
-         "live": ("begin", "end"), "resume": ("begin", "end"), "stream": ("change", "new_end", "begin", "end"), "save": ()}
+FRONT = {"run": ("begin", "end"), "pool": ("begin", "end"), "parts": ("begin", "end"), "serial": ("begin", "end"),
+         "audit": ("begin", "end"), "live": ("begin", "end"), "resume": ("begin", "end"),
+         "stream": ("change", "new_end", "begin", "end"), "save": ()}
 FORGOTTEN = b"--"
 SHOWN = b". "
 

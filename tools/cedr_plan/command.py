@@ -30,7 +30,8 @@ check FILE    asks the program for the types of each node, and writes them behin
 ask FILE [COMMAND WORD..]
               runs the program and writes its answer as a CSV with a header; times are dates
               where the text has a `unit` and an `epoch`. COMMAND is `run`, or one of pool N,
-              serial, audit, stream, live SCRIPT, save SCRIPT and resume CHECKPOINT SCRIPT
+              parts N, serial, audit, stream, live SCRIPT, save SCRIPT and resume CHECKPOINT
+              SCRIPT
 --help        prints this text
 
 FILE is `-` for standard input. The words are read by lark: apt-get install
