@@ -4,6 +4,7 @@ from program import Case
 
 WIDE = [source(f"w{number}", *["int"] * 16) for number in range(16)]
 A, B, C = source("a", "text", "int"), source("b", "text", "int"), source("c", "text", "int")
+ROUNDS = 19
 TWICE = [node("project", '"keep":[0,1,2,3]', "w", name) for name in "pq"]
 MONDAY = [
     source("rides", "text", "int"), source("stops", "int", "text"),
@@ -30,6 +31,63 @@ def wide_union(last: str) -> bytes:
                 node("union", "", "u0 u1 u2 u3", "all"), last, output())
 
 
+def all_ties(first: int, second: int, count: int) -> str:
+    """The first sixteen of the tests that tie each of so many columns from one on to each of as many from another on."""
+    pairs = [(one, other) for one in range(count) for other in range(count)][:16]
+    return tests(*(f'[{first + one},"=",{{"column":{second + other}}}]' for one, other in pairs))
+
+
+def joined(last: str) -> bytes:
+    """Twenty sources of eight columns, joined one after the other over sixteen ties, each time with a projection, and a node over all."""
+    nodes = [source("s0", *["int"] * 8)]
+    for number in range(1, ROUNDS + 1):
+        before = "s0" if number == 1 else f"p{number - 1}"
+        nodes += [source(f"s{number}", *["int"] * 8), node("join", all_ties(0, 8, 8), f"{before} s{number}", f"j{number}"),
+                  node("project", '"keep":[0,1,2,3,4,5,6,15]', f"j{number}", f"p{number}")]
+    return plan(*nodes, last, output("all"))
+
+
+def excepted(ties: str) -> bytes:
+    """Thirty sources of sixteen columns, taken off from another one after the other over sixteen ties, but for the first one."""
+    nodes = [source("s0", *["int"] * 16)]
+    for number in range(1, 31):
+        before = "s0" if number == 1 else f"x{number - 1}"
+        nodes += [source(f"s{number}", *["int"] * 16), node("except", ties if number == 1 else all_ties(0, 16, 16), f"{before} s{number}", f"x{number}")]
+    return plan(*nodes, output("x30"), version=2)
+
+
+def apart(edges: list) -> bytes:
+    """Sources of sixteen columns of which only the first three can be key columns, and an except for each edge whose ties ask that the
+    two sources have different ones: the plan is keyed where the graph has three colours."""
+    places = sorted({place for edge in edges for place in edge})
+    differ = tests(*(f'[{one},"=",{{"column":{16 + other}}}]' for one in range(3) for other in range(3) if one != other))
+    same = tests(*(f'[{one},"=",{{"column":{16 + other}}}]' for one in range(3) for other in range(3)))
+    nodes = [source(f"s{place}", *["int"] * 16) for place in places]
+    nodes += [node("except", differ, f"s{one} s{other}", f"e{one}_{other}") for one, other in edges]
+    before = "e{}_{}".format(*edges[0])
+    for number, (one, other) in enumerate(edges[1:]):
+        nodes.append(node("except", same, f"{before} e{one}_{other}", f"x{number}"))
+        before = f"x{number}"
+    return plan(*nodes, output(before), version=2)
+
+
+def hard_plans() -> list:
+    """Plans of as many nodes, columns and ties as there may be: the name, the plan's bytes, and whether it is keyed, or None where
+    that can't be found."""
+    ring = [(place, (place + 1) % 19) for place in range(19)]
+    all_of_four = [(one, other) for one in range(4) for other in range(one)]
+    behind_a_path = [(place, place + 1) for place in range(4, 14)] + all_of_four
+    return [
+        ("joins over sixteen ties", joined(node("group", '"keys":[7],"count":true,"sum":[]', f"p{ROUNDS}", "all")), True),
+        ("joins over sixteen ties in a group without keys", joined(node("group", '"keys":[],"count":true,"sum":[]', f"p{ROUNDS}", "all")), False),
+        ("excepts over sixteen ties", excepted(all_ties(0, 16, 16)), True),
+        ("excepts over sixteen ties, the first without one", excepted(tests()), False),
+        ("sources that several excepts read", apart(ring), True),
+        ("four sources that are to be apart", apart(all_of_four), False),
+        ("four sources that are to be apart behind others", apart(behind_a_path), None),
+    ]
+
+
 def all_cases() -> list:
     return [
         keyed("a source alone", plan(S, output("s")), "s,0"),
@@ -45,7 +103,7 @@ def all_cases() -> list:
         unkeyed("a join ties two columns of one source", plan(W, *TWICE, node("join", tests('[0,"=",{"column":5}]'), "p q"), output()), "p"),
         keyed("the key is in the second port's place", plan(A, B, node("join", tests('[0,"=",{"column":2}]'), "a b"), node("project", '"keep":[2]', "x", "y"), output("y")), "a,0 b,0"),
         keyed("a union", plan(A, B, node("union", "", "a b"), output()), "a,0 b,0"),
-        unkeyed("a pattern that ties another column than the group", plan(A, B, node("sequence", '"scope":5,' + tests('[0,"=",{"column":2}]'), "a b"), node("group", '"keys":[1],"count":true,"sum":[]', "x", "y"), output("y")), "x"),
+        unkeyed("a pattern that ties another column than the group", plan(A, B, node("sequence", '"scope":5,' + tests('[0,"=",{"column":2}]'), "a b"), node("group", '"keys":[1],"count":true,"sum":[]', "x", "y"), output("y")), "y"),
         keyed("a pattern whose second tie fits", plan(A, B, node("sequence", '"scope":5,' + tests('[1,"=",{"column":3}]', '[0,"=",{"column":2}]'), "a b"), node("group", '"keys":[1],"count":true,"sum":[]', "x", "y"), output("y")), "a,1 b,1"),
         keyed("a sequence that ties its third port to its first", plan(A, B, C, node("sequence", '"scope":5,' + tests('[1,"=",{"column":3}]', '[5,"=",{"column":1}]'), "a b c"), output()), "a,1 b,1 c,1"),
         unkeyed("a sequence whose third port is free", plan(A, B, C, node("sequence", '"scope":5,' + tests('[1,"=",{"column":3}]'), "a b c"), output()), "x"),

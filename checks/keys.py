@@ -9,6 +9,7 @@ usage: checks/keys.py [PROGRAM]
 """
 import json
 import random
+import resource
 import sys
 import tempfile
 from collections import Counter
@@ -23,7 +24,10 @@ from program import Check, built_program
 
 RANDOM = 1_500
 MOST_SOURCES = 4
+MOST_SECONDS = 0.010
+CALLS = 5
 UNKEYED = b"no column of the output is kept by all nodes: it ends at "
+UNDECIDED = b"no column of the output was found in 2000 tries\n"
 
 
 class Maker(random_networks.Maker):
@@ -90,6 +94,29 @@ def check_random(check: Check) -> Counter:
     return kinds
 
 
+def seconds(check: Check) -> float:
+    """The processor time that the program takes over the plan that was written, at best of some calls."""
+    def one() -> float:
+        before = resource.getrusage(resource.RUSAGE_CHILDREN)
+        check.run([b"p.json"])
+        after = resource.getrusage(resource.RUSAGE_CHILDREN)
+        return after.ru_utime + after.ru_stime - before.ru_utime - before.ru_stime
+    return min(one() for _ in range(CALLS))
+
+
+def check_hard(check: Check) -> int:
+    """Plans that are as large as may be are answered in a few milliseconds, those of several readers too."""
+    for name, data, keyed in key_cases.hard_plans():
+        status, out, err = answer(check, data)
+        kind = True if status == 0 else None if err == UNDECIDED else False
+        check.compare(name, data, (0, str(keyed).encode(), b""), (0, str(kind).encode(), b""))
+        if keyed:
+            check.compare(f"{name}, by the definition", data, (0, out, b""), by_definition(key_reference.nodes_of(json.loads(data)), out))
+        spent = seconds(check)
+        check.compare(f"{name}, in time", data, (0, b"", b""), (0, b"", b"" if spent < MOST_SECONDS else f"{spent:.3f} s".encode()))
+    return len(key_cases.hard_plans())
+
+
 def check_words(check: Check) -> int:
     check.write("p.json", key_cases.all_cases()[0].data)
     usage = 1, b"", b"usage: cedr_keys PLAN\n"
@@ -107,8 +134,9 @@ def main() -> int:
         check = Check(built_program("cedr_keys", ""), Path(folder), ".json")
         by_hand = check_cases(check)
         words = check_words(check)
+        hard = check_hard(check)
         kinds = check_random(check)
-    print(f"keys: {by_hand} plans by hand, {words} command lines, {RANDOM} random plans ({kinds['keyed']} keyed): {check.differences} differences")
+    print(f"keys: {by_hand} plans by hand, {hard} hard ones, {words} command lines, {RANDOM} random plans ({kinds['keyed']} keyed): {check.differences} differences")
     return 1 if check.differences else 0
 
 

@@ -1,8 +1,8 @@
 #!/usr/bin/env bash
 # Times the built program on made files, beside plain programs that do the same, and prints one table: wall time and
 # processor time in seconds, the peak of memory in MB, and the wall time in those of the program baseline.rs, which is
-# written by hand and proves nothing. A plan is answered by `serial`, `run` and `pool 4`. What is compared writes the same
-# bytes, or this ends with status 1. Each figure is of the quickest of RUNS runs.
+# written by hand and proves nothing. A plan is answered by `serial`, `run`, `pool 4` and `parts 4`. What is compared writes the
+# same bytes, or this ends with status 1. Each figure is of the quickest of RUNS runs.
 #
 #   history         an event file of 2^26 bytes; beside `sort`, by keys and of whole lines, and `wc -l`
 #   revised         an event file of 2^26 bytes of which every fourth line is a revision; beside the file without these
@@ -11,6 +11,7 @@
 #   sequence        an event of the one and within 100 an event of the other source of the same machine
 #   unless          an event of the one, where within 100 no event of the other of the same machine begins
 #   keyed           the join with ten events a machine in each source
+#   heavy           the join of sources of ten machines, where nine tenths of the events are of the first
 #   chain           one source of SIZE events through 40 selects
 #   wide            a plan of 64 nodes: eight sources of SIZE events each, joined two and two by machine, each join through
 #                   selects to counts and sums, and a union of the four
@@ -32,7 +33,7 @@ threads=4
 size=${1:-100000}
 runs=${2:-3}
 if [ $# -gt 2 ]; then shift 2; workloads=("$@"); else
-  workloads=(history revised join join_group sequence unless keyed chain wide peaks atleast except make)
+  workloads=(history revised join join_group sequence unless keyed heavy chain wide peaks atleast except make)
 fi
 if ! [ -x "$program" ]; then echo "build the program first: $program isn't there"; exit 2; fi
 folder=$(mktemp -d)
@@ -84,8 +85,8 @@ by_hand() {
 }
 
 two_sources() {
-  python3 "$here/events.py" "$size" 1 "$1" > a.csv
-  python3 "$here/events.py" "$size" 2 "$1" > b.csv
+  python3 "$here/events.py" "$size" 1 "$@" > a.csv
+  python3 "$here/events.py" "$size" 2 "$@" > b.csv
 }
 
 # by_cedr PLAN: times the commands that answer a plan
@@ -93,6 +94,7 @@ by_cedr() {
   timed serial "$program" serial "$1.json"
   timed run "$program" run "$1.json"
   timed pool "$program" pool "$threads" "$1.json"
+  timed parts "$program" parts "$threads" "$1.json"
 }
 
 python3 "$here/plans.py" .
@@ -136,7 +138,7 @@ for workload in "${workloads[@]}"; do
         seed=$((seed + 1))
       done
       by_cedr wide
-      beside wide serial run pool
+      beside wide serial run pool parts
       ;;
     peaks)
       python3 "$here/events.py" $((2 * size)) 1 > a.csv
@@ -144,7 +146,7 @@ for workload in "${workloads[@]}"; do
         by_hand "$plan" a.csv
         by_cedr "$plan"
         if [ -n "$sqlite" ]; then timed SQLite python3 "$here/on_sqlite.py" "$plan"; fi
-        beside "$plan" serial run pool baseline_ran SQLite
+        beside "$plan" serial run pool parts baseline_ran SQLite
       done
       ;;
     atleast|except)
@@ -158,20 +160,21 @@ for workload in "${workloads[@]}"; do
         by_hand "$plan" "${files[@]}"
         by_cedr "$plan"
         if [ -n "$sqlite" ]; then timed SQLite python3 "$here/on_sqlite.py" "$plan"; fi
-        beside "$plan" serial run pool baseline_ran SQLite
+        beside "$plan" serial run pool parts baseline_ran SQLite
       done
       ;;
     *)
       plan=$workload
-      machines=100
-      if [ "$workload" = keyed ]; then plan=join; machines=$((size / 10)); fi
-      two_sources "$machines"
+      machines=(100)
+      if [ "$workload" = keyed ]; then plan=join machines=($((size / 10))); fi
+      if [ "$workload" = heavy ]; then plan=join machines=(10 0 9); fi
+      two_sources "${machines[@]}"
       files=(a.csv b.csv)
       if [ "$workload" = chain ]; then files=(a.csv); fi
       by_hand "$plan" "${files[@]}"
       by_cedr "$plan"
       if [ -n "$sqlite" ] && [[ $workload = join* ]]; then timed SQLite python3 "$here/on_sqlite.py" "$plan"; fi
-      beside "$workload" serial run pool baseline_ran SQLite
+      beside "$workload" serial run pool parts baseline_ran SQLite
       ;;
   esac
 done

@@ -6,10 +6,10 @@ use Rattle.cedr_plan.specs.Drawn.{drawn}
 use Rattle.cedr_plan.specs.Plans.{plan_of}
 use Rattle.cedr_plan.specs.declared.plan.Plan.{Plan}
 use Rattle.cedr_plan.specs.declared.plan.PlanNode.{PlanNode}
-use Rattle.plan_key_choice.specs.Choices.{IsKeyChoice, IsKeyFaultOf, IsUnkeyed}
+use Rattle.plan_key_choice.specs.Choices.{IsKeyChoice, IsKeyFaultOf, IsUnkeyed, IsShared}
 use Rattle.plan_key_choice.specs.declared.fault.KeyFault.{KeyFault}
 use Rattle.plan_key_choice.specs.declared.fault.KeyFault.TheVariants as key_fault
-use Rattle.cedr_keys.specs.Ends.{IsKeyText, IsUnkeyedText}
+use Rattle.cedr_keys.specs.Ends.{IsKeyText, IsUnkeyedText, IsUndecided}
 use Rattle.cedr_keys.specs.Texts.{keys_text, unkeyed_text}
 
 -- the text of a choice of columns, of which this holds
@@ -26,3 +26,10 @@ unkeyed_known (Some bytes) plan nodes fault place node told opened same is h at 
     let none : IsUnkeyed plan.nodes.items place = subst (IsKeyFaultOf plan.nodes.items) is h in
     let found : get_or plan.nodes.items place node ≡ node = ap (λ (ns : List PlanNode). get_or ns place node) (sym same) ∙ sym at in
     record { plan = plan; node = node; place = place; described = opened; none = none.none; node_is = slice_get-get_or plan.nodes.items place node none.told ∙ ap (λ (n : PlanNode). Some n) found; text_is = text }
+
+-- a plan whose search was given up
+pub undecided_known : (content : Option (List ℕ)) (plan : Plan) (fault : KeyFault) → IfSome content (λ bytes. plan_of bytes ≡ Ok (drawn plan)) → fault ≡ key_fault.Undecided → IsKeyFaultOf plan.nodes.items fault → IfSome content IsUndecided
+undecided_known None plan fault opened is h = tt
+undecided_known (Some bytes) plan fault opened is h =
+    let shared : IsShared plan.nodes.items = subst (IsKeyFaultOf plan.nodes.items) is h in
+    record { plan = plan; described = opened; shared = shared }

@@ -11,7 +11,7 @@ use Rattle.cedr_plan.specs.declared.fault.PlanKind.{PlanKind}
 use Rattle.cedr_plan.specs.declared.plan.Plan.{Plan}
 use Rattle.cedr_plan.specs.declared.plan.PlanNode.{PlanNode}
 use Rattle.plan_keys.specs.Keys.{AreKeyed}
-use Rattle.plan_key_choice.specs.Choices.{IsKeyChoice}
+use Rattle.plan_key_choice.specs.Choices.{IsKeyChoice, IsShared}
 use Rattle.cedr_keys.specs.declared.outcome.KeysOutcome.{KeysOutcome}
 use Rattle.cedr_keys.specs.declared.outcome.KeysOutcome.TheVariants as keys_outcome
 use Rattle.cedr_keys.specs.Texts.{keys_text, unkeyed_text, bad_plan_text}
@@ -52,11 +52,18 @@ pub record IsUnkeyedText (bytes text : List ℕ) : Type 0 where
   pub node_is : slice_get plan.nodes.items place ≡ Some node
   pub text_is : text ≡ unkeyed_text node
 
+-- the bytes describe a plan in which several nodes read one
+pub record IsUndecided (bytes : List ℕ) : Type 0 where
+  pub plan : Plan
+  pub described : plan_of bytes ≡ Ok (drawn plan)
+  pub shared : IsShared plan.nodes.items
+
 -- How a call went over a file, where it is known what it holds, and what out gained: the lines of a choice of columns where
 -- the plan is keyed, a front of such lines where a write was refused or memory ran out, and else nothing.
 abbrev pub KeysFrom : Option (List ℕ) → Option (List ℕ) → Option (List ℕ) → KeysOutcome → Type 0
 KeysFrom content out out' keys_outcome.Keyed = IfSome content (λ bytes. (text : List ℕ) × IsKeyText bytes text × Appends out out' text)
 KeysFrom content out out' (keys_outcome.Unkeyed told) = Keeps out out' × IfSome content (λ bytes. IsUnkeyedText bytes told.items)
+KeysFrom content out out' keys_outcome.Undecided = Keeps out out' × IfSome content IsUndecided
 KeysFrom content out out' keys_outcome.Usage = ⊥
 KeysFrom content out out' (keys_outcome.BadPlan kind node) = Keeps out out' × IfSome content (λ bytes. plan_of bytes ≡ Err (record { kind = kind; node = node }))
 KeysFrom content out out' keys_outcome.Read = Keeps out out'
@@ -72,6 +79,7 @@ KeysCame words content out out' went = (went ≡ keys_outcome.Usage) × Keeps ou
 abbrev pub keys_code : KeysOutcome → ℕ
 keys_code keys_outcome.Keyed = 0
 keys_code (keys_outcome.Unkeyed told) = 1
+keys_code keys_outcome.Undecided = 1
 keys_code keys_outcome.Usage = 1
 keys_code (keys_outcome.BadPlan kind node) = 2
 keys_code keys_outcome.Read = 4
@@ -82,6 +90,7 @@ keys_code keys_outcome.OutOfMemory = 6
 abbrev pub told_text : KeysOutcome → List ℕ
 told_text keys_outcome.Keyed = []
 told_text (keys_outcome.Unkeyed told) = told.items
+told_text keys_outcome.Undecided = codes "no column of the output was found in 2000 tries" ++ line_feed ∷ []
 told_text keys_outcome.Usage = codes "usage: cedr_keys PLAN" ++ line_feed ∷ []
 told_text (keys_outcome.BadPlan kind node) = bad_plan_text kind node
 told_text keys_outcome.Read = codes "read fault" ++ line_feed ∷ []

@@ -53,6 +53,7 @@ fn answer<F: Files, K: Sink>(alloc: Global, file: &[u8], files: &mut F, out: &mu
                 Err(_) => KeysOutcome::OutOfMemory,
             };
         }
+        Err(KeyFault::Undecided) => return KeysOutcome::Undecided,
         Err(KeyFault::OutOfMemory) => return KeysOutcome::OutOfMemory,
     };
     let Ok(text) = keys_text(alloc, nodes, &columns) else {

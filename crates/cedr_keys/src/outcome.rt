@@ -15,6 +15,8 @@ pub(crate) enum KeysOutcome {
     Keyed,
     /// The plan isn't keyed. This is told of it.
     Unkeyed(Vec<u8>),
+    /// As many columns were tried as there may be, and the plan may be keyed or not.
+    Undecided,
     /// The words name no plan.
     Usage,
     /// The plan is refused, for a fault of the node of this number, or of the document at 0.
@@ -25,13 +27,13 @@ pub(crate) enum KeysOutcome {
 }
 
 impl KeysOutcome {
-    /// The exit status: those of `cedr`, and 1 where the plan isn't keyed.
+    /// The exit status: those of `cedr`, and 1 where the plan isn't keyed or it isn't known.
     fn code(&self) -> u8
         ensures { result ≡ keys_code self.now }
     {
         match self {
             KeysOutcome::Keyed => 0,
-            KeysOutcome::Unkeyed(_) | KeysOutcome::Usage => 1,
+            KeysOutcome::Unkeyed(_) | KeysOutcome::Undecided | KeysOutcome::Usage => 1,
             KeysOutcome::BadPlan(_, _) => 2,
             KeysOutcome::Read => 4,
             KeysOutcome::Write => 5,
@@ -47,6 +49,9 @@ impl KeysOutcome {
         match self {
             KeysOutcome::Keyed => {}
             KeysOutcome::Unkeyed(told) => return Ok(told),
+            KeysOutcome::Undecided => {
+                text.extend_from_slice(b"no column of the output was found in 2000 tries\n")?;
+            }
             KeysOutcome::Usage => text.extend_from_slice(b"usage: cedr_keys PLAN\n")?,
             KeysOutcome::BadPlan(kind, node) => write_bad_plan(kind, node, &mut text)?,
             KeysOutcome::Read => text.extend_from_slice(b"read fault\n")?,

@@ -23,7 +23,7 @@ use Rattle.cedr_plan.proofs.PlaceLemmas.{node_is, inputs_are}
 use Rattle.plan_keys.specs.Keys.{KeyedPort, KeepsKey, key_places, keyed_ports, AreKeyed, AreInWidth, HaveColumn, IsOneOf, IsTiedJoin, IsTiedFirst, first_repeated, AreOneKind, AreRenamed, column_at, width_at}
 use Rattle.plan_keys.proofs.Columns.{there, kept_length}
 use Rattle.plan_keys.proofs.Widths.{columns_there}
-use Rattle.plan_key_choice.specs.Choices.{AreInWidths, AgreeFrom, IsUnkeyed, KeepsKeyAt}
+use Rattle.plan_key_choice.specs.Choices.{AreInWidths, IsUnkeyed, KeepsKeyAt}
 use Rattle.plan_key_choice.proofs.Places.{keyed_at, keyed_from_each, width_take, if_some}
 
 -- a column of so many, or the first one
@@ -251,24 +251,11 @@ at_clamped columns nodes place are within keeps =
 pub keyed_within : (columns : List ℕ) (nodes : List PlanNode) → AreNodes [] (map node_of nodes) → AreKeyed columns [] nodes → AreKeyed (within_all columns nodes) [] nodes
 keyed_within columns nodes are keyed = keyed_from_each (within_all columns nodes) nodes (λ place h. at_clamped columns nodes place are h (keyed_at columns nodes place keyed h))
 
-past_end : (xs : List ℕ) (place : ℕ) → length xs ≤ place → column_at xs place ≡ 0
-past_end [] place h = refl
-past_end (x ∷ xs) zero h = absurd (omega arith)
-past_end (x ∷ xs) (suc place) h = past_end xs place (omega arith)
-
--- Where no columns within the widths are kept, whatever stands in a list as long as the nodes, none are.
-pub none_kept : (nodes : List PlanNode) (start : List ℕ) → AreNodes [] (map node_of nodes) → length start ≡ length nodes → ((other : List ℕ) → AgreeFrom (length nodes) other start → AreInWidths other nodes → AreKeyed other [] nodes → ⊥)
-    → (columns : List ℕ) → AreKeyed columns [] nodes → ⊥
-none_kept nodes start are count none columns keyed =
-    none (within_all columns nodes)
-    (λ place h. past_end (within_all columns nodes) place (omega (arith, h, clamped_count columns 0 nodes)) ∙ sym (past_end start place (omega (arith, h, count))))
-    (widths_clamped columns nodes) (keyed_within columns nodes are keyed)
-
--- the same of the nodes of a plan, and one of them that is told
-pub unkeyed : (own nodes : List PlanNode) (start : List ℕ) (node : ℕ) → nodes ≡ own → AreNodes [] (map node_of own) → length start ≡ length nodes → ((other : List ℕ) → AgreeFrom (length nodes) other start → AreInWidths other nodes → AreKeyed other [] nodes → ⊥) → node < length nodes
-    → IsUnkeyed own node
-unkeyed own nodes start node same are count none told = record {
-  none = none_kept own start are (count ∙ ap (λ (ns : List PlanNode). length ns) same)
-      (subst (λ (ns : List PlanNode). (other : List ℕ) → AgreeFrom (length ns) other start → AreInWidths other ns → AreKeyed other [] ns → ⊥) same none);
-  told = subst (λ (ns : List PlanNode). node < length ns) same told;
-}
+-- where no columns within the widths are kept, none are, and one of the nodes is told
+pub unkeyed : (own nodes : List PlanNode) (node : ℕ) → nodes ≡ own → AreNodes [] (map node_of own) → ((columns : List ℕ) → AreInWidths columns nodes → AreKeyed columns [] nodes → ⊥) → node < length nodes → IsUnkeyed own node
+unkeyed own nodes node same are none told =
+    let none_own = subst (λ (ns : List PlanNode). (columns : List ℕ) → AreInWidths columns ns → AreKeyed columns [] ns → ⊥) same none in
+    record {
+      none = λ columns keyed. none_own (within_all columns own) (widths_clamped columns own) (keyed_within columns own are keyed);
+      told = subst (λ (ns : List PlanNode). node < length ns) same told;
+    }

@@ -1,8 +1,8 @@
 -- The nodes of a plan one by one: what each keeps, and how narrow its ports are.
-use Rattle.std.proofs.Common.{◌≡◌, ℕ, zero, suc, ◌+◌, ◌-◌, ◌<◌, ◌≤◌, arith, List, [], ◌∷◌, ◌++◌, length, get_or, take, Bool, true, false, cond, leb, ltb, refl, ap, subst, sym, ◌∙◌, append_assoc, lit≤}
-use Rattle.std.specs.Prelude.{Option, Some, None, IfSome, IfOk, Result, Ok, Err, All, map}
+use Rattle.std.proofs.Common.{◌≡◌, ℕ, zero, suc, ◌+◌, ◌-◌, ◌<◌, ◌≤◌, arith, List, [], ◌∷◌, ◌++◌, length, get_or, take, Bool, true, false, cond, leb, refl, ap, subst, sym, ◌∙◌, append_assoc, lit≤}
+use Rattle.std.specs.Prelude.{◌≢◌, Option, Some, None, IfSome, IfOk, Result, Ok, Err, All, map}
 use Rattle.std.specs.List.{slice_get}
-use Rattle.std.proofs.lemmas.Bool.{ltb-false, leb-true, le-leb, le-ltb}
+use Rattle.std.proofs.lemmas.Bool.{leb-true, le-leb}
 use Rattle.std.proofs.lemmas.List.{append-nil, length-append, length-map, length-take}
 use Rattle.std.proofs.lemmas.List.Elements.{All-get_or, All-from_get_or, All-head, All-tail, All-map}
 use Rattle.std.proofs.lemmas.Option.{slice_get-get_or}
@@ -17,8 +17,9 @@ use Rattle.cedr_base.specs.declared.field.FieldType.{FieldType}
 use Rattle.cedr_plan.proofs.PlaceLemmas.{node_is, inputs_are}
 use Rattle.plan_keys.specs.Keys.{KeyedPort, KeepsKey, keyed_ports, AreKeyed, column_at, width_at}
 use Rattle.plan_key_choice.specs.declared.range.RangedPort.{RangedPort}
-use Rattle.plan_key_choice.specs.Ranges.{column_range, decided_column, ranged_port, may_keep, IsNarrow, RepeatsFew}
-use Rattle.plan_key_choice.specs.Choices.{AreInWidths, AgreeFrom, KeepsKeyAt}
+use Rattle.plan_key_choice.specs.Ranges.{column_range, ranged_port, may_keep, IsNarrow, RepeatsFew}
+use Rattle.plan_key_choice.specs.Choices.{AreInWidths, KeepsKeyAt}
+use Rattle.plan_key_choice.specs.Partial.{chosen_at, chosen_columns, HasChosen, AreAllChosen}
 use Rattle.plan_key_choice.proofs.Admitted.{IsAdmitted, AreAdmitted, keeps_may}
 use Rattle.plan_key_choice.proofs.Pinned.{IsPinned, ArePinned, may_keeps}
 
@@ -89,27 +90,12 @@ one_admitted c (Some k) w is within = in_or_out (leb k (w - 1)) refl where
   in_or_out true e = let fits = leb-true k (w - 1) e in record { columns = record { least = omega (arith, is); most = omega (arith, is) }; inside = fits; width = refl }
   in_or_out false e = record { columns = record { least = omega arith; most = within }; inside = omega arith; width = refl }
 
-got : (columns : List ℕ) (i : ℕ) → IfSome (slice_get columns i) (λ (k : ℕ). column_at columns i ≡ k)
-got [] i = tt
-got (c ∷ columns) zero = refl
-got (c ∷ columns) (suc i) = got columns i
-
-same_got : (o : Option ℕ) (c d : ℕ) → c ≡ d → IfSome o (λ (k : ℕ). d ≡ k) → IfSome o (λ (k : ℕ). c ≡ k)
-same_got None c d e is = tt
-same_got (Some k) c d e is = e ∙ is
-
-decided_is : (columns other : List ℕ) (from i : ℕ) → AgreeFrom from other columns → IfSome (decided_column columns from i) (λ (k : ℕ). column_at other i ≡ k)
-decided_is columns other from i agree = by_turn (ltb i from) refl where
-  by_turn : (b : Bool) → ltb i from ≡ b → IfSome (cond b None (slice_get columns i)) (λ (k : ℕ). column_at other i ≡ k)
-  by_turn true e = tt
-  by_turn false e = same_got (slice_get columns i) (column_at other i) (column_at columns i) (agree i (ltb-false i from e)) (got columns i)
-
-ports_admitted : (columns other : List ℕ) (from : ℕ) (before : List PlanNode) (inputs : List ℕ) → AgreeFrom from other columns → All (λ (i : ℕ). column_at other i ≤ width_at before i - 1) inputs
-    → AreAdmitted (map (ranged_port columns from before) inputs) (map (λ (i : ℕ). let port : KeyedPort = record { column = column_at other i; width = width_at before i } in port) inputs)
-ports_admitted columns other from before [] agree within = tt
-ports_admitted columns other from before (i ∷ inputs) agree within = (
-  one_admitted (column_at other i) (decided_column columns from i) (width_at before i) (decided_is columns other from i agree) (All-head (λ (i : ℕ). column_at other i ≤ width_at before i - 1) i inputs within),
-  ports_admitted columns other from before inputs agree (All-tail (λ (i : ℕ). column_at other i ≤ width_at before i - 1) i inputs within),
+ports_admitted : (choice : List (Option ℕ)) (columns : List ℕ) (before : List PlanNode) (inputs : List ℕ) → HasChosen choice columns → All (λ (i : ℕ). column_at columns i ≤ width_at before i - 1) inputs
+    → AreAdmitted (map (ranged_port choice before) inputs) (map (λ (i : ℕ). let port : KeyedPort = record { column = column_at columns i; width = width_at before i } in port) inputs)
+ports_admitted choice columns before [] extends within = tt
+ports_admitted choice columns before (i ∷ inputs) extends within = (
+  one_admitted (column_at columns i) (chosen_at choice i) (width_at before i) (extends i) (All-head (λ (i : ℕ). column_at columns i ≤ width_at before i - 1) i inputs within),
+  ports_admitted choice columns before inputs extends (All-tail (λ (i : ℕ). column_at columns i ≤ width_at before i - 1) i inputs within),
 )
 
 one_pinned : (c : ℕ) (o : Option ℕ) (w : ℕ) → o ≡ Some c → c ≤ w - 1 → IsPinned (record { columns = column_range o w; width = w }) (record { column = c; width = w })
@@ -118,19 +104,23 @@ one_pinned c o w is within =
     (subst (λ (b : Bool). IsPinned (record { columns = cond b (record { least = c; most = c }) (record { least = 0; most = w - 1 }); width = w }) (record { column = c; width = w })) (sym (le-leb c (w - 1) within))
     (record { columns = record { least = omega arith; most = omega arith }; width = refl }))
 
--- the column of a place is decided, and is one of its node's
-abbrev IsDecided : List ℕ → List PlanNode → ℕ → Type 0
-IsDecided columns before i = (i < length columns) × (column_at columns i ≤ width_at before i - 1)
+-- a column that is chosen is that of the columns
+pub chosen_is : (choice : List (Option ℕ)) (i : ℕ) → chosen_at choice i ≢ None → chosen_at choice i ≡ Some (column_at (chosen_columns choice) i)
+chosen_is [] i there = absurd (there refl)
+chosen_is (None ∷ choice) zero there = absurd (there refl)
+chosen_is (Some c ∷ choice) zero there = refl
+chosen_is (o ∷ choice) (suc i) there = chosen_is choice i there
 
-all_decided : (columns : List ℕ) (i : ℕ) → i < length columns → decided_column columns 0 i ≡ Some (column_at columns i)
-all_decided columns i within = ap (λ (b : Bool). cond b None (slice_get columns i)) (le-ltb i 0 (omega arith)) ∙ slice_get-get_or columns i 0 within
+-- the column of a place is chosen, and is one of its node's
+abbrev IsPinnedAt : List (Option ℕ) → List PlanNode → ℕ → Type 0
+IsPinnedAt choice before i = (chosen_at choice i ≢ None) × (column_at (chosen_columns choice) i ≤ width_at before i - 1)
 
-ports_pinned : (columns : List ℕ) (before : List PlanNode) (inputs : List ℕ) → All (IsDecided columns before) inputs
-    → ArePinned (map (ranged_port columns 0 before) inputs) (map (λ (i : ℕ). let port : KeyedPort = record { column = column_at columns i; width = width_at before i } in port) inputs)
-ports_pinned columns before [] decided = tt
-ports_pinned columns before (i ∷ inputs) decided =
-    let here = All-head (IsDecided columns before) i inputs decided in
-    (one_pinned (column_at columns i) (decided_column columns 0 i) (width_at before i) (all_decided columns i here.0) here.1, ports_pinned columns before inputs (All-tail (IsDecided columns before) i inputs decided))
+ports_pinned : (choice : List (Option ℕ)) (before : List PlanNode) (inputs : List ℕ) → All (IsPinnedAt choice before) inputs
+    → ArePinned (map (ranged_port choice before) inputs) (map (λ (i : ℕ). let port : KeyedPort = record { column = column_at (chosen_columns choice) i; width = width_at before i } in port) inputs)
+ports_pinned choice before [] pinned = tt
+ports_pinned choice before (i ∷ inputs) pinned =
+    let here = All-head (IsPinnedAt choice before) i inputs pinned in
+    (one_pinned (column_at (chosen_columns choice) i) (chosen_at choice i) (width_at before i) (chosen_is choice i here.0) here.1, ports_pinned choice before inputs (All-tail (IsPinnedAt choice before) i inputs pinned))
 
 narrow_range : (o : Option ℕ) (w : ℕ) → w ≤ 16 → IsNarrow (record { columns = column_range o w; width = w })
 narrow_range None w few = record { columns = record { least = omega arith; most = omega arith }; width = few }
@@ -183,32 +173,56 @@ if_some P None x e h = cc
 if_some P (Some y) x e h = subst P (let same : y ≡ x = cc in same) h
 
 module _ (nodes : List PlanNode) (are : AreNodes [] (map node_of nodes)) (place : ℕ) (n : PlanNode) (within : place < length nodes) (is : n ≡ get_or nodes place n) where
-  abbrev ranges : List ℕ → ℕ → List RangedPort
-  ranges columns from = map (ranged_port columns from (take place nodes)) n.inputs.items
+  abbrev ranges : List (Option ℕ) → List RangedPort
+  ranges choice = map (ranged_port choice (take place nodes)) n.inputs.items
 
   node_there : IsNode (map node_of (take place nodes)) (node_of n)
   node_there = subst (λ (x : PlanNode). IsNode (map node_of (take place nodes)) (node_of x)) (sym is) (node_is nodes place n are within)
 
-  earlier : All (λ (i : ℕ). i < place) n.inputs.items
+  -- all that it reads stands before it
+  pub earlier : All (λ (i : ℕ). i < place) n.inputs.items
   earlier =
       All-from_get_or (λ (i : ℕ). i < place) n.inputs.items 0
       (λ k h. let there = All-get_or (λ (i : ℕ). i < length (take place nodes)) n.inputs.items k 0 h (inputs_are (take place nodes) n node_there) in omega (arith, there, length-take place nodes))
 
-  few_inputs : length n.inputs.items ≤ 4
+  -- it reads few
+  pub few_inputs : length n.inputs.items ≤ 4
   few_inputs = let most = node_there.most_ports in omega (arith, most, most_four n.kind)
 
+  -- what it reads on a port stands before it
+  pub input_before : (port : ℕ) (input : Option ℕ) → input ≡ slice_get n.inputs.items port → IfSome input (λ (i : ℕ). i < place)
+  input_before port input e = subst (λ (o : Option ℕ). IfSome o (λ (i : ℕ). i < place)) (sym e) (each n.inputs.items port earlier) where
+    each : (xs : List ℕ) (k : ℕ) → All (λ (i : ℕ). i < place) xs → IfSome (slice_get xs k) (λ (i : ℕ). i < place)
+    each [] k all = tt
+    each (x ∷ xs) zero all = All-head (λ (i : ℕ). i < place) x xs all
+    each (x ∷ xs) (suc k) all = each xs k (All-tail (λ (i : ℕ). i < place) x xs all)
+
+  -- and the port is one of four
+  pub input_few : (port : ℕ) (input : Option ℕ) → input ≡ slice_get n.inputs.items port → IfSome input (λ (i : ℕ). port < 4)
+  input_few port input e = subst (λ (o : Option ℕ). IfSome o (λ (i : ℕ). port < 4)) (sym e) (each n.inputs.items port few_inputs) where
+    each : (xs : List ℕ) (k : ℕ) → length xs ≤ 4 → IfSome (slice_get xs k) (λ (i : ℕ). k < 4)
+    each xs k few = inside xs k 4 few where
+      inside : (ys : List ℕ) (m most : ℕ) → length ys ≤ most → IfSome (slice_get ys m) (λ (i : ℕ). m < most)
+      inside [] m most h = tt
+      inside (y ∷ ys) zero most h = omega arith
+      inside (y ∷ ys) (suc m) zero h = absurd (omega arith)
+      inside (y ∷ ys) (suc m) (suc most) h = further (slice_get ys m) (inside ys m most (omega arith)) where
+        further : (o : Option ℕ) → IfSome o (λ (i : ℕ). m < most) → IfSome o (λ (i : ℕ). suc m < suc most)
+        further None g = tt
+        further (Some i) g = omega arith
+
   -- few ports
-  pub few_ports : (columns : List ℕ) (from : ℕ) → length (ranges columns from) ≤ 4
-  few_ports columns from = omega (arith, few_inputs, length-map n.inputs.items (ranged_port columns from (take place nodes)))
+  pub few_ports : (choice : List (Option ℕ)) → length (ranges choice) ≤ 4
+  few_ports choice = omega (arith, few_inputs, length-map n.inputs.items (ranged_port choice (take place nodes)))
 
   -- of few columns
-  pub narrow_ports : (columns : List ℕ) (from : ℕ) → All IsNarrow (ranges columns from)
-  narrow_ports columns from =
-      All-map IsNarrow (ranged_port columns from (take place nodes)) n.inputs.items
-      (All-from_get_or (λ (i : ℕ). IsNarrow (ranged_port columns from (take place nodes) i)) n.inputs.items 0
+  pub narrow_ports : (choice : List (Option ℕ)) → All IsNarrow (ranges choice)
+  narrow_ports choice =
+      All-map IsNarrow (ranged_port choice (take place nodes)) n.inputs.items
+      (All-from_get_or (λ (i : ℕ). IsNarrow (ranged_port choice (take place nodes) i)) n.inputs.items 0
       (λ k h. let i = get_or n.inputs.items k 0 in
       let early = All-get_or (λ (i : ℕ). i < place) n.inputs.items k 0 h earlier in
-      narrow_range (decided_column columns from i) (width_at (take place nodes) i) (omega (arith, width_take nodes place i early, width_few [] nodes i are))))
+      narrow_range (chosen_at choice i) (width_at (take place nodes) i) (omega (arith, width_take nodes place i early, width_few [] nodes i are))))
 
   -- and a pattern of few payloads
   pub repeats_few : RepeatsFew n.kind
@@ -222,30 +236,33 @@ module _ (nodes : List PlanNode) (are : AreNodes [] (map node_of nodes)) (place 
       let there = widths i (omega (arith, early, within)) in
       omega (arith, there, width_take nodes place i early))
 
-  -- where columns that agree with the decided ones are kept, the node may keep them
-  pub kept_may : (columns other : List ℕ) (from : ℕ) → from ≤ place → AgreeFrom from other columns → AreInWidths other nodes → KeepsKeyAt other nodes place → may_keep n.kind (ranges columns from) (column_at columns place) ≡ true
-  kept_may columns other from decided agree widths keeps =
-      subst (λ (c : ℕ). may_keep n.kind (ranges columns from) c ≡ true) (agree place decided)
-      (keeps_may n.kind (ranges columns from) (keyed_ports other (take place nodes) n) (column_at other place) (ports_admitted columns other from (take place nodes) n.inputs.items agree (inputs_within other widths))
-      (if_some (KeepsBehind other (take place nodes) place) (slice_get nodes place) n (slice_get-get_or nodes place n within ∙ ap (λ (x : PlanNode). Some x) (sym is)) keeps))
+  -- where columns that are the chosen ones are kept, the node may keep these
+  pub kept_may : (choice : List (Option ℕ)) (columns : List ℕ) (own : ℕ) → chosen_at choice place ≡ Some own → HasChosen choice columns → AreInWidths columns nodes → KeepsKeyAt columns nodes place → may_keep n.kind (ranges choice) own ≡ true
+  kept_may choice columns own chosen extends widths keeps =
+      let same : column_at columns place ≡ own = subst (λ (o : Option ℕ). IfSome o (λ (c : ℕ). column_at columns place ≡ c)) chosen (extends place) in
+      subst (λ (c : ℕ). may_keep n.kind (ranges choice) c ≡ true) same
+      (keeps_may n.kind (ranges choice) (keyed_ports columns (take place nodes) n) (column_at columns place) (ports_admitted choice columns (take place nodes) n.inputs.items extends (inputs_within columns widths))
+      (if_some (KeepsBehind columns (take place nodes) place) (slice_get nodes place) n (slice_get-get_or nodes place n within ∙ ap (λ (x : PlanNode). Some x) (sym is)) keeps))
 
-  -- and where all columns are decided, what the node may keep it keeps
-  pub may_kept : (columns : List ℕ) → length columns ≡ length nodes → AreInWidths columns nodes → may_keep n.kind (ranges columns 0) (column_at columns place) ≡ true → KeepsKeyAt columns nodes place
-  may_kept columns count widths may =
-      let decided =
-      All-from_get_or (IsDecided columns (take place nodes)) n.inputs.items 0
+  -- and where all columns are chosen, what the node may keep it keeps
+  pub may_kept : (choice : List (Option ℕ)) (own : ℕ) → length choice ≡ length nodes → chosen_at choice place ≡ Some own → AreAllChosen choice → AreInWidths (chosen_columns choice) nodes → may_keep n.kind (ranges choice) own ≡ true → KeepsKeyAt (chosen_columns choice) nodes place
+  may_kept choice own count chosen all widths may =
+      let columns = chosen_columns choice in
+      let same : Some (column_at columns place) ≡ Some own = sym (chosen_is choice place (all place (omega (arith, count, within)))) ∙ chosen in
+      let pinned =
+      All-from_get_or (IsPinnedAt choice (take place nodes)) n.inputs.items 0
       (λ k h. let early = All-get_or (λ (i : ℕ). i < place) n.inputs.items k 0 h earlier in
-      (omega (arith, early, within, count), All-get_or (λ (i : ℕ). column_at columns i ≤ width_at (take place nodes) i - 1) n.inputs.items k 0 h (inputs_within columns widths))) in
+      (all (get_or n.inputs.items k 0) (omega (arith, early, within, count)), All-get_or (λ (i : ℕ). column_at columns i ≤ width_at (take place nodes) i - 1) n.inputs.items k 0 h (inputs_within columns widths))) in
       subst (λ (o : Option PlanNode). IfSome o (KeepsBehind columns (take place nodes) place)) (sym (slice_get-get_or nodes place n within ∙ ap (λ (x : PlanNode). Some x) (sym is)))
-      (may_keeps n.kind (ranges columns 0) (keyed_ports columns (take place nodes) n) (column_at columns place) (ports_pinned columns (take place nodes) n.inputs.items decided) may)
+      (may_keeps n.kind (ranges choice) (keyed_ports columns (take place nodes) n) (column_at columns place) (ports_pinned choice (take place nodes) n.inputs.items pinned) (subst (λ (c : ℕ). may_keep n.kind (ranges choice) c ≡ true) (let e : own ≡ column_at columns place = cc in e) may))
 
 -- ---- what the code sees of them
 
 -- the ports that were made are those of the node
-pub seen_ports : (nodes : List PlanNode) (columns : List ℕ) (from place : ℕ) (n : PlanNode) (seen items : List RangedPort) (inputs : List ℕ) → seen ≡ items → items ≡ map (ranged_port columns from (take place nodes)) inputs → inputs ≡ n.inputs.items
-    → seen ≡ map (ranged_port columns from (take place nodes)) n.inputs.items
-seen_ports nodes columns from place n seen items inputs same made are =
-    same ∙ (made ∙ ap (λ (xs : List ℕ). map (ranged_port columns from (take place nodes)) xs) are)
+pub seen_ports : (nodes : List PlanNode) (choice : List (Option ℕ)) (place : ℕ) (n : PlanNode) (seen items : List RangedPort) (inputs : List ℕ) → seen ≡ items → items ≡ map (ranged_port choice (take place nodes)) inputs → inputs ≡ n.inputs.items
+    → seen ≡ map (ranged_port choice (take place nodes)) n.inputs.items
+seen_ports nodes choice place n seen items inputs same made are =
+    same ∙ (made ∙ ap (λ (xs : List ℕ). map (ranged_port choice (take place nodes)) xs) are)
 
 -- where a call answers what a test says, what follows from the test follows from the answer
 pub if_answered : {E P : Type 0} (r : Result Bool E) (value b : Bool) → IfOk r (λ (answer : Bool). answer ≡ value) → (value ≡ b → P) → IfOk r (λ (answer : Bool). answer ≡ b → P)

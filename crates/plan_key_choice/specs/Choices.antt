@@ -1,6 +1,6 @@
 -- Which columns a plan can be answered by, key by key.
-use Rattle.std.specs.Prelude.{ℕ, ◌≡◌, ◌-◌, ◌<◌, ◌≤◌, List, [], length, IfSome, take}
-use Rattle.std.specs.List.{slice_get}
+use Rattle.std.specs.Prelude.{ℕ, ◌≡◌, ◌-◌, ◌<◌, ◌≤◌, ◌==◌, Bool, List, [], length, count_by, IfSome, take}
+use Rattle.std.specs.List.{slice_get, list_any}
 use Rattle.cedr_plan.specs.declared.plan.PlanNode.{PlanNode}
 use Rattle.plan_keys.specs.Keys.{AreKeyed, KeepsKey, keyed_ports, column_at, width_at}
 use Rattle.plan_key_choice.specs.declared.fault.KeyFault.{KeyFault}
@@ -21,14 +21,21 @@ pub record IsUnkeyed (nodes : List PlanNode) (node : ℕ) : Type 0 where
   pub none : (columns : List ℕ) → AreKeyed columns [] nodes → ⊥
   pub told : node < length nodes
 
--- there is no choice of columns, unless memory ran out
+-- a node reads the one at this place
+abbrev pub reads : ℕ → PlanNode → Bool
+reads place node = list_any (λ (input : ℕ). input == place) node.inputs.items
+
+-- several nodes read the one at a place
+pub record IsShared (nodes : List PlanNode) : Type 0 where
+  pub place : ℕ
+  pub several : 1 < count_by (reads place) nodes
+
+-- There is no choice of columns; or the search for one was given up, which is so only where several nodes read one; or memory
+-- ran out.
 abbrev pub IsKeyFaultOf : List PlanNode → KeyFault → Type 0
 IsKeyFaultOf nodes (key_fault.Unkeyed node) = IsUnkeyed nodes node
+IsKeyFaultOf nodes key_fault.Undecided = IsShared nodes
 IsKeyFaultOf nodes key_fault.OutOfMemory = Unit {0}
-
--- two choices are the same from a place on
-abbrev pub AgreeFrom : ℕ → List ℕ → List ℕ → Type 0
-AgreeFrom from one other = (place : ℕ) → from ≤ place → column_at one place ≡ column_at other place
 
 -- the node at a place keeps the key, behind those before it
 abbrev pub KeepsKeyAt : List ℕ → List PlanNode → ℕ → Type 0

@@ -1,2 +1,3 @@
-pub mod Ranges
 pub mod Choices
+pub mod Partial
+pub mod Ranges

@@ -10,6 +10,7 @@ use Rattle.cedr_plan.specs.declared.plan.NodeKind.{NodeKind}
 use Rattle.cedr_plan.specs.declared.plan.NodeKind.TheVariants as kind
 use Rattle.cedr_plan.specs.declared.plan.PlanNode.{PlanNode}
 use Rattle.plan_keys.specs.Keys.{width_at}
+use Rattle.plan_key_choice.specs.Partial.{chosen_at}
 use Rattle.plan_key_choice.specs.declared.range.ColumnRange.{ColumnRange}
 use Rattle.plan_key_choice.specs.declared.range.RangedPort.{RangedPort}
 
@@ -27,18 +28,14 @@ one_column column = record { least = column; most = column }
 abbrev pub any_column : ℕ → ColumnRange
 any_column width = record { least = 0; most = width - 1 }
 
--- the decided column, where it is one of so many, and else all of them
+-- the chosen column, where it is one of so many, and else all of them
 abbrev pub column_range : Option ℕ → ℕ → ColumnRange
 column_range None width = any_column width
 column_range (Some column) width = if nat_le column (width - 1) then one_column column else any_column width
 
--- the column of the node at a place, where those from a place on are decided
-abbrev pub decided_column : List ℕ → ℕ → ℕ → Option ℕ
-decided_column columns from place = if nat_lt place from then None else slice_get columns place
-
 -- the port that reads the node at a place
-abbrev pub ranged_port : List ℕ → ℕ → List PlanNode → ℕ → RangedPort
-ranged_port columns from before place = record { columns = column_range (decided_column columns from place) (width_at before place); width = width_at before place }
+abbrev pub ranged_port : List (Option ℕ) → List PlanNode → ℕ → RangedPort
+ranged_port choice before place = record { columns = column_range (chosen_at choice place) (width_at before place); width = width_at before place }
 
 -- a range of few columns
 pub record IsNarrowRange (range : ColumnRange) : Type 0 where

@@ -1,6 +1,7 @@
 ghost use Rattle.std.specs.Prelude.{◌≡◌, IfOk, map};
 ghost use Rattle.plan_keys.specs.Keys.{width_at};
-ghost use Rattle.plan_key_choice.specs.Ranges.{is_in, column_range, decided_column, ranged_port};
+ghost use Rattle.plan_key_choice.specs.Partial.{chosen_at};
+ghost use Rattle.plan_key_choice.specs.Ranges.{is_in, column_range, ranged_port};
 
 use cedr_base::OutOfMemory;
 use cedr_plan::PlanNode;
@@ -27,29 +28,28 @@ pub(crate) fn is_in(column: usize, range: &ColumnRange) -> bool
     range.least <= column && column <= range.most
 }
 
-/// The ports of a node behind those before it, where the columns from a place on are decided.
+/// The ports of a node behind those before it, where some columns are chosen.
 pub(crate) fn ranged_ports(
     alloc: Global,
     before: &[PlanNode],
-    columns: &[usize],
-    from: usize,
+    choice: &[Option<usize>],
     inputs: &[usize],
 ) -> Result<Vec<RangedPort>, OutOfMemory>
-    ensures { IfOk result (λ ports. ports.items ≡ map (ranged_port columns.now from before.now) inputs.now) }
+    ensures { IfOk result (λ ports. ports.items ≡ map (ranged_port choice.now before.now) inputs.now) }
 {
     let ports = inputs
         .iter()
-        .map(|place| ranged_port(columns, from, before, *place))
+        .map(|place| ranged_port(choice, before, *place))
         .collect(alloc)?;
     Ok(ports)
 }
 
-fn ranged_port(columns: &[usize], from: usize, before: &[PlanNode], place: usize) -> RangedPort
-    ensures { result ≡ ranged_port columns.now from before.now place }
+fn ranged_port(choice: &[Option<usize>], before: &[PlanNode], place: usize) -> RangedPort
+    ensures { result ≡ ranged_port choice.now before.now place }
 {
     let width = width_at(before, place);
     RangedPort {
-        columns: column_range(decided_column(columns, from, place), width),
+        columns: column_range(chosen_at(choice, place), width),
         width,
     }
 }
@@ -64,22 +64,22 @@ pub(crate) fn width_at(nodes: &[PlanNode], place: usize) -> usize
     }
 }
 
-fn decided_column(columns: &[usize], from: usize, place: usize) -> Option<usize>
-    ensures { result ≡ decided_column columns.now from place }
+/// The column that is chosen for the node at the place.
+pub(crate) fn chosen_at(choice: &[Option<usize>], place: usize) -> Option<usize>
+    ensures { result ≡ chosen_at choice.now place }
 {
-    if place < from {
-        None
-    } else {
-        columns.get(place).copied()
+    match choice.get(place) {
+        Some(column) => *column,
+        None => None,
     }
 }
 
-/// The decided column, where it is one of so many, and else all of them.
-fn column_range(decided: Option<usize>, width: usize) -> ColumnRange
-    ensures { result ≡ column_range decided width }
+/// The chosen column, where it is one of so many, and else all of them.
+fn column_range(chosen: Option<usize>, width: usize) -> ColumnRange
+    ensures { result ≡ column_range chosen width }
 {
     let most = width.saturating_sub(1);
-    match decided {
+    match chosen {
         Some(column) if column <= most => ColumnRange {
             least: column,
             most: column,

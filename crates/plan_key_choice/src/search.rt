@@ -1,123 +1,157 @@
-ghost use Rattle.std.specs.Prelude.{◌≡◌, ◌<◌, ◌≤◌, ℕ, List, [], IfOk, true, false, length, map};
+ghost use Rattle.std.specs.Prelude.{◌≡◌, ◌<◌, ◌≤◌, ◌-◌, ◌⊎◌, ◌↔◌, All, ℕ, List, [], None, IfErr, IfOk, IfSome, nat_le, true, false, length, map};
 ghost use Rattle.cedr_plan.specs.Drawn.{node_of};
 ghost use Rattle.cedr_plan.specs.Rules.{AreNodes};
-ghost use Rattle.plan_keys.specs.Keys.{AreKeyed};
-ghost use Rattle.plan_key_choice.specs.Choices.{AreInWidths, AgreeFrom, KeepsKeyAt};
+ghost use Rattle.plan_keys.specs.Keys.{AreKeyed, width_at};
+ghost use Rattle.plan_key_choice.specs.Choices.{AreInWidths};
+ghost use Rattle.plan_key_choice.specs.Partial.{AreAllChosen, AreCandidates, AwaitAll, HasChosen, IsGivenUp, IsSameChoice, chosen_at, chosen_columns};
 
-use crate::keep::may_keep;
-use crate::range::{ranged_ports, width_at};
+use crate::fault::KeyFault;
+use crate::node::{keeps_within, may_keep_at, reads};
+use crate::range::{chosen_at, width_at};
 use cedr_base::OutOfMemory;
 use cedr_plan::PlanNode;
 use std::alloc::Global;
 
-/// Which choice came nearest to a source: the place of the last column that was tried, and the place of the node at which it
-/// failed.
+/// How far a search has come: which choice came nearest to a source, by the least place whose column was tried and that of the node
+/// that didn't keep it, and how many columns more are tried, where there is a limit.
 #[derive(Clone, Copy, Drop)]
-pub(crate) struct Nearest {
-    pub(crate) place: usize,
+pub(crate) struct Progress {
+    pub(crate) nearest: usize,
     pub(crate) node: usize,
+    pub(crate) tries: Option<u64>,
 }
 
-/// Tries the columns of the nodes before a place, where those from there on are chosen. Where it answers true all nodes have
-/// the columns that they had or got; else no columns before the place go with those from there on.
+impl Progress {
+    /// Counts one try, or answers that no more are left.
+    fn take_try(&mut self) -> Result<(), KeyFault>
+        ensures fault { IfErr result (IsGivenUp self.old.tries) }
+        ensures limited { self.new.tries ≡ None ↔ self.old.tries ≡ None }
+        ensures node { self.new.node ≡ self.old.node }
+    {
+        match self.tries {
+            None => {}
+            Some(0) => return Err(KeyFault::Undecided),
+            Some(left) => self.tries = Some(left - 1),
+        }
+        Ok(())
+    }
+
+    /// Notes a node that doesn't keep the columns that were tried from a place on.
+    fn fails(&mut self, place: usize, node: usize)
+        ensures tries { self.new.tries ≡ self.old.tries }
+        ensures node { (self.new.node ≡ node) ⊎ (self.new.node ≡ self.old.node) }
+    {
+        if place <= self.nearest {
+            self.nearest = place;
+            self.node = node;
+        }
+    }
+}
+
+/// Tries columns of the nodes of these places, one place after the other, beside those that are chosen. Where it answers true all
+/// nodes have a column that is kept; else no columns go with the chosen ones.
 pub(crate) fn search(
     alloc: Global,
     nodes: &[PlanNode],
-    columns: &mut [usize],
-    from: usize,
-    nearest: &mut Nearest,
-) -> Result<bool, OutOfMemory>
+    candidates: &[Vec<usize>],
+    order: &[usize],
+    choice: &mut [Option<usize>],
+    progress: &mut Progress,
+) -> Result<bool, KeyFault>
     requires nodes { AreNodes [] (map node_of nodes.now) }
-    requires count { length columns.old ≡ length nodes.now }
-    requires within { from ≤ length nodes.now }
-    requires node { nearest.old.node < length nodes.now }
-    ensures keyed { IfOk result (λ found. found ≡ true → AreKeyed columns.new [] nodes.now) }
-    ensures widths { IfOk result (λ found. found ≡ true → AreInWidths columns.new nodes.now) }
-    ensures none { IfOk result (λ found. found ≡ false → (other : List ℕ) → AgreeFrom from other columns.old → AreInWidths other nodes.now → AreKeyed other [] nodes.now → ⊥) }
-    ensures kept { AgreeFrom from columns.new columns.old }
-    ensures node { nearest.new.node < length nodes.now }
+    requires count { length choice.old ≡ length nodes.now }
+    requires inside { All (λ place. place < length nodes.now) order.now }
+    requires awaited { AwaitAll order.now choice.old }
+    requires known { AreCandidates candidates.now nodes.now }
+    requires many { length candidates.now ≡ length nodes.now }
+    requires node { progress.old.node < length nodes.now }
+    ensures keyed { IfOk result (λ found. found ≡ true → AreKeyed (chosen_columns choice.new) [] nodes.now) }
+    ensures widths { IfOk result (λ found. found ≡ true → AreInWidths (chosen_columns choice.new) nodes.now) }
+    ensures none { IfOk result (λ found. found ≡ false → (columns : List ℕ) → HasChosen choice.old columns → AreInWidths columns nodes.now → AreKeyed columns [] nodes.now → ⊥) }
+    ensures same { IfOk result (λ found. found ≡ false → IsSameChoice choice.new choice.old) }
+    ensures count { length choice.new ≡ length choice.old }
+    ensures fault { IfErr result (IsGivenUp progress.old.tries) }
+    ensures limited { progress.new.tries ≡ None ↔ progress.old.tries ≡ None }
+    ensures node { progress.new.node < length nodes.now }
 {
-    if from == 0 {
-        return is_choice(alloc, nodes, columns);
+    let Some((place, rest)) = order.split_first() else {
+        return Ok(is_choice(alloc, nodes, choice)?);
+    };
+    if chosen_at(choice, *place).is_some() {
+        return search(alloc, nodes, candidates, rest, choice, progress);
     }
-    let place = from - 1;
-    let most = width_at(nodes, place).saturating_sub(1);
-    for column in 0..most + 1 {
-        columns[place] = column;
-        if stands(alloc, nodes, columns, place, nearest)?
-            && search(alloc, nodes, columns, place, nearest)?
+    for column in &candidates[*place] {
+        progress.take_try()?;
+        choice[*place] = Some(*column);
+        if stands(alloc, nodes, candidates, choice, *place, progress)?
+            && search(alloc, nodes, candidates, rest, choice, progress)?
         {
             return Ok(true);
         }
+        choice[*place] = None;
     }
     Ok(false)
 }
 
 /// Whether each node keeps the key with these columns, and each column is one of its node's.
-fn is_choice(alloc: Global, nodes: &[PlanNode], columns: &[usize]) -> Result<bool, OutOfMemory>
+fn is_choice(
+    alloc: Global,
+    nodes: &[PlanNode],
+    choice: &[Option<usize>],
+) -> Result<bool, OutOfMemory>
     requires nodes { AreNodes [] (map node_of nodes.now) }
-    requires count { length columns.now ≡ length nodes.now }
-    ensures keyed { IfOk result (λ found. found ≡ true → AreKeyed columns.now [] nodes.now) }
-    ensures widths { IfOk result (λ found. found ≡ true → AreInWidths columns.now nodes.now) }
-    ensures none { IfOk result (λ found. found ≡ false → (other : List ℕ) → AgreeFrom 0 other columns.now → AreInWidths other nodes.now → AreKeyed other [] nodes.now → ⊥) }
+    requires count { length choice.now ≡ length nodes.now }
+    requires chosen { AreAllChosen choice.now }
+    ensures keyed { IfOk result (λ found. found ≡ true → AreKeyed (chosen_columns choice.now) [] nodes.now) }
+    ensures widths { IfOk result (λ found. found ≡ true → AreInWidths (chosen_columns choice.now) nodes.now) }
+    ensures none { IfOk result (λ found. found ≡ false → (columns : List ℕ) → HasChosen choice.now columns → AreInWidths columns nodes.now → AreKeyed columns [] nodes.now → ⊥) }
 {
     for place in 0..nodes.len() {
-        if columns[place] > width_at(nodes, place).saturating_sub(1)
-            || !may_keep_at(alloc, nodes, columns, 0, place)?
-        {
+        if !is_in_width(nodes, choice, place) || !may_keep_at(alloc, nodes, choice, place)? {
             return Ok(false);
         }
     }
     Ok(true)
 }
 
-/// Whether the node at a place and those that read it may keep the key, where the columns from there on are chosen. Where one
-/// of them can't it is told if no choice came nearer.
+/// Whether the column that is chosen for the node at a place is one of its columns.
+fn is_in_width(nodes: &[PlanNode], choice: &[Option<usize>], place: usize) -> bool
+    ensures { IfSome (chosen_at choice.now place) (λ column. result ≡ nat_le column (width_at nodes.now place - 1)) }
+{
+    match chosen_at(choice, place) {
+        Some(column) => column <= width_at(nodes, place).saturating_sub(1),
+        None => true,
+    }
+}
+
+/// Whether the node at a place and those that read it may keep the key with the columns that are chosen. Where one of them can't
+/// it is noted.
 fn stands(
     alloc: Global,
     nodes: &[PlanNode],
-    columns: &[usize],
+    candidates: &[Vec<usize>],
+    choice: &mut [Option<usize>],
     place: usize,
-    nearest: &mut Nearest,
+    progress: &mut Progress,
 ) -> Result<bool, OutOfMemory>
     requires nodes { AreNodes [] (map node_of nodes.now) }
-    requires count { length columns.now ≡ length nodes.now }
-    requires node { nearest.old.node < length nodes.now }
-    ensures none { IfOk result (λ stands. stands ≡ false → (other : List ℕ) → AgreeFrom place other columns.now → AreInWidths other nodes.now → AreKeyed other [] nodes.now → ⊥) }
-    ensures node { nearest.new.node < length nodes.now }
+    requires count { length choice.old ≡ length nodes.now }
+    requires known { AreCandidates candidates.now nodes.now }
+    requires many { length candidates.now ≡ length nodes.now }
+    requires node { progress.old.node < length nodes.now }
+    ensures none { IfOk result (λ stands. stands ≡ false → (columns : List ℕ) → HasChosen choice.old columns → AreInWidths columns nodes.now → AreKeyed columns [] nodes.now → ⊥) }
+    ensures same { IfOk result (λ _. IsSameChoice choice.new choice.old) }
+    ensures count { length choice.new ≡ length choice.old }
+    ensures tries { progress.new.tries ≡ progress.old.tries }
+    ensures node { progress.new.node < length nodes.now }
 {
     for node in place..nodes.len() {
         if (node == place || reads(&nodes[node], place))
-            && !may_keep_at(alloc, nodes, columns, place, node)?
+            && !keeps_within(alloc, nodes, candidates, choice, node, 0)?
         {
-            if place <= nearest.place {
-                *nearest = Nearest { place, node };
-            }
+            progress.fails(place, node);
             return Ok(false);
         }
     }
     Ok(true)
-}
-
-fn reads(node: &PlanNode, place: usize) -> bool {
-    node.inputs.iter().any(|input| *input == place)
-}
-
-/// Whether the node at a place may keep the key, where the columns from another place on are chosen.
-fn may_keep_at(
-    alloc: Global,
-    nodes: &[PlanNode],
-    columns: &[usize],
-    from: usize,
-    place: usize,
-) -> Result<bool, OutOfMemory>
-    requires nodes { AreNodes [] (map node_of nodes.now) }
-    requires count { length columns.now ≡ length nodes.now }
-    requires within { place < length nodes.now }
-    ensures none { IfOk result (λ may. may ≡ false → from ≤ place → (other : List ℕ) → AgreeFrom from other columns.now → AreInWidths other nodes.now → KeepsKeyAt other nodes.now place → ⊥) }
-    ensures keeps { IfOk result (λ may. may ≡ true → from ≡ 0 → AreInWidths columns.now nodes.now → KeepsKeyAt columns.now nodes.now place) }
-{
-    let node = &nodes[place];
-    let ports = ranged_ports(alloc, &nodes[..place], columns, from, &node.inputs)?;
-    may_keep(alloc, &node.kind, &ports, columns[place])
 }

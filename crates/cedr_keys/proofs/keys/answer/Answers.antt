@@ -5,7 +5,7 @@ use Rattle.cedr_io.specs.Asked.{AppendsFront}
 use Rattle.cedr_keys.specs.declared.outcome.KeysOutcome.{KeysOutcome}
 use Rattle.cedr_keys.specs.Ends.{KeysFrom}
 use Rattle.cedr_keys.specs.Texts.{keys_text}
-use Rattle.cedr_keys.proofs.EndLemmas.{text_known, unkeyed_known}
+use Rattle.cedr_keys.proofs.EndLemmas.{text_known, unkeyed_known, undecided_known}
 use Rattle.cedr_keys.proofs.keys.answer.Goals as goal
 use Rattle.cedr_keys.proofs.keys.answer.Goals.{in-Ok-unkeyed_text, in-Err-unkeyed_text}
 
@@ -21,6 +21,12 @@ returns-in-Err-Unkeyed-clause-from g c =
           )
       | in-Err-unkeyed_text w ↦ subst (λ (went : KeysOutcome). KeysFrom content out out went) (sym w.result-is) (inl (Keeps-refl out))
     ]
+
+pub returns-in-Err-Undecided-clause-from : goal.returns-in-Err-Undecided-clause-from
+returns-in-Err-Undecided-clause-from g c = (
+  Keeps-refl (g.K.Sink.written c.args.out.now),
+  undecided_known (g.F.Files.content c.args.files.now c.args.file.now) c.in-Ok.plan c.in-Err-Undecided.field-0 c.in-Ok.ensures.opened c.in-Err-Undecided.field-0-is c.in-Err-Undecided.ensures.fault,
+)
 
 pub returns-in-Ok-write_all-clause-from : goal.returns-in-Ok-write_all-clause-from
 returns-in-Ok-write_all-clause-from g c =
