@@ -4,7 +4,7 @@ use Rattle.cedr_expr.specs.declared.test.Test.{Test}
 use Rattle.cedr_table.specs.Operators.{Tables}
 use Rattle.pat_state.specs.Answers.{StandsByBegin}
 use Rattle.pat_state.specs.Groups.{grouped_rows, AreGrouped}
-use Rattle.pat_state.specs.Tied.{left_rows, right_rows, AreTied}
+use Rattle.pat_state.specs.Tied.{left_rows, right_rows, left_held, right_held, AreTied}
 use Rattle.pat_seq.specs.declared.kept.Kept.{Kept}
 use Rattle.pat_seq.specs.declared.kept.Kept.TheVariants.{Two, More}
 use Rattle.pat_seq.specs.Sequences.{IsSequence}
@@ -13,6 +13,11 @@ use Rattle.pat_seq.specs.Sequences.{IsSequence}
 abbrev pub rows_in : Kept → Tables
 rows_in (Two tied) = left_rows tied ∷ right_rows tied ∷ []
 rows_in (More grouped) = grouped_rows grouped
+
+-- all rows that are held of the ports: of two ports also those that are noted to be due
+abbrev pub ports_held : Kept → Tables
+ports_held (Two tied) = left_held tied ∷ right_held tied ∷ []
+ports_held (More grouped) = grouped_rows grouped
 
 -- the rows have their tags
 abbrev pub AreKept : List Test → Kept → Type 0

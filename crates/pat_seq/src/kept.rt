@@ -1,12 +1,12 @@
 ghost use Rattle.std.specs.Prelude.{◌≡◌, ◌≤◌, ◌<◌, ◌^◌, [], List, length, replicate, OnOk, IfOk};
 ghost use Rattle.cedr_expr.specs.declared.test.Test.{Test};
 ghost use Rattle.cedr_table.specs.Operators.{table_at};
-ghost use Rattle.pat_state.specs.Starts.{HasRow};
+ghost use Rattle.pat_state.specs.Starts.{HasRow, PortsReach};
 ghost use Rattle.pat_state.specs.Steps.{matches};
 ghost use Rattle.cedr_base.specs.declared.time.TheConstants.{FOREVER};
 ghost use Rattle.cedr_base.specs.Rows.{SameRows};
 ghost use Rattle.pat_state.specs.Answers.{AreForgotten, IsKeptStep};
-ghost use Rattle.pat_seq.specs.Keeping.{rows_in, AreKept};
+ghost use Rattle.pat_seq.specs.Keeping.{rows_in, ports_held, AreKept};
 
 use cedr_base::{Change, OutOfMemory, Row, Time};
 use cedr_expr::Tests;
@@ -100,10 +100,11 @@ impl Kept {
         }
     }
 
-    /// Forgets the rows of each port whose scope, which begins with them, ends by a time.
+    /// Forgets the rows of each port whose scope, which begins with them, ends by a time: none of them is held any more.
     pub(crate) fn forget(&mut self, tests: &Tests, scope: u64, time: Time)
         requires { AreKept tests.now self.old }
         ensures rows { AreForgotten scope time (rows_in self.old) (rows_in self.new) }
+        ensures held { PortsReach scope time (ports_held self.new) }
         ensures tags { AreKept tests.now self.new }
     {
         match self {

@@ -6,6 +6,7 @@ pub mod ForgetLemmas
 pub mod AnswerLemmas
 pub mod TagLemmas
 pub mod BagLemmas
+pub mod HeldLemmas
 pub mod DueLemmas
 pub mod RenewLemmas
 pub mod MatchLemmas

@@ -17,6 +17,11 @@ start_cmp x y = ordering_then (ordering_then (nat_cmp y.0.0 x.0.0) (nat_cmp y.0.
 abbrev pub start_row : Reverse (ℕ × ℕ × List Field) → Row
 start_row x = record { end = x.0.1; begin = x.0.0; payload = x.0.2 }
 
+-- rows with their tags, and those that are noted to be due
+pub record TaggedRows : Type 0 where
+  pub tags : List Row
+  pub due : List Row
+
 -- each row of a bag is among others, and there may be more
 pub record AreDue (rows due : List Row) : Type 0 where
   pub each : (r : Row) → 0 < count_of r rows → Contains due r

@@ -1,12 +1,12 @@
 -- Rows of which the begins and the payloads alone matter.
-use Rattle.std.specs.Prelude.{ℕ, ◌≡◌, ◌<◌, ◌≤◌, List, [], ◌∷◌, Bool, ◌&&◌, nat_le, nat_lt, map}
+use Rattle.std.specs.Prelude.{ℕ, ◌≡◌, ◌<◌, ◌≤◌, List, [], ◌∷◌, Bool, true, ◌&&◌, nat_le, nat_lt, map}
 use Rattle.cedr_base.specs.declared.time.TheConstants.{FOREVER}
 use Rattle.cedr_base.specs.declared.row.Row.{Row}
 use Rattle.cedr_base.specs.declared.change.Change.{Change}
 use Rattle.cedr_base.specs.declared.change.Change.TheVariants.{Add, Cut}
 use Rattle.cedr_base.specs.Rows.{count_of}
 use Rattle.change_laws.specs.Times.{later}
-use Rattle.cedr_table.specs.Operators.{Tables}
+use Rattle.cedr_table.specs.Operators.{Tables, table_at}
 
 -- the row as if it never ended
 abbrev pub endless : Row → Row
@@ -27,6 +27,14 @@ begins_within from before r = nat_le from r.begin && nat_lt r.begin before
 -- the scope of a row, which begins with it, ends after a time
 abbrev pub scope_reaches : ℕ → ℕ → Row → Bool
 scope_reaches scope time r = nat_lt time (later r.begin scope)
+
+-- the scope of each row, which begins with it, ends after a time
+abbrev pub AllReach : ℕ → ℕ → List Row → Type 0
+AllReach scope time rows = (r : Row) → 0 < count_of r rows → scope_reaches scope time r ≡ true
+
+-- the same of the rows of each port
+abbrev pub PortsReach : ℕ → ℕ → Tables → Type 0
+PortsReach scope time tables = (port : ℕ) → AllReach scope time (table_at tables port)
 
 -- each row never ends
 abbrev pub AreEndless : List Row → Type 0

@@ -1,4 +1,4 @@
-ghost use Rattle.std.specs.Prelude.{◌≡◌, [], length, OnOk, OnErr, IfOk};
+ghost use Rattle.std.specs.Prelude.{◌≡◌, [], All, true, length, OnOk, OnErr, IfOk};
 ghost use Rattle.std.specs.List.{filter, Contains};
 ghost use Rattle.cedr_base.specs.declared.row.Row.{Row as RowValue};
 ghost use Rattle.cedr_base.specs.declared.change.Change.TheVariants.{Add};
@@ -14,7 +14,7 @@ use std::alloc::Global;
 use std::marker::Model;
 
 /// A bag of rows with their tags, of which only the begins and the payloads are kept, and which of them begins first. Contracts
-/// see a list of the rows, each with its tag as its end.
+/// see a list of the rows, each with its tag as its end, and a list of those that are noted to be due.
 ///
 /// A row that was taken away stays among those that are due, until its scope has ended or these are noted anew: so a retraction
 /// has nothing to look for there. It says no more than that a look for the row may be worth it then.
@@ -30,13 +30,11 @@ impl Drop for Tagged {
 }
 
 impl Model for Tagged {
-    ghost use Rattle.std.specs.Prelude.{List};
-    ghost use Rattle.cedr_base.specs.declared.row.Row.{Row};
-    ghost use Rattle.pat_state.specs.Due.{AreDue};
+    ghost use Rattle.pat_state.specs.Due.{AreDue, TaggedRows};
 
-    ghost Value = { List Row };
+    ghost Value = { TaggedRows };
 
-    ghost view = { λ t. t.tags };
+    ghost view = { λ t. record { tags = t.tags; due = t.due } };
 
     ghost invariant = { λ t. AreDue t.tags t.due };
 }
@@ -79,11 +77,13 @@ fn limit_due(alloc: Global, tags: &ByTag, due: &mut DueRows) -> Result<(), OutOf
     Ok(())
 }
 
-/// Forgets the rows whose scope, which begins with them, ends by a time: each is among those that are due.
+/// Forgets the rows whose scope, which begins with them, ends by a time: each is among those that are due, and none of these stays
+/// there.
 fn forget_passed(tags: &mut ByTag, due: &mut DueRows, scope: u64, time: Time)
     requires { AreDue tags.old due.old }
     ensures due { AreDue tags.new due.new }
     ensures left { SameRows tags.new (filter (scope_reaches scope time) tags.old) }
+    ensures reach { All (λ row. scope_reaches scope time row ≡ true) due.new }
 {
     while let Some(row) = due.pop_passed(scope, time) {
         tags.remove(&row);
@@ -93,7 +93,8 @@ fn forget_passed(tags: &mut ByTag, due: &mut DueRows, scope: u64, time: Time)
 impl Tagged {
     /// A bag with no row. It takes no memory.
     pub(crate) fn new(alloc: Global) -> Tagged
-        ensures { result ≡ [] }
+        ensures tags { result.tags ≡ [] }
+        ensures due { result.due ≡ [] }
     {
         Tagged {
             tags: ByTag::new(alloc),
@@ -103,20 +104,20 @@ impl Tagged {
 
     /// How many rows there are. It takes no memory. O(1).
     pub(crate) fn len(&self) -> usize
-        ensures { result ≡ length self.now }
+        ensures { result ≡ length self.now.tags }
     {
         self.tags.len()
     }
 
     /// The rows by their tags.
     pub(crate) fn tags(&self) -> &ByTag
-        ensures { result.now ≡ self.now }
+        ensures { result.now ≡ self.now.tags }
     {
         &self.tags
     }
 
     /// Applies a change to the rows of a tag, of which the row's begin and its payload count. O(log n) comparisons in the
-    /// different rows. Where memory runs out they are as before.
+    /// different rows. Where memory runs out they are as before, and more of them may be noted to be due.
     ///
     /// Where it succeeds it leaves at most twice as many rows that will be due as rows, each copy counted, and 66. Where there
     /// are more than twice as many and 64 before the change, they are first noted anew: more changes since the last time took a
@@ -128,9 +129,9 @@ impl Tagged {
         tag: u64,
         change: &Change,
     ) -> Result<(), OutOfMemory>
-        requires { HasMarked tag self.old change.now }
-        ensures ok { OnOk result (IsRetagged tag change.now self.old self.new) }
-        ensures err { OnErr result (self.new ≡ self.old) }
+        requires { HasMarked tag self.old.tags change.now }
+        ensures ok { OnOk result (IsRetagged tag change.now self.old.tags self.new.tags) }
+        ensures err { OnErr result (self.new.tags ≡ self.old.tags) }
     {
         limit_due(alloc, &self.tags, &mut self.due)?;
         note_due(alloc, &mut self.due, tag, change)?;
@@ -138,17 +139,18 @@ impl Tagged {
         Ok(())
     }
 
-    /// Forgets the rows whose scope, which begins with them, ends by a time. It takes no memory. O(log n) for each of them, and
-    /// O(1) where there is none.
+    /// Forgets the rows whose scope, which begins with them, ends by a time, also of those that are noted to be due. It takes no
+    /// memory. O(log n) for each of them, and O(1) where there is none.
     pub(crate) fn forget(&mut self, scope: u64, time: Time)
-        ensures { SameRows self.new (filter (scope_reaches scope time) self.old) }
+        ensures left { SameRows self.new.tags (filter (scope_reaches scope time) self.old.tags) }
+        ensures reach { All (λ row. scope_reaches scope time row ≡ true) self.new.due }
     {
         forget_passed(&mut self.tags, &mut self.due, scope, time);
     }
 
     /// Copies of the rows in order of tag, each as often as it is there. O(n).
     pub(crate) fn canonical(&self) -> Result<Vec<Row>, OutOfMemory>
-        ensures { IfOk result (λ rows. rows.items ≡ in_order self.now) }
+        ensures { IfOk result (λ rows. rows.items ≡ in_order self.now.tags) }
     {
         self.tags.canonical()
     }

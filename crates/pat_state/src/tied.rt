@@ -7,10 +7,10 @@ ghost use Rattle.cedr_base.specs.Changes.{puts, takes};
 ghost use Rattle.cedr_expr.specs.declared.test.Test.{Test};
 ghost use Rattle.cedr_expr.specs.Tests.{passes};
 ghost use Rattle.cedr_table.specs.Counted.{spread, AreThere};
-ghost use Rattle.pat_state.specs.Starts.{all_endless, begins_within, scope_reaches, AreInScope, HasRow};
+ghost use Rattle.pat_state.specs.Starts.{all_endless, begins_within, scope_reaches, AllReach, AreInScope, HasRow};
 ghost use Rattle.cedr_expr.specs.Tags.{left_tag, right_tag};
 ghost use Rattle.pat_state.specs.Tags.{bag_of, HaveOwnTags, IsTagged, IsSought};
-ghost use Rattle.pat_state.specs.Tied.{left_rows, right_rows, AreTied};
+ghost use Rattle.pat_state.specs.Tied.{left_rows, right_rows, left_held, right_held, AreTied};
 
 use crate::by_tag::ByTag;
 use crate::tagged::Tagged;
@@ -48,16 +48,16 @@ fn tagged_right(
     width: usize,
     right: &Tagged,
 ) -> Result<Tagged, OutOfMemory>
-    ensures tags { IfOk result (λ tags. HaveOwnTags (right_tag width tests.now) tags) }
-    ensures rows { IfOk result (λ tags. bag_of tags ≡ bag_of right.now) }
+    ensures tags { IfOk result (λ tagged. HaveOwnTags (right_tag width tests.now) tagged.tags) }
+    ensures rows { IfOk result (λ tagged. bag_of tagged.tags ≡ bag_of right.now.tags) }
 {
     let rows = right.canonical()?;
-    let mut tags = Tagged::new(alloc);
+    let mut tagged = Tagged::new(alloc);
     for row in rows {
         let tag = tests.tag(Side::Right, width, &row.payload);
-        tags.apply(alloc, tag, &Change::Add(row))?;
+        tagged.apply(alloc, tag, &Change::Add(row))?;
     }
-    Ok(tags)
+    Ok(tagged)
 }
 
 impl Tied {
@@ -127,12 +127,13 @@ impl Tied {
         self.right.apply(alloc, tag, change)
     }
 
-    /// Forgets the rows of both ports whose scope, which begins with them, ends by a time. It takes no memory. O(log n)
-    /// for each of them, and for one of each port that stays.
+    /// Forgets the rows of both ports whose scope, which begins with them, ends by a time: none of them is held any more, nor one
+    /// that was taken away before. It takes no memory. O(log n) for each of them, and for one of each port that stays.
     pub fn forget(&mut self, scope: u64, time: Time)
         ensures tied { (tests : List Test) → AreTied tests self.old → AreTied tests self.new }
         ensures left { SameRows (left_rows self.new) (filter (scope_reaches scope time) (left_rows self.old)) }
         ensures right { SameRows (right_rows self.new) (filter (scope_reaches scope time) (right_rows self.old)) }
+        ensures held { AllReach scope time (left_held self.new) × AllReach scope time (right_held self.new) }
     {
         self.left.forget(scope, time);
         self.right.forget(scope, time);

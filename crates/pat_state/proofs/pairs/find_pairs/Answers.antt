@@ -13,7 +13,7 @@ pub returns-then-changed-eq0 : goal.returns-then-changed-eq0
 returns-then-changed-eq0 c =
     let tied = c.args.tied.now in
     let tag = right_tag tied.width c.args.tests.now in
-    let tagged = subst (λ (tags : List Row). IsTagged tag (right_rows tied) tags) (sym c.tags.ensures) (are_tagged tag tied.right c.requires.tags.right_are) in
+    let tagged = subst (λ (tags : List Row). IsTagged tag (right_rows tied) tags) (sym c.tags.ensures) (are_tagged tag tied.right.tags c.requires.tags.right_are) in
     IfOk-weaker c.find_seconds.result _ _
     (λ rows found. subst (λ (n : ℕ). SameRows rows.items (matches c.args.scope c.args.tests.now c.args.row.now n (left_rows tied ∷ right_rows tied ∷ []))) (sym c.if-changed-eq0.true) (found (left_rows tied) (right_rows tied) tagged))
     c.find_seconds.ensures
@@ -22,7 +22,7 @@ pub returns-else-changed-eq0 : goal.returns-else-changed-eq0
 returns-else-changed-eq0 c =
     let tied = c.args.tied.now in
     let tag = left_tag tied.width c.args.tests.now in
-    let tagged = subst (λ (tags : List Row). IsTagged tag (left_rows tied) tags) (sym c.tags-else-changed-eq0.ensures) (are_tagged tag tied.left c.requires.tags.left_are) in
+    let tagged = subst (λ (tags : List Row). IsTagged tag (left_rows tied) tags) (sym c.tags-else-changed-eq0.ensures) (are_tagged tag tied.left.tags c.requires.tags.left_are) in
     let within = c.requires.changed in
     let other = c.if-changed-eq0.false in
     let one : c.args.changed ≡ 1 = omega arith in

@@ -17,16 +17,16 @@ pub loop-row-preserved-in_ok-apply : goal.loop-row-preserved-in_ok-apply
 loop-row-preserved-in_ok-apply c =
     let was = c.loop-row.invariant in
     record {
-      tags = have_step (right_tag c.args.width c.args.tests.now) c.tag-tag.result (Add c.in-Some.row) c.loop-row.tags c.apply.new.self (sym c.tag-tag.ensures) was.tags c.in_ok-apply.ensures.ok;
-      rows = one_row_more c.tag-tag.result c.in-Some.row c.loop-row.tags c.apply.new.self c.loop-row.yielded c.in_ok-apply.ensures.ok was.rows;
+      tags = have_step (right_tag c.args.width c.args.tests.now) c.tag-tag.result (Add c.in-Some.row) c.loop-row.tagged.tags c.apply.new.self.tags (sym c.tag-tag.ensures) was.tags c.in_ok-apply.ensures.ok;
+      rows = one_row_more c.tag-tag.result c.in-Some.row c.loop-row.tagged.tags c.apply.new.self.tags c.loop-row.yielded c.in_ok-apply.ensures.ok was.rows;
     }
 
 pub returns-clause-rows : goal.returns-clause-rows
 returns-clause-rows c =
     let l = c.loop-row in
-    let right = c.args.right.now in
+    let right = c.args.right.now.tags in
     let yields = YieldsList-from_vec {s = c.into_iter-row-iterator.result} c.in_ok-rows.rows.items (search rules) (search rules) in
     let all = YieldsList-end yields l.yielded l.row-iterator l.yielded_by c.next.result c.next.new.self c.in-None.is c.next.ensures.steps in
     let were : l.yielded ≡ in_order right = sym (map-id l.yielded) ∙ (all.0 ∙ c.in_ok-rows.ensures) in
-    let same = subst (λ (rows : List Row). SameRows (all_endless l.tags) (all_endless rows)) were l.invariant.rows in
-    one_bag l.tags right (same_along (all_endless l.tags) (all_endless (in_order right)) (all_endless right) same (same_endless (in_order right) right (same_back right (in_order right) (in_order_counts right))))
+    let same = subst (λ (rows : List Row). SameRows (all_endless l.tagged.tags) (all_endless rows)) were l.invariant.rows in
+    one_bag l.tagged.tags right (same_along (all_endless l.tagged.tags) (all_endless (in_order right)) (all_endless right) same (same_endless (in_order right) right (same_back right (in_order right) (in_order_counts right))))

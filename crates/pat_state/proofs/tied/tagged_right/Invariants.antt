@@ -6,6 +6,6 @@ use Rattle.pat_state.proofs.tied.tagged_right.Given as goal
 
 abbrev pub invariant-loop-row : goal.invariant-loop-row
 invariant-loop-row l = record {
-  tags : HaveOwnTags (right_tag l.width l.tests) l.tags;
-  rows : SameRows (all_endless l.tags) (all_endless l.yielded);
+  tags : HaveOwnTags (right_tag l.width l.tests) l.tagged.tags;
+  rows : SameRows (all_endless l.tagged.tags) (all_endless l.yielded);
 }

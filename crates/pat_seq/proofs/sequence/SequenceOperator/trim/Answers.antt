@@ -1,8 +1,8 @@
 use Rattle.std.proofs.Common.{ℕ, ap, sym, subst}
-use Rattle.cedr_table.specs.Operators.{least_of}
 use Rattle.pat_state.specs.Answers.{AreForgotten, StandsByBegin}
-use Rattle.pat_state.proofs.ForgetLemmas.{stands_forgotten, forgotten_reach, forgotten_length}
-use Rattle.pat_seq.specs.Keeping.{rows_in}
+use Rattle.pat_state.specs.Starts.{PortsReach}
+use Rattle.pat_state.proofs.ForgetLemmas.{stands_forgotten, forgotten_length}
+use Rattle.pat_seq.specs.Keeping.{rows_in, ports_held}
 use Rattle.pat_seq.specs.Sequences.{sequence_of, IsSequence}
 use Rattle.pat_seq.proofs.sequence.SequenceOperator.trim.Goals as goal
 
@@ -19,9 +19,7 @@ returns-clause-stands c = λ tables earlier stands rise.
 
 pub returns-clause-held : goal.returns-clause-held
 returns-clause-held c = λ tables earlier stands rise.
-    let op = c.args.self.now in
-    let forgotten = subst (λ (time : ℕ). AreForgotten c.args.self.now.scope time (rows_in c.args.self.now.kept) (rows_in c.forget.new.self)) c.least_mark.ensures c.forget.ensures.rows in
-    record { each = forgotten_reach op.scope (least_of c.args.marks.now) (rows_in op.kept) (rows_in c.forget.new.self) forgotten }
+    record { each = subst (λ (time : ℕ). PortsReach c.args.self.now.scope time (ports_held c.forget.new.self)) c.least_mark.ensures c.forget.ensures.held }
 
 pub returns-clause-meaning : goal.returns-clause-meaning
 returns-clause-meaning c =

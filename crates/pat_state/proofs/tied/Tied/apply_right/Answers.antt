@@ -12,7 +12,7 @@ pub apply-requires : goal.apply-requires
 apply-requires c =
     let tag = right_tag c.args.self.now.width c.args.tests.now in
     let at : tag (changed_row c.args.change.now).payload ≡ c.side_tag-tag.result = ap (λ (r : Row). tag r.payload) (sym c.row.ensures) ∙ sym c.side_tag-tag.ensures in
-    marked_there tag c.side_tag-tag.result c.args.change.now (right_rows c.args.self.now) c.args.self.now.right at (are_tagged tag c.args.self.now.right c.requires.tied.right_are) c.requires.there
+    marked_there tag c.side_tag-tag.result c.args.change.now (right_rows c.args.self.now) c.args.self.now.right.tags at (are_tagged tag c.args.self.now.right.tags c.requires.tied.right_are) c.requires.there
 
 pub returns-clause-tied : goal.returns-clause-tied
 returns-clause-tied c =
@@ -20,8 +20,8 @@ returns-clause-tied c =
     let at : tag (changed_row c.args.change.now).payload ≡ c.side_tag-tag.result = ap (λ (r : Row). tag r.payload) (sym c.row.ensures) ∙ sym c.side_tag-tag.ensures in
     on_ok_weaker c.apply.result (λ step. record {
       left_are = c.requires.tied.left_are;
-      right_are = have_step tag c.side_tag-tag.result c.args.change.now c.args.self.now.right c.apply.new.self at c.requires.tied.right_are step;
+      right_are = have_step tag c.side_tag-tag.result c.args.change.now c.args.self.now.right.tags c.apply.new.self.tags at c.requires.tied.right_are step;
     }) c.apply.ensures.ok
 
 pub returns-clause-right : goal.returns-clause-right
-returns-clause-right c = on_ok_weaker c.apply.result (λ step. bag_step c.side_tag-tag.result c.args.change.now c.args.self.now.right c.apply.new.self step) c.apply.ensures.ok
+returns-clause-right c = on_ok_weaker c.apply.result (λ step. bag_step c.side_tag-tag.result c.args.change.now c.args.self.now.right.tags c.apply.new.self.tags step) c.apply.ensures.ok

@@ -10,4 +10,4 @@ pub returns-clause-rows : goal.returns-clause-rows
 returns-clause-rows c = λ weight sought.
     let tied = c.args.self.now in
     let tag = right_tag tied.width c.args.tests.now in
-    c.beside_left.ensures.rows (right_rows tied) weight (subst (λ (tags : List Row). IsTagged tag (right_rows tied) tags) (sym c.tags.ensures) (are_tagged tag tied.right c.requires.right_are)) sought
+    c.beside_left.ensures.rows (right_rows tied) weight (subst (λ (tags : List Row). IsTagged tag (right_rows tied) tags) (sym c.tags.ensures) (are_tagged tag tied.right.tags c.requires.right_are)) sought

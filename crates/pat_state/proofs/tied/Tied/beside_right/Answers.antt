@@ -10,4 +10,4 @@ pub returns-clause-rows : goal.returns-clause-rows
 returns-clause-rows c = λ weight sought.
     let tied = c.args.self.now in
     let tag = left_tag tied.width c.args.tests.now in
-    c.beside_right.ensures.rows (left_rows tied) weight (subst (λ (tags : List Row). IsTagged tag (left_rows tied) tags) (sym c.tags.ensures) (are_tagged tag tied.left c.requires.left_are)) sought
+    c.beside_right.ensures.rows (left_rows tied) weight (subst (λ (tags : List Row). IsTagged tag (left_rows tied) tags) (sym c.tags.ensures) (are_tagged tag tied.left.tags c.requires.left_are)) sought

@@ -1,8 +1,9 @@
 use Rattle.std.proofs.Common.{◌∷◌, [], ℕ, subst}
-use Rattle.cedr_table.specs.Operators.{least_of}
 use Rattle.pat_state.specs.Answers.{AreForgotten}
-use Rattle.pat_state.proofs.ForgetLemmas.{stands_forgotten, forgotten_reach}
-use Rattle.pat_state.specs.Tied.{left_rows, right_rows}
+use Rattle.pat_state.proofs.ForgetLemmas.{stands_forgotten}
+use Rattle.pat_state.proofs.HeldLemmas.{both_reach}
+use Rattle.pat_state.specs.Starts.{PortsReach}
+use Rattle.pat_state.specs.Tied.{left_rows, right_rows, left_held, right_held}
 use Rattle.pat_unless.proofs.unless.UnlessOperator.trim.Goals as goal
 
 pub returns-clause-stands : goal.returns-clause-stands
@@ -18,10 +19,8 @@ returns-clause-stands c = λ tables earlier stands rise.
 
 pub returns-clause-held : goal.returns-clause-held
 returns-clause-held c = λ tables earlier stands rise.
-    let op = c.args.self.now in
-    let kept = (left_rows op.tied) ∷ (right_rows op.tied) ∷ [] in
-    let left = left_rows c.forget.new.self ∷ right_rows c.forget.new.self ∷ [] in
+    let left = left_held c.forget.new.self ∷ right_held c.forget.new.self ∷ [] in
     record {
-      each = forgotten_reach op.terms.scope (least_of c.args.marks.now) kept left
-          (subst (λ (time : ℕ). AreForgotten op.terms.scope time kept left) c.least_mark-least.ensures (c.forget.ensures.left, (c.forget.ensures.right, tt)));
+      each = subst (λ (time : ℕ). PortsReach c.args.self.now.terms.scope time left) c.least_mark-least.ensures
+          (both_reach c.args.self.now.terms.scope c.least_mark-least.result (left_held c.forget.new.self) (right_held c.forget.new.self) c.forget.ensures.held);
     }
