@@ -34,9 +34,11 @@ pub record IsTaken (old new : Aligner) (ms : List Message) (m : Message) (before
   pub fate_is : forgotten_in fate ≡ forgotten_of old.level.memory ms m
   pub same_level : new.level ≡ old.level
 
--- each row of which the aligner has a copy is a held one, or a passed one that is remembered
+-- Each row of which the aligner has a copy is a held one, or a passed one that is remembered. None is left of those that
+-- were released.
 pub record OnlyKeeps (a : Aligner) (ms : List Message) : Type 0 where
   pub each : (r : Row) → 0 < count_of r (a.held ++ a.passed) → 0 < count_of r (held a.level ms ++ remembered a.level ms)
+  pub none_released : a.released.items ≡ []
 
 -- a row must wait, at an aligner's level and times
 abbrev pub must_wait : Aligner → Row → Bool

@@ -28,6 +28,8 @@ pub struct Aligner {
     pub(crate) passed: Table,
     /// Room for the rows that are released.
     pub(crate) released: Vec<Row>,
+    // each row that was released passed
+    ghost none_released: { released.items ≡ [] },
 }
 
 impl Drop for Aligner {

@@ -95,6 +95,7 @@ impl Aligner {
     ) -> Result<(), OutOfMemory>
         ensures passed { OnOk result (SameRows self.new.passed (self.old.passed ++ filter (must_remember self.old) rows.old.items)) }
         ensures out { OnOk result (out.new.items ≡ out.old.items ++ additions rows.old.items) }
+        ensures emptied { OnOk result (rows.new.items ≡ []) }
         ensures held { self.new.held ≡ self.old.held }
         ensures same { HasSameTimes self.old self.new }
         ensures kept { take (length out.old.items) out.new.items ≡ out.old.items }
