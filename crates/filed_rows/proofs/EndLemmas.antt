@@ -1,8 +1,10 @@
 -- The ends of filed rows, and what changes them.
-use Rattle.std.proofs.Common.{◌≡◌, ◌≢◌, ℕ, ◌<◌, ◌≤◌, ◌⊎◌, inl, inr, List, [], ◌∷◌, ◌++◌, Bool, true, false, cond, not, refl, ap, sym, subst, arith}
+use Rattle.std.proofs.Common.{◌≡◌, ◌≢◌, ℕ, ◌<◌, ◌≤◌, ◌⊎◌, inl, inr, List, [], ◌∷◌, ◌++◌, Bool, true, false, cond, not, Option, Some, refl, ap, sym, ◌∙◌, subst, arith}
+use Rattle.std.specs.Prelude.{unwrap_or}
 use Rattle.std.specs.List.{filter, All, Contains}
 use Rattle.std.specs.List.Sorted.{IsPermutation, IsStrictlySortedBy}
 use Rattle.std.specs.Map.{keys_of}
+use Rattle.std.specs.BTreeMap.{is_at}
 use Rattle.std.specs.Map.Calls.{RetainsPairs}
 use Rattle.std.specs.Ordering.{nat_cmp}
 use Rattle.std.proofs.lemmas.Bool.{cases_lt, cases_eq, lt-ltb, ltb-true}
@@ -15,10 +17,11 @@ use Rattle.cedr_base.specs.declared.change.Change.TheVariants.{Add, Cut}
 use Rattle.cedr_base.specs.Rows.{count_of, SameRows}
 use Rattle.cedr_base.specs.Changes.{puts, takes}
 use Rattle.cedr_base.proofs.Bags.{count_of-append, one_if_same_exact}
+use Rattle.change_laws.proofs.BagSums.{count_of-itself}
 use Rattle.change_laws.proofs.Moves.{remnant_some}
 use Rattle.cedr_table.specs.Counted.{SameAmong, ends_after}
 use Rattle.cedr_table.proofs.FilterLemmas.{count-filter, among_along, among_filter}
-use Rattle.filed_rows.specs.Filed.{FiledRows, under}
+use Rattle.filed_rows.specs.Filed.{FiledRows, under, filed_at, IsInUse}
 use Rattle.filed_rows.specs.Ends.{AreEnds}
 use Rattle.filed_rows.proofs.FiledLemmas.{under_first, under_later, beyond}
 
@@ -47,6 +50,37 @@ filtered_there p r xs there = passes (p r) refl where
   passes true is = (is, omega (arith, there, count-filter r p xs, ap {B = ℕ} (λ b. cond b (count_of r xs) 0) is))
   passes false is = absurd (omega (arith, there, count-filter r p xs, ap {B = ℕ} (λ b. cond b (count_of r xs) 0) is))
 
+-- under a tag to which a row came there is one
+pub added_use : (filed : FiledRows) (tag : ℕ) (row : Row) (others : List Row) → SameRows (under filed tag) (row ∷ others) → IsInUse filed tag
+added_use filed tag row others same rows at none =
+    let empty : under filed tag ≡ [] = ap (λ (o : Option (List Row)). unwrap_or o []) at ∙ none in
+    let there = count_of-itself row others in
+    omega (arith, there, same.each row, ap (count_of row) empty)
+
+-- where nothing changed at the other tags and a row is under the one, no tag is without a row
+pub all_in_use : (tag : ℕ) (old new : FiledRows) → ((q : ℕ) → q ≢ tag → filed_at new q ≡ filed_at old q) → IsInUse new tag → ((q : ℕ) → IsInUse old q) → (q : ℕ) → IsInUse new q
+all_in_use tag old new apart here were q = pick (cases_eq q tag) where
+  pick : (q ≡ tag) ⊎ (q ≢ tag) → IsInUse new q
+  pick (inl same) = subst (IsInUse new) (sym same) here
+  pick (inr other) = λ rows at. were q rows (sym (apart q other) ∙ at)
+
+use_first : (b : Bool) (w : List Row) (o : Option (List Row)) → w ≢ [] → ((rows : List Row) → o ≡ Some rows → rows ≢ []) → (rows : List Row) → cond b (Some w) o ≡ Some rows → rows ≢ []
+use_first true w o some rest rows at = λ none. let is : w ≡ rows = cc in some (is ∙ none)
+use_first false w o some rest rows at = rest rows at
+
+use_next : (b : Bool) (tag : ℕ) (w : List Row) (rest : FiledRows) (q : ℕ) → (b ≡ true → w ≢ []) → IsInUse rest q → IsInUse (cond b ((tag, w) ∷ rest) rest) q
+use_next true tag w rest q some left = use_first (is_at (nat_cmp q) tag) w (filed_at rest q) (some refl) left
+use_next false tag w rest q some left = left
+
+module _ {F : Type 0} (T : F → ℕ → List Row → Bool → List Row → F → Type 0) (I : F → Type 0)
+    (step : (g : F) (k : ℕ) (v : List Row) (b : Bool) (w : List Row) (g' : F) → I g → T g k v b w g' → (b ≡ true → w ≢ []) × I g') where
+  -- where a tag goes with its last row, no tag is left without one
+  pub retained_use : (f : F) (es kept : FiledRows) → I f → RetainsPairs T f es kept → (q : ℕ) → IsInUse kept q
+  retained_use f [] kept is run q = λ rows at. absurd (let none = ap (λ (ds : FiledRows). filed_at ds q) run in cc)
+  retained_use f (e ∷ es) kept is (b, w, g, rest, called, run, made) q =
+      let said = step f e.0 e.1 b w g is called in
+      subst (λ (ds : FiledRows). IsInUse ds q) (sym made) (use_next b e.0 w rest q said.0 (retained_use g es rest said.1 run q))
+
 -- the end of a row that comes is there
 pub put_added : (c : Change) (a r : Row) (tag : ℕ) (ends : List (ℕ × ℕ)) → c ≡ Add a → (a.end < FOREVER → Contains ends (a.end, tag)) → 0 < count_of r (puts c) → r.end < FOREVER → Contains ends (r.end, tag)
 put_added c a r tag ends is has put before =
@@ -64,6 +98,7 @@ put_cut c a r e tag ends is lives has put before =
 module _ (c : Change) (tag : ℕ) (old new : FiledRows) (ends ends' : List (ℕ × ℕ)) (are : AreEnds old ends)
     (here : SameRows (under new tag ++ takes c) (under old tag ++ puts c))
     (others : (q : ℕ) → q ≢ tag → under new q ≡ under old q)
+    (apart : (q : ℕ) → q ≢ tag → filed_at new q ≡ filed_at old q) (used : IsInUse new tag)
     (noted : (r : Row) → 0 < count_of r (puts c) → r.end < FOREVER → Contains ends' (r.end, tag))
     (stay : (due : ℕ × ℕ) → Contains ends due → Contains ends' due) where
   was_there : (r : Row) → 0 < count_of r (under new tag) → count_of r (puts c) ≤ 0 → 0 < count_of r (under old tag)
@@ -81,11 +116,12 @@ module _ (c : Change) (tag : ℕ) (old new : FiledRows) (ends ends' : List (ℕ 
 
   -- the ends go through a change as the rows do
   pub ends_noted : AreEnds new ends'
-  ends_noted = record { each = λ q r there before. noted_at q r (cases_eq q tag) there before }
+  ends_noted = record { each = λ q r there before. noted_at q r (cases_eq q tag) there before; in_use = all_in_use tag old new apart used are.in_use }
 
 module _ (time : ℕ) (due : ℕ × ℕ) (old new : FiledRows) (ends ends' : List (ℕ × ℕ)) (are : AreEnds old ends) (upto : due.0 ≤ time) (out : IsPermutation ends (due ∷ ends'))
     (here : SameRows (under new due.1) (filter (ends_after time) (under old due.1)))
-    (others : (q : ℕ) → q ≢ due.1 → under new q ≡ under old q) where
+    (others : (q : ℕ) → q ≢ due.1 → under new q ≡ under old q)
+    (apart : (q : ℕ) → q ≢ due.1 → filed_at new q ≡ filed_at old q) (used : IsInUse new due.1) where
   left_here : (r : Row) → 0 < count_of r (under new due.1) → r.end < FOREVER → Contains ends' (r.end, due.1)
   left_here r there before =
       let parts = filtered_there (ends_after time) r (under old due.1) (omega (arith, there, here.each r)) in
@@ -99,7 +135,7 @@ module _ (time : ℕ) (due : ℕ × ℕ) (old new : FiledRows) (ends ends' : Lis
 
   -- without an end that is due the others are those of the rows without those that ended under its tag
   pub ends_forgotten : AreEnds new ends'
-  ends_forgotten = record { each = λ q r there before. left_at q r (cases_eq q due.1) there before }
+  ends_forgotten = record { each = λ q r there before. left_at q r (cases_eq q due.1) there before; in_use = all_in_use due.1 old new apart used are.in_use }
 
   module _ (first_rows : FiledRows) where
     among_at : (q : ℕ) → (q ≡ due.1) ⊎ (q ≢ due.1) → SameAmong (ends_after time) (under old q) (under first_rows q) → SameAmong (ends_after time) (under new q) (under first_rows q)
@@ -120,11 +156,12 @@ none_ended filed ends time finite are none q r there = ap not (lt-ltb time r.end
 ]))
 
 -- where the rows that never end are left at most, there is no end
-pub none_ends : (filed filed' : FiledRows) (ends : List (ℕ × ℕ)) (time : ℕ) → FOREVER ≤ time → ((q : ℕ) → SameRows (under filed' q) (filter (ends_after time) (under filed q))) → AreEnds filed' ends
-none_ends filed filed' ends time late kept = record {
+pub none_ends : (filed filed' : FiledRows) (ends : List (ℕ × ℕ)) (time : ℕ) → FOREVER ≤ time → ((q : ℕ) → SameRows (under filed' q) (filter (ends_after time) (under filed q))) → ((q : ℕ) → IsInUse filed' q) → AreEnds filed' ends
+none_ends filed filed' ends time late kept used = record {
   each = λ q r there before.
       let parts = filtered_there (ends_after time) r (under filed q) (omega (arith, there, (kept q).each r)) in
       absurd (let after = ltb-true time r.end parts.0 in omega (arith, after, before, late));
+  in_use = used;
 }
 
 module _ {F : Type 0} (T : F → ℕ → List Row → Bool → List Row → F → Type 0) (I : F → Type 0) (time : ℕ)

@@ -11,7 +11,7 @@ use Rattle.cedr_base.specs.Rows.{one_if_same, count_of, SameRows}
 use Rattle.cedr_base.proofs.Bags.{count_of-append, one_if_same_exact}
 use Rattle.cedr_table.specs.Counted.{spread}
 use Rattle.cedr_table.proofs.FilterLemmas.{count-filter}
-use Rattle.filed_rows.specs.Filed.{FiledRows, under}
+use Rattle.filed_rows.specs.Filed.{FiledRows, under, IsInUse}
 use Rattle.filed_rows.specs.Ends.{AreEnds}
 use Rattle.filed_rows.specs.Spans.{ends_by}
 use Rattle.filed_rows.proofs.FiledLemmas.{under_first, under_later}
@@ -73,11 +73,12 @@ tag_noted filed es rest t rows ends ends' is here others noted tag r there befor
       inl (subst (λ (q : ℕ). Contains ends' (r.end, q)) (sym same) (here r (omega (arith, now, first, ap (count_of r) (under_first (t, rows) rest))) before))
   split (inr other) now = inr (omega (arith, now, ap (count_of r) (under_later (t, rows) rest tag other)))
 
-pub tags_noted : (filed es : FiledRows) (ends : List (ℕ × ℕ)) → es ≡ [] → AreFiledBut filed es ends → AreEnds filed ends
-tags_noted filed es ends none noted = record {
+pub tags_noted : (filed es : FiledRows) (ends : List (ℕ × ℕ)) → es ≡ [] → AreFiledBut filed es ends → ((tag : ℕ) → IsInUse filed tag) → AreEnds filed ends
+tags_noted filed es ends none noted used = record {
   each = λ tag r there before.
       elim (noted tag r there before) [
         | inl has ↦ has
         | inr ahead ↦ absurd (omega (arith, ahead, ap (λ (ds : FiledRows). count_of r (under ds tag)) none))
       ];
+  in_use = used;
 }

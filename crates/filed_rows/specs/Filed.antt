@@ -1,5 +1,5 @@
 -- Rows that are filed under tags.
-use Rattle.std.specs.Prelude.{ℕ, ◌≡◌, ◌≢◌, List, [], ◌++◌, unwrap_or, nat_eq, if◌then◌else◌}
+use Rattle.std.specs.Prelude.{ℕ, ◌≡◌, ◌≢◌, List, [], ◌++◌, Option, Some, unwrap_or, nat_eq, if◌then◌else◌}
 use Rattle.std.specs.List.{flat_map}
 use Rattle.std.specs.Map.{lookup}
 use Rattle.std.specs.BTreeMap.{is_at}
@@ -15,6 +15,14 @@ FiledRows = List (ℕ × List Row)
 -- the rows under a tag
 abbrev pub under : FiledRows → ℕ → List Row
 under filed tag = unwrap_or (lookup (is_at (nat_cmp tag)) filed) []
+
+-- what stands at a tag, if anything does
+abbrev pub filed_at : FiledRows → ℕ → Option (List Row)
+filed_at filed tag = lookup (is_at (nat_cmp tag)) filed
+
+-- what stands at a tag has a row
+abbrev pub IsInUse : FiledRows → ℕ → Type 0
+IsInUse filed tag = (rows : List Row) → filed_at filed tag ≡ Some rows → rows ≢ []
 
 -- the rows under all tags
 abbrev pub all_under : FiledRows → List Row

@@ -7,7 +7,7 @@ ghost use Rattle.cedr_base.specs.declared.row.Row.{Row as RowValue};
 ghost use Rattle.cedr_base.specs.Rows.{count_of, SameRows};
 ghost use Rattle.cedr_base.specs.Changes.{puts, takes, remnant};
 ghost use Rattle.cedr_table.specs.Counted.{LacksRow, ends_after};
-ghost use Rattle.filed_rows.specs.Filed.{under, all_under};
+ghost use Rattle.filed_rows.specs.Filed.{under, all_under, filed_at, IsInUse};
 ghost use Rattle.filed_rows.specs.Ends.{AreEnds};
 
 use crate::spans::Spans;
@@ -57,6 +57,7 @@ fn cut_row(rows: &mut Spans, mut row: Row, end: Time) -> Result<(), OutOfMemory>
 fn add_under(alloc: Global, by_tag: &mut ByTag, tag: u64, row: Row) -> Result<(), OutOfMemory>
     ensures here { OnOk result (SameRows (under by_tag.new.entries tag) (row ∷ under by_tag.old.entries tag)) }
     ensures others { OnOk result ((q : ℕ) → q ≢ tag → under by_tag.new.entries q ≡ under by_tag.old.entries q) }
+    ensures apart { OnOk result ((q : ℕ) → q ≢ tag → filed_at by_tag.new.entries q ≡ filed_at by_tag.old.entries q) }
     ensures ordered { OnOk result (IsOrdered nat_cmp by_tag.new) }
 {
     let rows = by_tag.entry(tag)?.or_insert(Spans::new(alloc));
@@ -69,6 +70,8 @@ fn cut_under(by_tag: &mut ByTag, tag: u64, row: Row, end: Time) -> Result<(), Ou
     requires { 0 < count_of row (under by_tag.old.entries tag) }
     ensures here { OnOk result (SameRows (under by_tag.new.entries tag ++ row ∷ []) (under by_tag.old.entries tag ++ remnant row end)) }
     ensures others { OnOk result ((q : ℕ) → q ≢ tag → under by_tag.new.entries q ≡ under by_tag.old.entries q) }
+    ensures apart { OnOk result ((q : ℕ) → q ≢ tag → filed_at by_tag.new.entries q ≡ filed_at by_tag.old.entries q) }
+    ensures in_use { OnOk result (IsInUse by_tag.new.entries tag) }
     ensures ordered { OnOk result (IsOrdered nat_cmp by_tag.new) }
 {
     match by_tag.entry(tag)? {
@@ -90,6 +93,8 @@ fn note_row(alloc: Global, by_tag: &mut ByTag, tag: u64, change: Change) -> Resu
     requires { LacksRow (under by_tag.old.entries tag) change → ⊥ }
     ensures here { OnOk result (SameRows (under by_tag.new.entries tag ++ takes change) (under by_tag.old.entries tag ++ puts change)) }
     ensures others { OnOk result ((q : ℕ) → q ≢ tag → under by_tag.new.entries q ≡ under by_tag.old.entries q) }
+    ensures apart { OnOk result ((q : ℕ) → q ≢ tag → filed_at by_tag.new.entries q ≡ filed_at by_tag.old.entries q) }
+    ensures in_use { OnOk result (IsInUse by_tag.new.entries tag) }
     ensures ordered { OnOk result (IsOrdered nat_cmp by_tag.new) }
 {
     match change {
@@ -141,6 +146,7 @@ fn push_ends(alloc: Global, ends: &mut DueTags, tag: u64, rows: &Spans) -> Resul
 /// Notes the ends anew: those of the rows that are there, one for each different row. These were all noted before, so
 /// there is room for them. O(log n) for each of them, and a look at each tag.
 fn renew_ends(alloc: Global, by_tag: &ByTag, ends: &mut DueTags) -> Result<(), OutOfMemory>
+    requires { (tag : ℕ) → IsInUse by_tag.now.entries tag }
     ensures { OnOk result (AreEnds by_tag.now.entries ends.new) }
 {
     ends.clear();
@@ -253,6 +259,7 @@ fn forget_due(by_tag: &mut ByTag, ends: &mut DueTags, time: Time) -> usize
 fn forget_all(by_tag: &mut ByTag, time: Time)
     requires { IsOrdered nat_cmp by_tag.old }
     ensures kept { (q : ℕ) → SameRows (under by_tag.new.entries q) (filter (ends_after time) (under by_tag.old.entries q)) }
+    ensures in_use { (tag : ℕ) → IsInUse by_tag.new.entries tag }
     ensures ordered { IsOrdered nat_cmp by_tag.new }
 {
     by_tag.retain(|_tag, rows| shorten(rows, time));
@@ -262,6 +269,7 @@ fn forget_all(by_tag: &mut ByTag, time: Time)
 fn shorten(rows: &mut Spans, time: Time) -> bool
     ensures left { SameRows rows.new (filter (ends_after time) rows.old) }
     ensures emptied { result ≡ false → rows.new ≡ [] }
+    ensures some { result ≡ true → rows.new ≢ [] }
 {
     rows.forget_ended(time);
     !rows.is_empty()
@@ -271,6 +279,8 @@ fn shorten(rows: &mut Spans, time: Time) -> bool
 fn forget_under(by_tag: &mut ByTag, tag: u64, time: Time) -> usize
     ensures here { SameRows (under by_tag.new.entries tag) (filter (ends_after time) (under by_tag.old.entries tag)) }
     ensures others { (q : ℕ) → q ≢ tag → under by_tag.new.entries q ≡ under by_tag.old.entries q }
+    ensures apart { (q : ℕ) → q ≢ tag → filed_at by_tag.new.entries q ≡ filed_at by_tag.old.entries q }
+    ensures in_use { IsInUse by_tag.new.entries tag }
     ensures ordered { IsOrdered nat_cmp by_tag.new }
 {
     let (gone, emptied) = shorten_under(by_tag, tag, time);
@@ -284,7 +294,9 @@ fn forget_under(by_tag: &mut ByTag, tag: u64, time: Time) -> usize
 fn shorten_under(by_tag: &mut ByTag, tag: u64, time: Time) -> (usize, bool)
     ensures here { SameRows (under by_tag.new.entries tag) (filter (ends_after time) (under by_tag.old.entries tag)) }
     ensures others { (q : ℕ) → q ≢ tag → under by_tag.new.entries q ≡ under by_tag.old.entries q }
+    ensures apart { (q : ℕ) → q ≢ tag → filed_at by_tag.new.entries q ≡ filed_at by_tag.old.entries q }
     ensures emptied { result.1 ≡ true → under by_tag.new.entries tag ≡ [] }
+    ensures in_use { result.1 ≡ false → IsInUse by_tag.new.entries tag }
     ensures ordered { IsOrdered nat_cmp by_tag.new }
 {
     match by_tag.get_mut(&tag) {

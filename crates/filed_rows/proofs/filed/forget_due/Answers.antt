@@ -22,11 +22,11 @@ loop-tag-preserved c =
     let due : ℕ × ℕ = (c.in-Some.field-0-0, c.in-Some.tag) in
     record {
       ends = ends_forgotten c.args.time due c.loop-tag.by_tag.entries c.forget_under.new.by_tag.entries c.loop-tag.ends c.pop_due.new.self was.ends c.in-Some.ensures.due c.in-Some.ensures.left
-          c.forget_under.ensures.here c.forget_under.ensures.others;
+          c.forget_under.ensures.here c.forget_under.ensures.others c.forget_under.ensures.apart c.forget_under.ensures.in_use;
       ordered = c.forget_under.ensures.ordered;
       same = λ q.
           rows_left c.args.time due c.loop-tag.by_tag.entries c.forget_under.new.by_tag.entries c.loop-tag.ends c.pop_due.new.self was.ends c.in-Some.ensures.due c.in-Some.ensures.left
-          c.forget_under.ensures.here c.forget_under.ensures.others c.args.by_tag.now.entries q (was.same q);
+          c.forget_under.ensures.here c.forget_under.ensures.others c.forget_under.ensures.apart c.forget_under.ensures.in_use c.args.by_tag.now.entries q (was.same q);
     }
 
 pub returns-clause-kept : goal.returns-clause-kept

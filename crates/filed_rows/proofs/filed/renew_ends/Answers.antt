@@ -10,4 +10,4 @@ loop-tag-preserved c =
     c.loop-tag.invariant
 
 pub returns : goal.returns
-returns c = tags_noted c.args.by_tag.now.entries c.loop-tag.tag-iterator c.loop-tag.ends c.in-None.ensures.steps.0 c.loop-tag.invariant
+returns c = tags_noted c.args.by_tag.now.entries c.loop-tag.tag-iterator c.loop-tag.ends c.in-None.ensures.steps.0 c.loop-tag.invariant c.requires
