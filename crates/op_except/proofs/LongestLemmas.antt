@@ -1,5 +1,5 @@
 -- The parts are the longest parts of a row's life that meet none of the others.
-use Rattle.std.proofs.Common.{◌≡◌, ℕ, ◌<◌, ◌≤◌, ◌⊎◌, inl, inr, List, [], ◌∷◌, Bool, true, false, cond, sym, subst, arith}
+use Rattle.std.proofs.Common.{◌≡◌, ◌∙◌, ℕ, ◌<◌, ◌≤◌, ◌⊎◌, inl, inr, List, [], ◌∷◌, Bool, true, false, cond, sym, subst, arith}
 use Rattle.std.specs.Prelude.{nat_lt}
 use Rattle.std.proofs.lemmas.Bool.{cases_lt}
 use Rattle.cedr_base.specs.declared.row.Row.{Row}
@@ -57,6 +57,34 @@ parts_once a x (b ∷ bs) are =
         | inr none ↦ omega (arith, before, both)
       ]
       | inr none ↦ omega (arith, after, both)
+    ]
+
+whole_at : (a x : Row) (b : Bool) → 0 < count_of x (cond b (a ∷ []) []) → x ≡ a
+whole_at a x true there = one_if_same_exact x a (omega (arith, count_of-cons x a []))
+whole_at a x false there = absurd (omega arith)
+
+-- two different parts never meet: they lie on two sides of one of the others
+pub parts_apart : (a x y : Row) (bs : List Row) → AreRows bs → 0 < count_of x (parts a bs) → 0 < count_of y (parts a bs) → (x ≡ y → ⊥) → NeverMeet x y
+parts_apart a x y [] are there other differ = absurd (differ (whole_at a x (nat_lt a.begin a.end) there ∙ sym (whole_at a y (nat_lt a.begin a.end) other)))
+parts_apart a x y (b ∷ bs) are there other differ =
+    let lives = (first_is b bs are).lives in
+    let of_x = count_of-append x (parts (row_until b.begin a) bs) (parts (row_since b.end a) bs) in
+    let of_y = count_of-append y (parts (row_until b.begin a) bs) (parts (row_since b.end a) bs) in
+    elim (cases_lt 0 (count_of x (parts (row_until b.begin a) bs))) [
+      | inl x_before ↦ elim (cases_lt 0 (count_of y (parts (row_until b.begin a) bs))) [
+        | inl y_before ↦ parts_apart (row_until b.begin a) x y bs (others_are b bs are) x_before y_before differ
+        | inr none ↦
+            let x_part = parts_within (row_until b.begin a) x bs x_before in
+            let y_part = parts_within (row_since b.end a) y bs (omega (arith, other, none, of_y)) in
+            inl (omega (arith, x_part.by, y_part.from, lives))
+      ]
+      | inr none ↦ elim (cases_lt 0 (count_of y (parts (row_since b.end a) bs))) [
+        | inl y_after ↦ parts_apart (row_since b.end a) x y bs (others_are b bs are) (omega (arith, there, none, of_x)) y_after differ
+        | inr no_more ↦
+            let x_part = parts_within (row_since b.end a) x bs (omega (arith, there, none, of_x)) in
+            let y_part = parts_within (row_until b.begin a) y bs (omega (arith, other, no_more, of_y)) in
+            inr (omega (arith, y_part.by, x_part.from, lives))
+      ]
     ]
 
 -- and a part of the row that is no part of a longer one is there: any life within the row that meets none of the others lies

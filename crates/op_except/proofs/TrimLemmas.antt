@@ -5,7 +5,7 @@ use Rattle.std.specs.List.{filter, list_any}
 use Rattle.std.specs.List.Sorted.{IsStrictlySortedBy}
 use Rattle.std.specs.Map.{keys_of}
 use Rattle.std.specs.Ordering.{nat_cmp}
-use Rattle.std.proofs.lemmas.Bool.{cases_lt, ltb-true, ltb-false, lt-ltb, leb-true, le-leb}
+use Rattle.std.proofs.lemmas.Bool.{cases_lt, ltb-true, ltb-false, lt-ltb, leb-true, le-leb, eq-eqb}
 use Rattle.std.proofs.lemmas.Bool.Decides.{nat_tests}
 use Rattle.cedr_base.specs.declared.field.Field.{Field}
 use Rattle.cedr_base.specs.declared.row.Row.{Row}
@@ -24,8 +24,8 @@ use Rattle.filed_rows.proofs.NoteLemmas.{all_same, none_filed, filed_anew}
 use Rattle.filed_rows.proofs.FiledLemmas.{files_alike}
 use Rattle.op_except.specs.declared.lives.Lives.{Lives}
 use Rattle.op_except.specs.declared.except.Except.{Except}
-use Rattle.op_except.specs.Parts.{meets, except_holds, except_of}
-use Rattle.op_except.specs.ExceptLaws.{lives_later}
+use Rattle.op_except.specs.Parts.{meets, is_life_of, all_excepted, except_holds, except_of}
+use Rattle.op_except.specs.ExceptLaws.{lives_later, reaches_later}
 use Rattle.op_except.specs.Lives.{life_row, bares, lasts_to, AreLives, IsEarliest}
 use Rattle.op_except.specs.Standing.{KeptRows, IsFiled, SidesStand, KnowsLives, ExceptStands}
 use Rattle.op_except.proofs.SideLemmas.{life_there, there_bare}
@@ -149,6 +149,19 @@ any_there : (p : Row → Bool) (x : Row) (ys : List Row) → p x ≡ true → 0 
 any_there p x [] h there = absurd (omega arith)
 any_there p x (y ∷ ys) h there = any_at p x y ys (p y) refl h there (any_there p x ys h)
 
+-- a life that is left of those that are known doesn't end before the mark, and is that of a row
+pub lives_may : (known known' : Lives) (rows : List Row) (before least : ℕ) → before ≤ least → KnowsLives known before rows → SameRows known'.by_end (filter (lasts_to least) known.by_end)
+    → (r : Row) → 0 < count_of r known'.by_end → (nat_le least r.end && list_any (is_life_of r) rows) ≡ true
+lives_may known known' rows before least rise knows left r there =
+    let both = stayed (lasts_to least) r known.by_end (omega (arith, left.each r, there)) in
+    let known_there = both.1 in
+    let same = knows.same.each r (reaches_later before least r rise both.0) in
+    let of = there_bare r rows (omega (arith, same, known_there)) in
+    let begins = eq-eqb r.begin of.0.begin (ap (λ (x : Row). x.begin) of.2) in
+    let ends = eq-eqb r.end of.0.end (ap (λ (x : Row). x.end) of.2) in
+    let its = any_there (is_life_of r) of.0 rows (λ i. begins i && ends i) of.1 in
+    (λ i. both.0 i && its i)
+
 module _ (op : Except) (left' right' : Filed) (lives' parts' : Lives) (tables : Tables) (earlier marks : List ℕ) (least first : ℕ) (rise : AllRise earlier marks) (is : least ≡ least_of marks) (h : SidesStand op tables earlier)
     (left_rows : (q : ℕ) → SameRows (under left'.by_tag.entries q) (filter (lasts_to least) (under op.left.by_tag.entries q))) (left_ends : AreEnds left'.by_tag.entries left'.ends) (left_ordered : IsStrictlySortedBy nat_cmp (keys_of left'.by_tag.entries))
     (right_rows : (q : ℕ) → SameRows (under right'.by_tag.entries q) (filter (ends_after first) (under op.right.by_tag.entries q))) (right_ends : AreEnds right'.by_tag.entries right'.ends) (right_ordered : IsStrictlySortedBy nat_cmp (keys_of right'.by_tag.entries))
@@ -248,15 +261,19 @@ module _ (op : Except) (left' right' : Filed) (lives' parts' : Lives) (tables : 
   right_may b false is_after later there = held_by b later there (ltb-false least b.end is_after) earliest.found
 
   -- what is held may be held
-  pub holds_trimmed : OnlyHolds (except_of op.tests) tables marks (all_under left'.by_tag.entries ∷ all_under right'.by_tag.entries ∷ [])
-  holds_trimmed = record { each = each }
+  pub holds_trimmed : KnowsLives op.parts (least_of earlier) (all_excepted op.tests tables) → SameRows parts'.by_end (filter (lasts_to least) op.parts.by_end)
+      → OnlyHolds (except_of op.tests) tables marks (all_under left'.by_tag.entries ∷ all_under right'.by_tag.entries ∷ parts'.by_end ∷ [])
+  holds_trimmed knows parts_left = record { each = each }
     where
-      each : (port : ℕ) (r : Row) → 0 < count_of r (table_at (all_under left'.by_tag.entries ∷ all_under right'.by_tag.entries ∷ []) port) → except_holds tables (least_of marks) port r ≡ true
+      each : (port : ℕ) (r : Row) → 0 < count_of r (table_at (all_under left'.by_tag.entries ∷ all_under right'.by_tag.entries ∷ parts'.by_end ∷ []) port) → except_holds op.tests tables (least_of marks) port r ≡ true
       each zero r there = ap (λ n. nat_le n r.end) (sym is) ∙ (left_held r there).0
       each (suc zero) r there =
           let held = right_held r there in
           subst (λ (n : ℕ). (nat_lt n r.end || list_any (λ a. nat_le n a.end && meets a r) (table_at tables 0)) ≡ true) is (right_may r (nat_lt least r.end) refl held.0 held.1)
-      each (suc (suc port)) r there = absurd (omega arith)
+      each (suc (suc zero)) r there =
+          subst (λ (n : ℕ). (nat_le n r.end && list_any (is_life_of r) (all_excepted op.tests tables)) ≡ true) is
+          (lives_may op.parts parts' (all_excepted op.tests tables) (least_of earlier) least (omega (arith, rises, is)) knows parts_left r there)
+      each (suc (suc (suc port))) r there = absurd (omega arith)
 
 -- what is known of the lives of the result is known at the later marks
 pub parts_trimmed : (known known' : Lives) (rows : List Row) (before later least : ℕ) → before ≤ later → least ≡ later → KnowsLives known before rows → AreLives known'.by_begin.keys known'.by_end → SameRows known'.by_end (filter (lasts_to least) known.by_end) → KnowsLives known' later rows
@@ -293,3 +310,7 @@ held_all op tables marks a h lasts =
       | inl gone ↦ absurd (let ended = s.kept.lefts_ended a gone in omega arith)
       | inr none ↦ omega (arith, all, s.kept.left.each a, count_of-append a s.lefts s.kept.lefts_gone, none)
     ]
+
+-- the life of a row of the result that doesn't end before the least mark is held as often as it is there
+pub lives_held : (op : Except) (tables : Tables) (marks : List ℕ) (begin end : ℕ) → ExceptStands op tables marks → least_of marks ≤ end → count_of (life_row begin end) op.parts.by_end ≡ count_of (life_row begin end) (bares (all_excepted op.tests tables))
+lives_held op tables marks begin end h lasts = h.parts.same.each (life_row begin end) (le-leb (least_of marks) end lasts)

@@ -143,7 +143,7 @@ lives_alike known mark rows others same h = record {
   same = among_along (lasts_to mark) known.by_end (bares rows) (bares others) h.same (among_same (lasts_to mark) (bares rows) (bares others) (same_flat_map (λ r. life_row r.begin r.end ∷ []) rows others same));
 }
 
-reaches_later : (mark later : ℕ) (r : Row) → mark ≤ later → lasts_to later r ≡ true → lasts_to mark r ≡ true
+pub reaches_later : (mark later : ℕ) (r : Row) → mark ≤ later → lasts_to later r ≡ true → lasts_to mark r ≡ true
 reaches_later mark later r rise is = let late = leb-true later r.end is in le-leb mark r.end (omega arith)
 
 pub lives_later : (known : Lives) (mark later : ℕ) (rows : List Row) → mark ≤ later → KnowsLives known mark rows → KnowsLives known later rows

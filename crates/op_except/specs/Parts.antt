@@ -49,13 +49,21 @@ open_below mark k r = if may_grow mark r && nat_lt r.begin k then 1 else 0
 abbrev pub meets : Row → Row → Bool
 meets a b = nat_lt a.begin b.end && nat_lt b.begin a.end
 
+-- a row begins and ends as another one does
+abbrev pub is_life_of : Row → Row → Bool
+is_life_of r x = nat_eq r.begin x.begin && nat_eq r.end x.end
+
 -- A row of port 0 may be held that doesn't end before the mark. A row of port 1 may be held that ends after the mark, or
--- that meets a row of port 0 that may be held.
-abbrev pub except_holds : Tables → ℕ → ℕ → Row → Bool
-except_holds tables mark port r =
+-- that meets a row of port 0 that may be held. Behind both ports the life of a row of the result may be held that doesn't end
+-- before the mark.
+abbrev pub except_holds : List Test → Tables → ℕ → ℕ → Row → Bool
+except_holds tests tables mark port r =
     if nat_eq port 0
     then nat_le mark r.end
-    else nat_lt mark r.end || list_any (λ a. nat_le mark a.end && meets a r) (table_at tables 0)
+    else
+    (if nat_eq port 1
+    then nat_lt mark r.end || list_any (λ a. nat_le mark a.end && meets a r) (table_at tables 0)
+    else nat_le mark r.end && list_any (is_life_of r) (all_excepted tests tables))
 
 -- Two ports. The rows of port 0 in their parts. The bound is the least of the least mark and of the begins of the rows of
 -- the result that are open at it.
@@ -64,7 +72,7 @@ except_of tests = record {
   ports = 2;
   result = all_excepted tests;
   bound = λ tables marks. growing_from (least_of marks) (all_excepted tests tables);
-  may_hold = λ tables marks port r. except_holds tables (least_of marks) port r;
+  may_hold = λ tables marks port r. except_holds tests tables (least_of marks) port r;
   echoes = false;
   stateless = false;
 }

@@ -1,7 +1,7 @@
 use Rattle.cedr_base.specs.Rows.{one_if_same}
 use Rattle.op_except.specs.PartLaws.{parts_same}
 use Rattle.op_except.proofs.PartLemmas.{parts_within}
-use Rattle.op_except.proofs.LongestLemmas.{parts_free, parts_once, all_covered}
+use Rattle.op_except.proofs.LongestLemmas.{parts_free, parts_once, parts_apart, all_covered}
 use Rattle.op_except.proofs.law.longest_parts.Goals as goal
 
 pub returns-clause-same : goal.returns-clause-same
@@ -15,6 +15,9 @@ returns-clause-within c = λ a x others there. let h = parts_within a x others t
 
 pub returns-clause-free : goal.returns-clause-free
 returns-clause-free c = parts_free
+
+pub returns-clause-apart : goal.returns-clause-apart
+returns-clause-apart c = parts_apart
 
 pub returns-clause-covers : goal.returns-clause-covers
 returns-clause-covers c = λ a others begin end lives from by free. let h = all_covered a others begin end lives from by free in (h.part, h.there, h.from, h.by)

@@ -22,5 +22,6 @@ returns-clause-held c = λ tables earlier stands rise.
     let left = c.forget_before-3.ensures in
     let right = c.forget_ended.ensures in
     let lives = c.forget_before-2.ensures in
+    let parts = c.forget_before.ensures in
     holds_trimmed c.args.self.now c.forget_before-3.new.filed c.forget_ended.new.self c.forget_before-2.new.self c.forget_before.new.self tables earlier c.args.marks.now c.least_mark-least.result c.earliest-first.result rise c.least_mark-least.ensures stands.sides
-    left.kept left.ends left.ordered right.kept right.ends right.ordered lives.lives lives.left (c.earliest-first.ensures lives.lives)
+    left.kept left.ends left.ordered right.kept right.ends right.ordered lives.lives lives.left (c.earliest-first.ensures lives.lives) stands.parts parts.left
