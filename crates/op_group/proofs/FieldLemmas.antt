@@ -19,7 +19,7 @@ use Rattle.op_group.specs.Groups.{Grouping, key_of, same_payload, rows_of}
 use Rattle.cedr_living.specs.Lives.{Living, SameLives}
 use Rattle.cedr_living.specs.Bags.{KeepsLives, IsEmpty, AllEnd}
 use Rattle.cedr_living.specs.BagLaws.{empty_ended}
-use Rattle.op_group.specs.Bags.{BagKeeps, bag_at, lives_of}
+use Rattle.op_group.specs.Bags.{BagKeeps, IsLive, bag_at, lives_of}
 use Rattle.op_group.specs.BagLaws.{lives_same, bag_alike}
 use Rattle.op_group.specs.Cuts.{segment_at}
 use Rattle.op_group.specs.Points.{has_point, Follows, IsFirstTaken}
@@ -57,7 +57,7 @@ module _ (g : Grouping) (key : List Field) (bags between after : Bags) (c : Chan
     (own : key ≡ key_of g (changed_row c)) (moved : IsMoved c old new)
     (kept : BagKeeps (bag_at after.all.entries key) between.passed (lives_of g.totalled (rows_of g key new)))
     (is_living : (bag : LivingFields) → bag_at after.all.entries key ≡ Some bag → bag ≡ living)
-    (from_there : (t : ℕ) → IsForgotten bags t key → t ≤ living.from) where
+    (from_there : (t : ℕ) → IsForgotten bags t key → t ≤ living.from) (own_live : IsLive after.all.entries key) where
   other_bag : (other : List Field) → same_payload key other ≡ false → bag_at after.all.entries other ≡ bag_at bags.all.entries other
   other_bag other h = others other h ∙ (without_it other ∙ ap (λ b. cond b None (bag_at bags.all.entries other)) h)
 
@@ -87,6 +87,10 @@ module _ (g : Grouping) (key : List Field) (bags between after : Bags) (c : Chan
       let within = was.within in
       record { within = omega (arith, passed, passed'); from_there = λ bag there. was.from_there bag (sym (other_bag other h) ∙ there) }
 
+  live_at : (other : List Field) (b : Bool) → same_payload key other ≡ b → IsLive bags.all.entries other → IsLive after.all.entries other
+  live_at other true h was = subst (IsLive after.all.entries) (payload_exact key other h) own_live
+  live_at other false h was = λ bag there. was bag (sym (other_bag other h) ∙ there)
+
   -- the bags keep the fields of the new rows
   pub fields_after : (groups : List (List Field × BTreeMap ℕ Segment)) (all' due due' : List CutPoint) (cuts' : List (ℕ × Segment)) → IsChange c → mark ≤ sync_of c → KeepsGroups g groups all' due' new mark
       → Follows due due' key cuts' (sync_of c) (last_time c) → IsStrictlySortedBy payload_cmp (keys_of after.all.entries) → KeepsFields g bags due old mark → KeepsFields g after due' new mark
@@ -111,10 +115,11 @@ module _ (g : Grouping) (key : List Field) (bags between after : Bags) (c : Chan
               ∙ ap (λ b. cond (b && same_payload key other) (is_some (segment_at t cuts')) (has_point due t other)) (above_test (last_time c) t (omega arith))) in
               forgotten_at t other (same_payload key other) refl (keeps.forgotten t other was (sym still ∙ gone))
         ];
+        live = λ other. live_at other (same_payload key other) refl (keeps.live other);
       }
 
 module _ (g : Grouping) (bags bags' : Bags) (due due' : List CutPoint) (rows : List Row) (mark : ℕ) (point : CutPoint)
-    (taken : IsFirstTaken due due' mark point) (settles : SettlesFields point.at point.key bags bags') (passed : bags.passed ≡ mark) (keeps : KeepsFields g bags due rows mark) where
+    (taken : IsFirstTaken due due' mark point) (settles : SettlesFields point.at point.key bags bags') (own_live : IsLive bags'.all.entries point.key) (passed : bags.passed ≡ mark) (keeps : KeepsFields g bags due rows mark) where
   settled_each : (key : List Field) (b : Bool) → same_payload point.key key ≡ b → BagKeeps (bag_at bags'.all.entries key) bags'.passed (lives_of g.totalled (rows_of g key rows))
   settled_each key true h =
       let before = taken.before in
@@ -152,6 +157,10 @@ module _ (g : Grouping) (bags bags' : Bags) (due due' : List CutPoint) (rows : L
       let within = old.within in
       record { within = omega (arith, settles.passed); from_there = λ bag found. old.from_there bag (sym (settles.others key h) ∙ found) }
 
+  settled_live : (key : List Field) (b : Bool) → same_payload point.key key ≡ b → IsLive bags'.all.entries key
+  settled_live key true h = subst (IsLive bags'.all.entries) (payload_exact point.key key h) own_live
+  settled_live key false h = λ bag there. keeps.live key bag (sym (settles.others key h) ∙ there)
+
   -- the bags keep the fields of the rows as before
   pub fields_settled : KeepsFields g bags' due' rows mark
   fields_settled =
@@ -161,11 +170,18 @@ module _ (g : Grouping) (bags bags' : Bags) (due due' : List CutPoint) (rows : L
         within = omega (arith, settles.passed);
         each = λ key. settled_each key (same_payload point.key key) refl;
         forgotten = λ t key cut gone. settled_forgotten t key (same_payload point.key key) refl cut (was_due (nat_eq point.at t) (same_payload point.key key) (has_point due t key) (has_point due' t key) (taken.taken t key) gone);
+        live = λ key. settled_live key (same_payload point.key key) refl;
       }
 
 empty_gone : (o : Option LivingFields) (passed : ℕ) (lives : List Living) → ((bag : LivingFields) → o ≡ Some bag → IsEmpty bag) → BagKeeps o passed lives → BagKeeps None passed lives
 empty_gone None passed lives empty keeps = keeps
 empty_gone (Some bag) passed lives empty keeps = none_kept bag passed lives (empty bag refl) keeps.0 keeps.1
+
+-- where a group's bag is gone, none without a life is left of it
+pub none_live : (key : List Field) (between after : Bags) → ((other : List Field) → bag_at after.all.entries other ≡ cond (same_payload key other) None (bag_at between.all.entries other)) → IsLive after.all.entries key
+none_live key between after gone bag there =
+    let none : bag_at after.all.entries key ≡ None = gone key ∙ ap (λ b. cond b None (bag_at between.all.entries key)) (payload_itself key) in
+    absurd (let e = sym none ∙ there in cc)
 
 -- a bag that is empty then may go
 pub settled_without : (at : ℕ) (key : List Field) (bags between after : Bags) → SettlesFields at key bags between → ((bag : LivingFields) → bag_at between.all.entries key ≡ Some bag → IsEmpty bag) → after.passed ≡ between.passed
@@ -192,6 +208,7 @@ fields_risen g bags due rows mark passed risen keeps =
         within = omega (arith, is);
         each = λ key. bag_later (bag_at bags.all.entries key) bags.passed passed (lives_of g.totalled (rows_of g key rows)) (omega (arith, is)) (keeps.each key);
         forgotten = λ t key cut gone. let was = keeps.forgotten t key cut gone in let low = was.within in record { within = omega (arith, is); from_there = was.from_there };
+        live = keeps.live;
       },
       is,
     )

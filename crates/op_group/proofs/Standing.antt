@@ -107,6 +107,7 @@ empty_fields g bags none start = record {
   within = omega (arith, start);
   each = λ key. subst (λ bs. BagKeeps (bag_at bs key) bags.passed []) (sym none) (λ w early. refl);
   forgotten = λ t key cut. cc;
+  live = λ key bag there. absurd (let nothing = ap (λ bs. bag_at bs key) none in cc);
 }
 
 -- a new operator stands for an empty table

@@ -8,7 +8,7 @@ use Rattle.cedr_base.specs.declared.row.Row.{Row}
 use Rattle.cedr_base.specs.Order.{payload_cmp}
 use Rattle.cedr_living.specs.declared.living.LivingFields.{LivingFields}
 use Rattle.op_group.specs.declared.segment.Totalled.{Totalled}
-use Rattle.cedr_living.specs.Bags.{KeepsLives, AllEnd}
+use Rattle.cedr_living.specs.Bags.{KeepsLives, IsEmpty, AllEnd}
 use Rattle.cedr_living.specs.Lives.{Living}
 
 -- a row's field in a column, which lives as the row does, if the row has the column
@@ -44,6 +44,10 @@ pub record GoesFrom (old new : LivingFields) (less : List Living) : Type 0 where
 -- the bag of the group with a key, if it has one
 abbrev pub bag_at : List (List Field × LivingFields) → List Field → Option LivingFields
 bag_at bags key = lookup (is_at (payload_cmp key)) bags
+
+-- the bag of the group with a key, if it has one, has a life
+abbrev pub IsLive : List (List Field × LivingFields) → List Field → Type 0
+IsLive bags key = (bag : LivingFields) → bag_at bags key ≡ Some bag → IsEmpty bag → ⊥
 
 -- A bag keeps lives, and tells of each time from a mark on that was passed. Where there is no bag, all lives have ended by
 -- then.

@@ -16,7 +16,7 @@ use Rattle.op_group.specs.declared.points.Points.{Points}
 use Rattle.op_group.specs.declared.bags.Bags.{Bags}
 use Rattle.cedr_living.specs.declared.living.LivingFields.{LivingFields}
 use Rattle.op_group.specs.declared.segment.Totalled.{Totalled}
-use Rattle.op_group.specs.Bags.{bag_at, BagKeeps, lives_of}
+use Rattle.op_group.specs.Bags.{bag_at, BagKeeps, IsLive, lives_of}
 use Rattle.cedr_living.specs.Lives.{Living}
 use Rattle.op_group.specs.Points.{has_point, left_from, IsOpenCut}
 use Rattle.op_group.specs.Groups.{Grouping, grouping_with, same_payload, rows_of, segments}
@@ -78,12 +78,14 @@ pub record IsForgotten (bags : Bags) (t : ℕ) (key : List Field) : Type 0 where
   pub within : t ≤ bags.passed
   pub from_there : (bag : LivingFields) → bag_at bags.all.entries key ≡ Some bag → t ≤ bag.from
 
--- The bags keep the fields of each group's rows: those that end after each cut point that a mark has passed.
+-- The bags keep the fields of each group's rows: those that end after each cut point that a mark has passed. None is kept
+-- without a life.
 pub record KeepsFields (g : Grouping) (bags : Bags) (due : List CutPoint) (rows : List Row) (mark : ℕ) : Type 0 where
   pub sorted : IsStrictlySortedBy payload_cmp (keys_of bags.all.entries)
   pub within : bags.passed ≤ mark
   pub each : (key : List Field) → BagKeeps (bag_at bags.all.entries key) bags.passed (lives_of g.totalled (rows_of g key rows))
   pub forgotten : (t : ℕ) (key : List Field) → is_cut_of (rows_of g key rows) t ≡ true → has_point due t key ≡ false → IsForgotten bags t key
+  pub live : (key : List Field) → IsLive bags.all.entries key
 
 -- one port, whose table is kept by groups
 pub record StandsForGroups (g : Grouping) (groups : List (List Field × BTreeMap ℕ Segment)) (points : Points) (bags : Bags) (tables : Tables) (marks : List ℕ) : Type 0 where

@@ -54,7 +54,7 @@ stands_rising g groups points bags tables marks later rise h = record {
   mark = rise_length marks later rise ∙ h.mark;
   rows = h.rows;
   keeps = keeps_rising g groups points.all.keys points.due.keys (table_at tables 0) (mark_at marks 0) (mark_at later 0) (rise_at 0 marks later rise) h.keeps;
-  fields = (let within = h.fields.within in let higher = rise_at 0 marks later rise in record { sorted = h.fields.sorted; within = omega arith; each = h.fields.each; forgotten = h.fields.forgotten });
+  fields = (let within = h.fields.within in let higher = rise_at 0 marks later rise in record { sorted = h.fields.sorted; within = omega arith; each = h.fields.each; forgotten = h.fields.forgotten; live = h.fields.live });
 }
 
 -- what shows some rows of a group shows others that count the same at each time
@@ -98,6 +98,7 @@ fields_alike g bags due xs ys mark same h = record {
   within = h.within;
   each = λ key. bag_alike (bag_at bags.all.entries key) bags.passed (lives_of g.totalled (rows_of g key xs)) (lives_of g.totalled (rows_of g key ys)) (lives_same g.totalled (rows_of g key xs) (rows_of g key ys) (λ w. group_sum g key w xs ys same)) (h.each key);
   forgotten = λ t key cut gone. h.forgotten t key (ap (nat_lt 0) (group_sum g key (edge_at t) xs ys same) ∙ cut) gone;
+  live = h.live;
 }
 
 -- a state that stands for some tables stands for others that are the same bags, too

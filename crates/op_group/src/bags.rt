@@ -5,7 +5,7 @@ ghost use Rattle.cedr_base.specs.declared.field.Field.{Field};
 ghost use Rattle.cedr_base.specs.Order.{payload_cmp};
 ghost use Rattle.cedr_base.specs.Changes.{remnant};
 ghost use Rattle.change_laws.specs.Repairs.{IsMoved};
-ghost use Rattle.op_group.specs.Bags.{bag_at, BagKeeps, lives_of, field_lives, columns_but, indexed, ComesTo, GoesFrom};
+ghost use Rattle.op_group.specs.Bags.{bag_at, BagKeeps, IsLive, lives_of, field_lives, columns_but, indexed, ComesTo, GoesFrom};
 ghost use Rattle.cedr_living.specs.Bags.{KeepsLives, IsEmpty};
 ghost use Rattle.cedr_living.specs.Lives.{Living};
 ghost use Rattle.op_group.specs.State.{IsForgotten, SettlesFields};
@@ -257,6 +257,7 @@ pub(crate) fn put_bag(
     ensures others { OnOk result ((other : List Field) → is_at (payload_cmp key.now) other ≡ false → bag_at bags.new.all.entries other ≡ bag_at bags.old.all.entries other) }
     ensures own { OnOk result ((bag : LivingBag) → bag_at bags.new.all.entries key.now ≡ Some bag → bag ≡ living) }
     ensures keeps { OnOk result ((lives : List Living) → KeepsLives living lives → living.from ≤ bags.old.passed → BagKeeps (bag_at bags.new.all.entries key.now) bags.old.passed lives) }
+    ensures live { OnOk result (IsLive bags.new.all.entries key.now) }
 {
     if living.is_empty() {
         return Ok(());
@@ -270,6 +271,7 @@ pub(crate) fn put_bag(
 fn forget_in(bags: &mut Bags, key: &Payload, at: Time) -> bool
     ensures settles { SettlesFields at key.now bags.old bags.new }
     ensures empty { IsTrue result → (bag : LivingBag) → bag_at bags.new.all.entries key.now ≡ Some bag → IsEmpty bag }
+    ensures live { result ≡ false → IsLive bags.new.all.entries key.now }
 {
     match bags.all.get_mut(key) {
         Some(living) => {
@@ -289,9 +291,10 @@ fn remove_bag(bags: &mut Bags, key: &Payload)
     bags.all.remove(key);
 }
 
-/// A group forgets what its fields were before one of its cut points.
+/// A group forgets what its fields were before one of its cut points. A bag without a life goes.
 pub(crate) fn forget_fields(bags: &mut Bags, key: &Payload, at: Time)
-    ensures { SettlesFields at key.now bags.old bags.new }
+    ensures settles { SettlesFields at key.now bags.old bags.new }
+    ensures live { IsLive bags.new.all.entries key.now }
 {
     if forget_in(bags, key, at) {
         remove_bag(bags, key);

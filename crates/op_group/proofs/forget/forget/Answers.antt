@@ -12,8 +12,8 @@ loop-point-preserved c = record {
   keeps = λ g rows keeps. keeps_passed g c.loop-point.groups.entries c.settle.new.groups.entries c.loop-point.points.all.keys c.settle.new.all.keys c.loop-point.points.due.keys c.take_first.new.due.keys rows c.args.mark c.in-Some.point c.in-Some.ensures.some c.settle.ensures (c.loop-point.invariant.keeps g rows keeps);
   fields = λ g rows keeps.
       let was = c.loop-point.invariant.fields g rows keeps in (
-        fields_settled g c.loop-point.bags c.forget_fields.new.bags c.loop-point.points.due.keys c.take_first.new.due.keys rows c.args.mark c.in-Some.point c.in-Some.ensures.some c.forget_fields.ensures was.1 was.0,
-        c.forget_fields.ensures.passed ∙ was.1,
+        fields_settled g c.loop-point.bags c.forget_fields.new.bags c.loop-point.points.due.keys c.take_first.new.due.keys rows c.args.mark c.in-Some.point c.in-Some.ensures.some c.forget_fields.ensures.settles c.forget_fields.ensures.live was.1 was.0,
+        c.forget_fields.ensures.settles.passed ∙ was.1,
       );
 }
 

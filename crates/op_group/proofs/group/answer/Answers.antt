@@ -90,6 +90,7 @@ returns-clause-fields c = on_ok_weaker c.put_group.result
     (subst (λ k. BagKeeps (bag_at c.put_bag.new.bags.all.entries k) c.take_changed.new.bags.passed (lives_of c.args.asked.now (rows_of (grouping_with c.args.keys.now c.args.count c.args.asked.now) c.in_ok-key.key new))) point
     (c.in_ok-put_bag.ensures.keeps (lives_of c.args.asked.now (rows_of (grouping_with c.args.keys.now c.args.count c.args.asked.now) c.in_ok-key.key new)) told.0 (omega (arith, passed))))
     (λ bag there. c.in_ok-put_bag.ensures.own bag (ap (bag_at c.put_bag.new.bags.all.entries) point ∙ there)) c.in_ok-living.ensures.from_there
+    (λ bag there. c.in_ok-put_bag.ensures.live bag (ap (bag_at c.put_bag.new.bags.all.entries) point ∙ there))
     c.put_group.new.groups.entries c.follow.new.points.all.keys c.args.points.now.due.keys c.follow.new.points.due.keys c.answer_in.new.cuts.entries (may_is old [] c.args.change.now may) late (both old new mark keeps fields may moved late)
     (follows_change c.args.points.now.due.keys c.follow.new.points.due.keys c.in_ok-key.key c.answer_in.new.cuts.entries c.args.change.now c.sync-at.result c.row-2.result.now c.sync-at.ensures c.row-2.ensures (c.in_ok-follow.ensures.due due))
     (c.put_bag.ensures.sorted c.take_changed.ensures.sorted) fields)
