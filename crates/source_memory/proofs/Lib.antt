@@ -1,0 +1,3 @@
+mod BesideLemmas
+pub mod MemoryLemmas
+pub mod OpenLemmas
