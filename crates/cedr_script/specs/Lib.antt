@@ -1,0 +1,4 @@
+pub mod Begun
+pub mod Cutters
+pub mod Cutting
+pub mod Logs
