@@ -236,6 +236,7 @@ waits source shape bytes given unended none few within reads =
     record {
       goes_on = unended;
       within = short;
+      none_left = ap whole_lines (no_feed_part source.lines.kept none);
       short = subst (λ line. length line ≤ LINE_LIMIT) (sym (ap unfinished_line parts ∙ unfinished-taken reads.taken (source.lines.kept ∷ []) some)) few;
       faultless = ap (λ (file : Judged). file.fault) judged;
       all = reads.messages ∙ ap (λ (file : Judged). messages_behind [] file.good) (sym judged);

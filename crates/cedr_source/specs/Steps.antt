@@ -33,11 +33,12 @@ pub record GivesFront (source : SourceLines) (shape : Shape) (bytes : List ℕ) 
   pub front : (more : List ℕ) → MayStillCome source.lines more → IsFrontOf given (messages_behind [] (judged shape (bytes ++ more)).good)
   pub legal : IsLegal given
 
--- all lines that ended were taken, and none has a fault. More bytes may come, and the line that they go on with isn't
--- too long yet
+-- All lines that ended were taken, so that none of them is among the bytes that are kept, and none has a fault. More bytes
+-- may come, and the line that they go on with isn't too long yet.
 pub record Waits (source : SourceLines) (shape : Shape) (bytes : List ℕ) (given : List Message) : Type 0 where
   pub goes_on : is_ended source ≡ false
   pub within : length bytes ≤ FILE_LIMIT
+  pub none_left : whole_lines (parts_of line_feed source.lines.kept) ≡ []
   pub short : length (unfinished_line (parts_of line_feed bytes)) ≤ LINE_LIMIT
   pub faultless : (judged_lines shape (whole_lines (parts_of line_feed bytes))).fault ≡ None
   pub all : given ≡ messages_behind [] (judged_lines shape (whole_lines (parts_of line_feed bytes))).good
