@@ -1,8 +1,8 @@
 -- What came of an output goes on.
 use Rattle.std.proofs.Common.{◌≡◌, true, false, ℕ, zero, suc, ◌+◌, ◌<◌, ◌≤◌, inl, inr, List, [], ◌∷◌, ◌++◌, Bool, cond, not, length, get_or, take, refl, ap, sym, ◌∙◌, subst, arith, append_assoc}
-use Rattle.std.specs.Prelude.{map, filter, nat_lt}
-use Rattle.std.proofs.lemmas.Bool.{cases_lt, ltb-true, ltb-false}
-use Rattle.std.proofs.lemmas.List.{append-nil}
+use Rattle.std.specs.Prelude.{map, filter, nat_lt, drop, ◌≢◌}
+use Rattle.std.proofs.lemmas.Bool.{cases_lt, ltb-true, ltb-false, eqb-true, eqb-false}
+use Rattle.std.proofs.lemmas.List.{append-nil, drop_all, drop-append-le, length-append, length-drop}
 use Rattle.cedr_base.specs.declared.change.Change.{Change}
 use Rattle.cedr_base.specs.declared.change.Change.TheVariants.{Add, Cut}
 use Rattle.cedr_base.specs.declared.change.Message.{Message}
@@ -19,11 +19,14 @@ use Rattle.change_laws.proofs.Moves.{row_came}
 use Rattle.cedr_table.specs.Counted.{ends_after}
 use Rattle.cedr_table.proofs.FilterLemmas.{count-filter}
 use Rattle.cedr_net.specs.declared.answer.Answer.{Answer}
-use Rattle.cedr_net.specs.Networks.{AreAnswerRows, IsAnswerOf}
+use Rattle.cedr_net.specs.declared.keeping.Keeping.{Keeping}
+use Rattle.cedr_net.specs.declared.keeping.Keeping.TheVariants as keeping
+use Rattle.cedr_net.specs.Keeping.{keeps_all, hands_on, taken_number, is_next}
+use Rattle.cedr_net.specs.Networks.{AreAnswerRows, HoldsAnswer, IsAnswerOf, TakesOn}
 use Rattle.cedr_net.proofs.FinalLemmas.{StandBefore, both_in_order, ends_before, passed}
 
 -- the rows that are final stand before the others
-final_first : (answer : Answer) (given : List Message) → IsAnswerOf answer given → StandBefore answer.final_rows.items answer.table
+final_first : (answer : Answer) (given : List Message) → HoldsAnswer answer given → StandBefore answer.final_rows.items answer.table
 final_first answer given a = λ x there q in_table. let low = a.below x there in let high = a.above q in_table in ends_before x q (omega arith)
 
 -- the same bag is the table of a list too
@@ -35,7 +38,7 @@ same_table given xs ys table same = record {
 }
 
 -- the rows that are final, and then the others in order, are the table of the output in order
-pub rows_of_answer : (answer : Answer) (given : List Message) (rows : List Row) → IsAnswerOf answer given → rows ≡ answer.final_rows.items ++ in_order answer.table → AreAnswerRows given rows
+pub rows_of_answer : (answer : Answer) (given : List Message) (rows : List Row) → HoldsAnswer answer given → rows ≡ answer.final_rows.items ++ in_order answer.table → AreAnswerRows given rows
 rows_of_answer answer given rows a is =
     let final = answer.final_rows.items in
     let whole = final ++ answer.table in
@@ -69,13 +72,13 @@ among_others (Cut a e) mark final others below late may = (
 )
 
 -- a change of an output names no row that is final
-pub follows_others : (answer : Answer) (given : List Message) (c : Change) → IsAnswerOf answer given → MayCome given (message.Change c) → MayFollow answer.table [] c
+pub follows_others : (answer : Answer) (given : List Message) (c : Change) → HoldsAnswer answer given → MayCome given (message.Change c) → MayFollow answer.table [] c
 follows_others answer given c a may =
     among_others c (mark_of given) answer.final_rows.items answer.table a.below may.1.1 (may_follow_table given (answer.final_rows.items ++ answer.table) c a.table may.1.0)
 
 -- with one more change of an output, its answer has that change where changes are kept, and the table with its delta
-pub change_noted : (old new : Answer) (given : List Message) (c : Change) → IsAnswerOf old given → MayCome given (message.Change c) → new.keeps ≡ old.keeps → (old.keeps ≡ true → new.changes.items ≡ old.changes.items ++ c ∷ []) → new.final_rows.items ≡ old.final_rows.items
-    → IsMoved c old.table new.table → IsAnswerOf new (given ++ message.Change c ∷ [])
+pub change_noted : (old new : Answer) (given : List Message) (c : Change) → HoldsAnswer old given → MayCome given (message.Change c) → new.keeps ≡ old.keeps → (keeps_all old.keeps ≡ true → new.changes.items ≡ old.changes.items ++ c ∷ []) → new.final_rows.items ≡ old.final_rows.items
+    → IsMoved c old.table new.table → HoldsAnswer new (given ++ message.Change c ∷ [])
 change_noted old new given c a may keeps kept final moved =
     let was = old.final_rows.items in
     let mark : mark_of (given ++ message.Change c ∷ []) ≡ mark_of given = omega (arith, mark-append given (message.Change c ∷ [])) in
@@ -86,7 +89,7 @@ change_noted old new given c a may keeps kept final moved =
       };
     } in
     record {
-      changes_are = λ is. let kept_before : old.keeps ≡ true = sym keeps ∙ is in kept kept_before ∙ (ap (λ (cs : List Change). cs ++ c ∷ []) (a.changes_are kept_before) ∙ sym (changes-append given (message.Change c ∷ [])));
+      changes_are = λ is. let kept_before : keeps_all old.keeps ≡ true = ap keeps_all (sym keeps) ∙ is in kept kept_before ∙ (ap (λ (cs : List Change). cs ++ c ∷ []) (a.changes_are kept_before) ∙ sym (changes-append given (message.Change c ∷ [])));
       table = subst (λ (rs : List Row). IsTableOf (given ++ message.Change c ∷ []) (rs ++ new.table)) (sym final) (table_moved given c (was ++ old.table) (was ++ new.table) a.table both);
       ordered = subst (λ (rs : List Row). in_order rs ≡ rs) (sym final) a.ordered;
       below = λ r there. let low = a.below r (subst (λ (rs : List Row). 0 < count_of r rs) final there) in omega arith;
@@ -117,8 +120,8 @@ not_false true h = cc
 not_false false h = refl
 
 -- with one more mark of an output, its rows that end below it are final
-pub mark_noted : (old new : Answer) (given : List Message) (mark time : ℕ) → IsAnswerOf old given → MayCome given (message.Mark mark) → time + 1 ≡ mark → new.keeps ≡ old.keeps → new.changes.items ≡ old.changes.items
-    → new.final_rows.items ≡ old.final_rows.items ++ in_order (filter (λ r. not (ends_after time r)) old.table) → SameRows new.table (filter (ends_after time) old.table) → IsAnswerOf new (given ++ message.Mark mark ∷ [])
+pub mark_noted : (old new : Answer) (given : List Message) (mark time : ℕ) → HoldsAnswer old given → MayCome given (message.Mark mark) → time + 1 ≡ mark → new.keeps ≡ old.keeps → new.changes.items ≡ old.changes.items
+    → new.final_rows.items ≡ old.final_rows.items ++ in_order (filter (λ r. not (ends_after time r)) old.table) → SameRows new.table (filter (ends_after time) old.table) → HoldsAnswer new (given ++ message.Mark mark ∷ [])
 mark_noted old new given mark time a may next keeps changes taken left =
     let was = old.final_rows.items in
     let gone = filter (λ r. not (ends_after time r)) old.table in
@@ -126,7 +129,7 @@ mark_noted old new given mark time a may next keeps changes taken left =
     let first : StandBefore was (in_order gone) = λ x there q in_gone.
     final_first old given a x there q (passed q (λ r. not (ends_after time r)) old.table (let e = (in_order_counts gone).each q in omega arith)).1 in
     record {
-      changes_are = λ is. changes ∙ (a.changes_are (sym keeps ∙ is) ∙ sym (changes-append given (message.Mark mark ∷ []) ∙ append-nil (changes_of given)));
+      changes_are = λ is. changes ∙ (a.changes_are (ap keeps_all (sym keeps) ∙ is) ∙ sym (changes-append given (message.Mark mark ∷ []) ∙ append-nil (changes_of given)));
       table = table_stays given (message.Mark mark) (new.final_rows.items ++ new.table)
           (same_table given (was ++ old.table) (new.final_rows.items ++ new.table) a.table
           (subst (λ (rs : List Row). SameRows (rs ++ new.table) (was ++ old.table)) (sym taken) (split_same time was old.table new.table left)))
@@ -147,7 +150,7 @@ mark_noted old new given mark time a may next keeps changes taken left =
     }
 
 -- with one more message of an output that is neither a change nor a mark, its answer stays
-pub other_noted : (answer : Answer) (given : List Message) (m : Message) → IsAnswerOf answer given → changes_of (m ∷ []) ≡ [] → mark_of (m ∷ []) ≡ 0 → IsAnswerOf answer (given ++ m ∷ [])
+pub other_noted : (answer : Answer) (given : List Message) (m : Message) → HoldsAnswer answer given → changes_of (m ∷ []) ≡ [] → mark_of (m ∷ []) ≡ 0 → HoldsAnswer answer (given ++ m ∷ [])
 other_noted answer given m a none unmarked =
     let mark : mark_of (given ++ m ∷ []) ≡ mark_of given = omega (arith, mark-append given (m ∷ [])) in
     record {
@@ -173,3 +176,63 @@ next_may_come given piece yielded m legal so_far next =
 pub map_itself : {X : Type 0} (xs : List X) → map (λ x. x) xs ≡ xs
 map_itself [] = refl
 map_itself (x ∷ xs) = ap (λ ys. x ∷ ys) (map_itself xs)
+
+-- ---- what is kept of a list
+
+-- nothing came: its table, or no message
+pub nothing_kept : (answer : Answer) → HoldsAnswer answer [] → taken_number answer.keeps ≡ 0 → answer.fresh.items ≡ [] → IsAnswerOf answer []
+nothing_kept answer holds none left = record {
+  rows = λ is. holds;
+  fresh = λ is. record { within = omega (arith, none); left = left ∙ ap (λ (n : ℕ). drop n []) (sym none) };
+}
+
+-- a piece was noted among the rows
+pub rows_noted : (old new : Answer) (given piece : List Message) → hands_on old.keeps ≡ false → new.keeps ≡ old.keeps → HoldsAnswer new (given ++ piece) → IsAnswerOf new (given ++ piece)
+rows_noted old new given piece isnt keeps holds = record { rows = λ is. holds; fresh = λ is. absurd (let e = sym isnt ∙ (ap hands_on (sym keeps) ∙ is) in cc) }
+
+-- a piece is handed on
+pub piece_left : (old new : Answer) (given piece : List Message) → IsAnswerOf old given → hands_on old.keeps ≡ true → new.keeps ≡ old.keeps → new.fresh.items ≡ old.fresh.items ++ piece → IsAnswerOf new (given ++ piece)
+piece_left old new given piece a is keeps fresh =
+    let was = a.fresh is in
+    let first = ap taken_number keeps in
+    record {
+      rows = λ isnt. absurd (let e = sym isnt ∙ (ap hands_on keeps ∙ is) in cc);
+      fresh = λ same. record {
+        within = omega (arith, was.within, first, length-append given piece);
+        left = fresh ∙ (ap (λ (ms : List Message). ms ++ piece) was.left ∙ (sym (drop-append-le (taken_number old.keeps) given piece was.within) ∙ ap (λ (n : ℕ). drop n (given ++ piece)) (sym first)));
+      };
+    }
+
+-- the messages that weren't taken are those from this number on
+pub untaken_end : (old : Answer) (given : List Message) → IsAnswerOf old given → hands_on old.keeps ≡ true → TakesOn given (taken_number old.keeps) old.fresh.items
+untaken_end old given a is = let was = a.fresh is in record { left = was.left; ends = omega (arith, was.within, ap (λ (ms : List Message). length ms) was.left, length-drop (taken_number old.keeps) given) }
+
+-- where a message is the next one, messages are handed on, and so many were taken
+pub next_hands_on : (keeps : Keeping) (number : ℕ) → is_next keeps number ≡ true → (hands_on keeps ≡ true) × (number ≡ taken_number keeps)
+next_hands_on keeping.Rows number is = absurd cc
+next_hands_on keeping.Changes number is = absurd cc
+next_hands_on (keeping.Messages first) number is = (refl, sym (eqb-true first number is))
+
+-- where it isn't, another number of them was taken
+pub another_next : (keeps : Keeping) (number : ℕ) → is_next keeps number ≡ false → hands_on keeps ≡ true → number ≢ taken_number keeps
+another_next keeping.Rows number isnt is = absurd cc
+another_next keeping.Changes number isnt is = absurd cc
+another_next (keeping.Messages first) number isnt is = λ same. eqb-false first number isnt (sym same)
+
+-- the messages that weren't taken are taken, and none is left
+pub all_taken : (old new : Answer) (given : List Message) → IsAnswerOf old given → hands_on old.keeps ≡ true → new.keeps ≡ keeping.Messages (taken_number old.keeps + length old.fresh.items) → new.fresh.items ≡ [] → IsAnswerOf new given
+all_taken old new given a is keeps none =
+    let t = untaken_end old given a is in
+    let first : taken_number new.keeps ≡ taken_number old.keeps + length old.fresh.items = ap taken_number keeps in
+    record {
+      rows = λ isnt. absurd (let e = sym isnt ∙ ap hands_on keeps in cc);
+      fresh = λ same. record { within = omega (arith, first, t.ends); left = none ∙ sym (drop_all (taken_number new.keeps) given (omega (arith, first, t.ends))) };
+    }
+
+-- both, as they are answered
+pub took_all : (old new : Answer) (given : List Message) (from : ℕ) (taken : List Message) → IsAnswerOf old given → is_next old.keeps from ≡ true → taken ≡ old.fresh.items → new.keeps ≡ keeping.Messages (from + length old.fresh.items) → new.fresh.items ≡ [] → TakesOn given from taken × IsAnswerOf new given
+took_all old new given from taken a next taken_are keeps none =
+    let is = next_hands_on old.keeps from next in (
+      subst (λ (n : ℕ). TakesOn given n taken) (sym is.1) (subst (TakesOn given (taken_number old.keeps)) (sym taken_are) (untaken_end old given a is.0)),
+      all_taken old new given a is.0 (keeps ∙ ap (λ (n : ℕ). keeping.Messages (n + length old.fresh.items)) is.1) none,
+    )

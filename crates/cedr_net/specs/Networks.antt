@@ -1,5 +1,5 @@
 -- A network, and the lists that went over it.
-use Rattle.std.specs.Prelude.{ℕ, ◌≡◌, ◌≢◌, ◌≤◌, ◌<◌, List, [], ◌∷◌, ◌++◌, length, slice_index_or, slice_set, Bool, true, false}
+use Rattle.std.specs.Prelude.{ℕ, ◌≡◌, ◌≢◌, ◌≤◌, ◌<◌, ◌+◌, drop, List, [], ◌∷◌, ◌++◌, length, slice_index_or, slice_set, Bool, true, false}
 use Rattle.cedr_base.specs.declared.change.Message.{Message}
 use Rattle.cedr_base.specs.declared.row.Row.{Row}
 use Rattle.cedr_base.specs.Messages.{changes_of, mark_of, IsTableOf}
@@ -10,6 +10,8 @@ use Rattle.plan_runs.specs.Runs.{lists_at}
 use Rattle.cedr_net.specs.declared.answer.Answer.{Answer}
 use Rattle.cedr_net.specs.declared.flow.Flow.{Flow}
 use Rattle.cedr_net.specs.declared.net.SerialNet.{SerialNet}
+use Rattle.cedr_net.specs.declared.stream.StreamNet.{StreamNet}
+use Rattle.cedr_net.specs.Keeping.{keeps_all, hands_on, taken_number}
 use Rattle.cedr_net.specs.Edges.{readers_from, NothingWaits}
 use Rattle.cedr_net.specs.Flows.{reads_of, Flows, IsSourceAt, PortAt, with_taken}
 use Rattle.cedr_net.specs.Settling.{AreUpToPort, TakesPortByPort}
@@ -22,12 +24,27 @@ pub record AreAnswerRows (given : List Message) (rows : List Row) : Type 0 where
 
 -- The table of a list and, where changes are kept, these. Its rows that end below the list's mark stand in canonical order
 -- by themselves.
-pub record IsAnswerOf (answer : Answer) (given : List Message) : Type 0 where
-  pub changes_are : answer.keeps ≡ true → answer.changes.items ≡ changes_of given
+pub record HoldsAnswer (answer : Answer) (given : List Message) : Type 0 where
+  pub changes_are : keeps_all answer.keeps ≡ true → answer.changes.items ≡ changes_of given
   pub table : IsTableOf given (answer.final_rows.items ++ answer.table)
   pub ordered : in_order answer.final_rows.items ≡ answer.final_rows.items
   pub below : (r : Row) → 0 < count_of r answer.final_rows.items → r.end < mark_of given
   pub above : (r : Row) → 0 < count_of r answer.table → mark_of given ≤ r.end
+
+-- some first messages of a list were taken, and these are left
+pub record AreUntaken (given : List Message) (first : ℕ) (fresh : List Message) : Type 0 where
+  pub within : first ≤ length given
+  pub left : fresh ≡ drop first given
+
+-- what is kept of a list: its table, or the messages that weren't taken
+pub record IsAnswerOf (answer : Answer) (given : List Message) : Type 0 where
+  pub rows : hands_on answer.keeps ≡ false → HoldsAnswer answer given
+  pub fresh : hands_on answer.keeps ≡ true → AreUntaken given (taken_number answer.keeps) answer.fresh.items
+
+-- the messages of a list from a number on, up to its end
+pub record TakesOn (given : List Message) (from : ℕ) (taken : List Message) : Type 0 where
+  pub left : taken ≡ drop from given
+  pub ends : from + length taken ≡ length given
 
 -- a network stands for the lists that were taken on the ports of each node of a plan and the list that each node gave:
 -- its edges are those of the plan, and its answer and its reach are those of the output
@@ -48,7 +65,15 @@ is_net_spent net = net.spent
 
 -- the changes that the output gave are kept
 abbrev pub keeps_changes : SerialNet → Bool
-keeps_changes net = net.flow.answer.keeps
+keeps_changes net = keeps_all net.flow.answer.keeps
+
+-- how many of the messages that the output gave were taken
+abbrev pub stream_taken : StreamNet → ℕ
+stream_taken net = taken_number net.flow.answer.keeps
+
+-- those that it gave and that weren't taken
+abbrev pub stream_left : StreamNet → List Message
+stream_left net = net.flow.answer.fresh.items
 
 -- a network stands for such lists, and it is usable
 pub record NetStands (nodes : List PlanNode) (net : SerialNet) (ports : List Lists) (given : Lists) : Type 0 where

@@ -9,11 +9,13 @@ ghost use Rattle.plan_runs.specs.Runs.{lists_at};
 ghost use Rattle.cedr_plan.specs.Places.{is_source};
 ghost use Rattle.cedr_net.specs.declared.work.Work.{Work};
 ghost use Rattle.cedr_net.specs.Edges.{all_wait, waits_on_all, ArePorts, NothingWaits};
+ghost use Rattle.cedr_net.specs.Keeping.{taken_number};
 ghost use Rattle.cedr_net.specs.Flows.{WorksAt, IsWorked, IsSourceAt, no_ports};
 ghost use Rattle.cedr_net.specs.Networks.{IsAnswerOf, FlowStands, IsTurn, IsDrained, IsSettledUpTo};
 
 use crate::answer::Answer;
 use crate::edges::{Readers, pull_at, send, send_one};
+use crate::keeping::Keeping;
 use crate::queue::Queues;
 use crate::work::Work;
 use cedr_base::{Message, OutOfMemory, Time};
@@ -97,9 +99,10 @@ fn pass_on(
 }
 
 impl Flow {
-    /// The nodes of a plan, to which nothing came, and whether the output's changes are kept.
-    pub(crate) fn new(alloc: Global, plan: &Plan, keeps: bool) -> Result<Flow, OutOfMemory>
-        requires { IsPlan plan.now }
+    /// The nodes of a plan, to which nothing came, and what is kept of the output.
+    pub(crate) fn new(alloc: Global, plan: &Plan, keeps: Keeping) -> Result<Flow, OutOfMemory>
+        requires plan { IsPlan plan.now }
+        requires keeps { taken_number keeps ≡ 0 }
         ensures stands { IfOk result (λ flow. FlowStands plan.now.nodes.items flow (map no_ports plan.now.nodes.items) (replicate (length plan.now.nodes.items) [])) }
         ensures keeps { IfOk result (λ flow. flow.answer.keeps ≡ keeps) }
     {

@@ -11,12 +11,14 @@ ghost use Rattle.cedr_net.specs.declared.net.NetFault.TheVariants.{OutOfMemory a
 ghost use Rattle.cedr_net.specs.Flows.{IsSourceAt, no_ports};
 ghost use Rattle.cedr_net.specs.Networks.{is_net_spent, keeps_changes, AreAnswerRows, NetStands, HasPort, IsNetTurn, HasSettled, IsScheduled};
 
-use crate::flow::Flow;
+use crate::keeping::Keeping;
+use crate::network::Network;
 use crate::work::{ended_at, forgotten_at};
 use cedr_base::{Change, Message, OutOfMemory, Row, Time};
 use cedr_plan::Plan;
 use node_laws::Forgotten;
 use std::alloc::Global;
+use std::marker::Model;
 use thiserror::Error;
 
 /// Why a network gives no answer.
@@ -30,19 +32,33 @@ pub enum NetFault {
     Spent,
 }
 
-/// A plan's network on one thread. Nodes are numbered by their places in the plan, from 0.
+/// A plan's network on one thread, which keeps the table of what its output gives. Nodes are numbered by their places in the
+/// plan, from 0.
 ///
 /// It stands for the lists of messages that went over its edges, which it doesn't keep. Each clause speaks of all such
 /// lists.
 pub struct SerialNet {
-    pub(crate) flow: Flow,
-    /// Whether memory ran out in a call.
-    pub(crate) spent: bool,
+    net: Network,
+}
+
+impl Model for SerialNet {
+    ghost use Rattle.std.specs.Prelude.{◌≡◌, false};
+    ghost use Rattle.cedr_net.specs.declared.network.Network.{Network as Networked};
+    ghost use Rattle.cedr_net.specs.contracts.network.Network as networked;
+    ghost use Rattle.cedr_net.specs.Keeping.{hands_on};
+
+    ghost Value = { Networked };
+
+    ghost coded = { networked.the_row.coded };
+
+    ghost view = { λ n. n.net };
+
+    ghost invariant = { λ n. hands_on n.net.flow.answer.keeps ≡ false };
 }
 
 impl Drop for SerialNet {
     fn drop(self) {
-        let SerialNet { flow: _, spent: _ } = self;
+        let SerialNet { net: _ } = self;
     }
 }
 
@@ -54,8 +70,8 @@ impl SerialNet {
         ensures stands { IfOk result (λ net. NetStands plan.now.nodes.items net (map no_ports plan.now.nodes.items) (replicate (length plan.now.nodes.items) [])) }
         ensures keeps { IfOk result (λ net. keeps_changes net ≡ true) }
     {
-        let flow = Flow::new(alloc, plan, true)?;
-        Ok(SerialNet { flow, spent: false })
+        let net = Network::new(alloc, plan, Keeping::Changes)?;
+        Ok(SerialNet { net })
     }
 
     /// The same, but of what the output gives it keeps the table alone: what is held then doesn't grow with the number of
@@ -64,8 +80,8 @@ impl SerialNet {
         requires { IsPlan plan.now }
         ensures { IfOk result (λ net. NetStands plan.now.nodes.items net (map no_ports plan.now.nodes.items) (replicate (length plan.now.nodes.items) [])) }
     {
-        let flow = Flow::new(alloc, plan, false)?;
-        Ok(SerialNet { flow, spent: false })
+        let net = Network::new(alloc, plan, Keeping::Rows)?;
+        Ok(SerialNet { net })
     }
 
     /// A message of a source, which may come after those before it, waits on each port that reads it. It is copied for
@@ -78,16 +94,7 @@ impl SerialNet {
         ensures stays_spent { is_net_spent self.old ≡ true → is_net_spent self.new ≡ true }
         ensures keeps { keeps_changes self.new ≡ keeps_changes self.old }
     {
-        if self.spent {
-            return Err(NetFault::Spent);
-        }
-        match self.flow.feed(alloc, node, message) {
-            Ok(()) => Ok(()),
-            Err(OutOfMemory) => {
-                self.spent = true;
-                Err(NetFault::OutOfMemory)
-            }
-        }
+        self.net.feed(alloc, node, message)
     }
 
     /// Messages of a source, one after the other, as [`SerialNet::feed`] takes each. At an error some of them may wait.
@@ -99,13 +106,12 @@ impl SerialNet {
     ) -> Result<(), NetFault>
         requires { is_net_spent self.old ≡ false → (nodes : List PlanNode) × (ports : List Lists) × (given : Lists) × NetStands nodes self.old ports given × (node < length nodes) × IsSourceAt nodes node × IsLegal (list_at given node ++ messages.items) }
         ensures fed { OnOk result ((nodes : List PlanNode) (ports : List Lists) (given : Lists) → NetStands nodes self.old ports given → node < length nodes → IsSourceAt nodes node → IsLegal (list_at given node ++ messages.items) → NetStands nodes self.new ports (with_more given node messages.items)) }
+        ensures spent { IsErrOf result Spent ↔ (is_net_spent self.old ≡ true) }
+        ensures spends { IsErrOf result NoMemory → is_net_spent self.new ≡ true }
         ensures stays_spent { is_net_spent self.old ≡ true → is_net_spent self.new ≡ true }
         ensures keeps { keeps_changes self.new ≡ keeps_changes self.old }
     {
-        for message in messages {
-            self.feed(alloc, node, message)?;
-        }
-        Ok(())
+        self.net.feed_all(alloc, node, messages)
     }
 
     /// The node takes the first message of its first port on which one waits, and what it gives waits on the ports that
@@ -118,16 +124,7 @@ impl SerialNet {
         ensures stays_spent { is_net_spent self.old ≡ true → is_net_spent self.new ≡ true }
         ensures keeps { keeps_changes self.new ≡ keeps_changes self.old }
     {
-        if self.spent {
-            return Err(NetFault::Spent);
-        }
-        match self.flow.turn(alloc, node) {
-            Ok(moved) => Ok(moved),
-            Err(OutOfMemory) => {
-                self.spent = true;
-                Err(NetFault::OutOfMemory)
-            }
-        }
+        self.net.turn(alloc, node)
     }
 
     /// Nodes are turned until no message waits. They go in the order of the plan, so that each takes all that waits on its
@@ -140,16 +137,7 @@ impl SerialNet {
         ensures stays_spent { is_net_spent self.old ≡ true → is_net_spent self.new ≡ true }
         ensures keeps { keeps_changes self.new ≡ keeps_changes self.old }
     {
-        if self.spent {
-            return Err(NetFault::Spent);
-        }
-        match self.flow.settle(alloc) {
-            Ok(()) => Ok(()),
-            Err(OutOfMemory) => {
-                self.spent = true;
-                Err(NetFault::OutOfMemory)
-            }
-        }
+        self.net.settle(alloc)
     }
 
     /// The nodes are turned in this order, each as [`SerialNet::turn`] does.
@@ -161,22 +149,14 @@ impl SerialNet {
         ensures stays_spent { is_net_spent self.old ≡ true → is_net_spent self.new ≡ true }
         ensures keeps { keeps_changes self.new ≡ keeps_changes self.old }
     {
-        if self.spent {
-            return Err(NetFault::Spent);
-        }
-        for node in schedule {
-            if let Err(fault) = self.turn(alloc, *node) {
-                return Err(fault);
-            }
-        }
-        Ok(())
+        self.net.run_schedule(alloc, schedule)
     }
 
     /// The table of what the output gave: its rows in canonical order, copied. O(n).
     pub fn rows(&self) -> Result<Vec<Row>, OutOfMemory>
         ensures { IfOk result (λ rows. (nodes : List PlanNode) (ports : List Lists) (given : Lists) → NetStands nodes self.now ports given → AreAnswerRows (list_at given (output_place nodes)) rows.items) }
     {
-        let rows = self.flow.answer.rows()?;
+        let rows = self.net.flow.answer.rows()?;
         Ok(rows)
     }
 
@@ -185,7 +165,8 @@ impl SerialNet {
     pub fn into_rows(self) -> Result<Vec<Row>, OutOfMemory>
         ensures { IfOk result (λ rows. (nodes : List PlanNode) (ports : List Lists) (given : Lists) → NetStands nodes self ports given → AreAnswerRows (list_at given (output_place nodes)) rows.items) }
     {
-        let SerialNet { flow, spent: _ } = self;
+        let SerialNet { net } = self;
+        let Network { flow, spent: _ } = net;
         let rows = flow.answer.into_rows()?;
         Ok(rows)
     }
@@ -195,14 +176,14 @@ impl SerialNet {
     pub fn changes(&self) -> &[Change]
         ensures { (nodes : List PlanNode) (ports : List Lists) (given : Lists) → NetStands nodes self.now ports given → keeps_changes self.now ≡ true → result.now ≡ changes_of (list_at given (output_place nodes)) }
     {
-        self.flow.answer.changes.as_slice()
+        self.net.flow.answer.changes.as_slice()
     }
 
     /// The last mark that came on the output's port, 0 at first. It takes no memory.
     pub fn reach(&self) -> Time
         ensures { (nodes : List PlanNode) (ports : List Lists) (given : Lists) → NetStands nodes self.now ports given → result ≡ mark_of (list_at (lists_at ports (output_place nodes)) 0) }
     {
-        self.flow.reach
+        self.net.flow.reach
     }
 
     /// What was forgotten on a port of a node, in the order in which it came. It takes no memory.
@@ -210,13 +191,13 @@ impl SerialNet {
         requires { HasPort self.now node port }
         ensures { (nodes : List PlanNode) (ports : List Lists) (given : Lists) → NetStands nodes self.now ports given → (before after : List PlanNode) (n : PlanNode) → nodes ≡ before ++ n ∷ after → length before ≡ node → result.now ≡ forgot n.level.memory (list_at (lists_at ports node) port) }
     {
-        forgotten_at(self.flow.works.as_slice(), node, port)
+        forgotten_at(self.net.flow.works.as_slice(), node, port)
     }
 
     /// Whether the output's port has ended or broken: nothing comes of the output any more. It takes no memory.
     pub fn ended(&self) -> bool
         ensures { (nodes : List PlanNode) (ports : List Lists) (given : Lists) → NetStands nodes self.now ports given → result ≡ all_over (lists_at ports (output_place nodes)) }
     {
-        ended_at(self.flow.works.as_slice(), self.flow.output)
+        ended_at(self.net.flow.works.as_slice(), self.net.flow.output)
     }
 }

@@ -3,4 +3,4 @@ use Rattle.cedr_net.proofs.AnswerLemmas.{rows_of_answer}
 use Rattle.cedr_net.proofs.answer.Answer.rows.Goals as goal
 
 pub returns : goal.returns
-returns c = λ given a. rows_of_answer c.args.self.now given _ a (search rules)
+returns c = λ given a. rows_of_answer c.args.self.now given _ (a.rows c.requires) (search rules)

@@ -14,12 +14,12 @@ loop-place-init c = none_new c.as_slice-nodes.result.now c.new-readers.result.it
 pub new-requires-in-loop-place-clause-ready : goal.new-requires-in-loop-place-clause-ready
 new-requires-in-loop-place-clause-ready c =
     let n = c.index-nodes-place in
-    (can_be_made c.as_slice-nodes.result.now c.loop-place.place n.result (subst (λ (ns : List PlanNode). AreNodes [] (map node_of ns)) (sym c.as_slice-nodes.ensures.value) c.requires.nodes) (search rules) (sym n.is)).0
+    (can_be_made c.as_slice-nodes.result.now c.loop-place.place n.result (subst (λ (ns : List PlanNode). AreNodes [] (map node_of ns)) (sym c.as_slice-nodes.ensures.value) c.requires.plan.nodes) (search rules) (sym n.is)).0
 
 pub new-requires-in-loop-place-clause-level : goal.new-requires-in-loop-place-clause-level
 new-requires-in-loop-place-clause-level c =
     let n = c.index-nodes-place in
-    (can_be_made c.as_slice-nodes.result.now c.loop-place.place n.result (subst (λ (ns : List PlanNode). AreNodes [] (map node_of ns)) (sym c.as_slice-nodes.ensures.value) c.requires.nodes) (search rules) (sym n.is)).1
+    (can_be_made c.as_slice-nodes.result.now c.loop-place.place n.result (subst (λ (ns : List PlanNode). AreNodes [] (map node_of ns)) (sym c.as_slice-nodes.ensures.value) c.requires.plan.nodes) (search rules) (sym n.is)).1
 
 pub loop-place-preserved : goal.loop-place-preserved
 loop-place-preserved c =
@@ -37,6 +37,6 @@ returns-clause-stands c =
     let loop = c.loop-place in
     let plan = c.args.plan.now in
     let end : loop.place ≡ length plan.nodes.items = omega (arith, ap (λ (ns : List PlanNode). length ns) c.as_slice-nodes.ensures.value) in
-    new_whole plan _ c.requires loop.place end
+    new_whole plan _ c.requires.plan loop.place end
     (subst (λ (ns : List PlanNode). NewUpTo ns loop.place loop.readers.items loop.waiting.items loop.works.items) c.as_slice-nodes.ensures.value loop.invariant)
     (search rules) (search rules) (search rules)

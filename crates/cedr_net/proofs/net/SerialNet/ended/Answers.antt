@@ -4,12 +4,15 @@ use Rattle.cedr_plan.specs.Places.{output_place}
 use Rattle.plan_runs.specs.Runs.{lists_at}
 use Rattle.cedr_net.specs.declared.work.Work.{Work}
 use Rattle.cedr_net.specs.Flows.{WorksAt}
+use Rattle.cedr_net.specs.Networks.{NetStands}
+use Rattle.cedr_net.specs.declared.net.SerialNet.{SerialNet}
 use Rattle.cedr_net.proofs.PortLemmas.{output_works}
 use Rattle.cedr_net.proofs.net.SerialNet.ended.Goals as goal
 
 pub returns : goal.returns
-returns c = λ nodes ports given h.
-    let flow = c.args.self.now.flow in
+returns c = λ nodes ports given stands.
+    let h = subst (λ (net : SerialNet). NetStands nodes net ports given) (sym c.self.view_is) stands in
+    let flow = c.self.inside.net.flow in
     let o = output_works nodes flow ports given h.stands in
     let works = c.as_slice.result.now in
     let all = c.as_slice.ensures.value in

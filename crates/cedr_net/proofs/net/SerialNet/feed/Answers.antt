@@ -1,4 +1,8 @@
+use Rattle.std.proofs.Common.{sym, subst}
+use Rattle.std.proofs.lemmas.Result.{on_ok_weaker}
+use Rattle.cedr_net.specs.declared.net.SerialNet.{SerialNet}
+use Rattle.cedr_net.specs.Networks.{NetStands}
 use Rattle.cedr_net.proofs.net.SerialNet.feed.Goals as goal
 
-pub returns-in-Ok-clause-fed : goal.returns-in-Ok-clause-fed
-returns-in-Ok-clause-fed c = λ nodes ports given h within source may. record { usable = h.usable; stands = c.in-Ok.ensures.fed nodes ports given h.stands within source may }
+pub returns-clause-fed : goal.returns-clause-fed
+returns-clause-fed c = on_ok_weaker c.feed.result (λ fed nodes ports given h. fed nodes ports given (subst (λ (net : SerialNet). NetStands nodes net ports given) (sym c.self.view_is) h)) c.feed.ensures.fed

@@ -1,4 +1,4 @@
-use Rattle.cedr_net.proofs.net.SerialNet.turn.Goals as goal
+use Rattle.cedr_net.proofs.network.Network.turn.Goals as goal
 
 pub returns-in-Ok-clause-turned : goal.returns-in-Ok-clause-turned
 returns-in-Ok-clause-turned c = λ nodes ports given h within. record {

@@ -1,4 +1,4 @@
-use Rattle.cedr_net.proofs.net.SerialNet.settle.Goals as goal
+use Rattle.cedr_net.proofs.network.Network.settle.Goals as goal
 
 pub returns-in-Ok-clause-settled : goal.returns-in-Ok-clause-settled
 returns-in-Ok-clause-settled c = λ nodes ports given h.

@@ -6,7 +6,7 @@ use Rattle.std.proofs.lemmas.List.{take_more, take_all}
 use Rattle.std.proofs.lemmas.List.Elements.{All-get_or}
 use Rattle.cedr_net.specs.Networks.{IsScheduled}
 use Rattle.cedr_net.proofs.ScheduleLemmas.{scheduled_on, same_fault}
-use Rattle.cedr_net.proofs.net.SerialNet.run_schedule.Goals as goal
+use Rattle.cedr_net.proofs.network.Network.run_schedule.Goals as goal
 
 pub turn-requires : goal.turn-requires
 turn-requires c = λ usable.
