@@ -89,7 +89,7 @@ none_read given (i ∷ inputs) none zero = none i
 none_read given (i ∷ inputs) none (suc k) = none_read given inputs none k
 
 -- where no node gave anything no message waits
-nothing_waits : (nodes : List PlanNode) (net : SerialNet) (ports : List Lists) (given : Lists) → NetStands nodes net ports given → ((k : ℕ) → list_at given k ≡ []) → (k : ℕ) → NothingWaits (waiting_at net k)
+pub nothing_waits : (nodes : List PlanNode) (net : SerialNet) (ports : List Lists) (given : Lists) → NetStands nodes net ports given → ((k : ℕ) → list_at given k ≡ []) → (k : ℕ) → NothingWaits (waiting_at net k)
 nothing_waits nodes net ports given h none k =
     let flows = h.stands.flows in
     none_joined (lists_at ports k) (waiting_at net k) (flows.widths k) (λ j. ap (λ (ls : Lists). list_at ls j) (flows.edges k) ∙ none_read given (get_or (reads_of nodes) k []) none j)

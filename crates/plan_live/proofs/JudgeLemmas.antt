@@ -25,26 +25,14 @@ use Rattle.plan_live.specs.Playing.{IsLineFault, GuardsStand, accepting, step_of
 use Rattle.plan_live.specs.Resumed.{states_so_far, states_in}
 use Rattle.plan_live.specs.Scripts.{Accepted, ShapesHaveTypes, lines_at, with_line, is_question, Played, played}
 use Rattle.plan_live.specs.SoFar.{source_lines}
-use Rattle.plan_live.proofs.ScriptLemmas.{stepped, step_short, step_says, parts_step}
+use Rattle.plan_live.proofs.ScriptLemmas.{stepped, parts_step}
 
 -- ---- one line
 
--- a line that is too long has that fault
-pub long_behind : (nodes : List PlanNode) (shapes : List Shape) (before : Accepted) (line : List ℕ) → LINE_LIMIT < length line → lines_behind before (step_of nodes shapes before line) ≡ Err LineTooLong
-long_behind nodes shapes before line long =
-    ap (λ (test : Bool). lines_behind before (cond test (Err LineTooLong) (cond (is_question (without_return line)) (Ok None) (accepting (with_line nodes shapes before (without_return line)))))) (lt-ltb LINE_LIMIT (length line) long)
-
--- `?` adds no line
-pub question_behind : (nodes : List PlanNode) (shapes : List Shape) (before : Accepted) (line : List ℕ) → length line ≤ LINE_LIMIT → is_question (without_return line) ≡ true → lines_behind before (step_of nodes shapes before line) ≡ Ok before
-question_behind nodes shapes before line short is = ap (lines_behind before) (step_short nodes shapes before line true short is)
-
-accepted_behind : (before : Accepted) (now : Result Accepted LineFault) → lines_behind before (accepting now) ≡ now
+-- a line that isn't `?` adds what is accepted
+pub accepted_behind : (before : Accepted) (now : Result Accepted LineFault) → lines_behind before (accepting now) ≡ now
 accepted_behind before (Ok now) = refl
 accepted_behind before (Err fault) = refl
-
--- any other line that isn't too long says what it says without its carriage return
-pub said_behind : (nodes : List PlanNode) (shapes : List Shape) (before : Accepted) (line : List ℕ) → length line ≤ LINE_LIMIT → is_question (without_return line) ≡ false → lines_behind before (step_of nodes shapes before line) ≡ with_line nodes shapes before (without_return line)
-said_behind nodes shapes before line short is = ap (lines_behind before) (step_says nodes shapes before line short is) ∙ accepted_behind before (with_line nodes shapes before (without_return line))
 
 -- ---- so many lines were judged
 

@@ -3,8 +3,10 @@ pub mod StateLemmas
 pub mod GuardLemmas
 pub mod FeedLemmas
 pub mod RestoreLemmas
+pub mod TableLemmas
 pub mod ShownLemmas
 pub mod ScriptLemmas
+pub mod SaidLemmas
 pub mod JudgeLemmas
 pub mod SoFarLemmas
 pub mod NowLemmas

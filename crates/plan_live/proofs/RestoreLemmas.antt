@@ -1,26 +1,22 @@
 -- The sources of a plan come to their states, one after the other.
 use Rattle.std.proofs.Common.{◌≡◌, ℕ, zero, suc, ◌+◌, ◌<◌, inl, inr, List, [], ◌∷◌, ◌++◌, Bool, true, false, cond, length, get_or, set, take, refl, ap, sym, ◌∙◌, subst, arith, get_or-set_same, get_or-set_other}
 use Rattle.std.proofs.lemmas.Bool.{cases_lt}
-use Rattle.std.proofs.lemmas.List.{take_more, get_or-map, length-map}
+use Rattle.std.proofs.lemmas.List.{take_more, get_or-map, length-map, length-set, ext_get_or}
 use Rattle.std.proofs.lemmas.List.Sums.{sum_by-cons, sum_by-append}
 use Rattle.cedr_base.specs.declared.change.Message.{Message}
 use Rattle.cedr_guard.specs.Messages.{messages_behind}
 use Rattle.cedr_guard.specs.Spelt.{State, state_in, lines_of, IsFit}
 use Rattle.cedr_guard.specs.declared.state.SourceState.{SourceState}
-use Rattle.cedr_guard.specs.Standing.{Guards}
-use Rattle.node_laws.specs.Lists.{Lists}
 use Rattle.cedr_net.specs.Flows.{IsSourceAt}
 use Rattle.cedr_net.proofs.PlaceLemmas.{source_here}
 use Rattle.cedr_plan.specs.declared.plan.PlanNode.{PlanNode}
 use Rattle.cedr_plan.specs.Places.{is_source, source_count}
 use Rattle.cedr_plan.proofs.PlaceLemmas.{counted, sources_before}
 use Rattle.cedr_text.specs.declared.event_line.EventLine.{EventLine}
-use Rattle.plan_live.specs.declared.player.Player.{Player}
 use Rattle.plan_live.specs.Scripts.{Accepted, lines_at, no_lines}
-use Rattle.plan_live.specs.Playing.{PlaysStand}
 use Rattle.plan_live.specs.Resumed.{lines_from, states_in, AreStates}
 use Rattle.plan_live.specs.Restoring.{IsRestoredTo}
-use Rattle.plan_live.proofs.GuardLemmas.{no_line}
+use Rattle.plan_live.proofs.GuardLemmas.{no_line, no_lines_count}
 
 -- ---- the lines of states, at their places
 
@@ -100,19 +96,9 @@ other_restored nodes states place before none r = record {
   left = λ k above. r.left k (omega arith);
 }
 
--- once all have, the player stands for the lines of the states
-pub all_restored : (nodes : List PlanNode) (states : List State) (player : Player) (before : Accepted) (shown : Lists) → IsRestoredTo nodes states (length nodes) before → PlaysStand nodes player before shown → PlaysStand nodes player (lines_from nodes states) shown
-all_restored nodes states player before shown r p = record {
-  judged = record {
-    lines_count = from_count nodes states;
-    guards_count = p.judged.guards_count;
-    each = λ k d within. subst (Guards (get_or player.guards.items k d)) (r.done k within) (p.judged.each k d within);
-  };
-  given = p.given;
-  settled = p.settled;
-  sources = λ k within source. p.sources k within source ∙ ap (messages_behind []) (r.done k within);
-  grow = p.grow;
-}
+-- once all have, the accepted lines are those of the states
+pub all_restored : (nodes : List PlanNode) (states : List State) (before : Accepted) → length before ≡ length nodes → IsRestoredTo nodes states (length nodes) before → before ≡ lines_from nodes states
+all_restored nodes states before count r = ext_get_or [] before (lines_from nodes states) (count ∙ sym (from_count nodes states)) (λ k within. r.done k (omega (arith, count, within)))
 
 -- ---- the loop
 
@@ -121,22 +107,23 @@ pub first_messages : (before lines : List EventLine) (ms : List Message) → bef
 first_messages before lines ms none are = sym are ∙ ap (λ (ls : List EventLine). messages_behind [] ls ++ ms) (sym none)
 
 -- the sources before a place have come to their states, and this is the number of the next one
-pub record IsOnTheWayTo (nodes : List PlanNode) (states : List State) (place number : ℕ) (player : Player) : Type 0 where
+pub record IsOnTheWayTo (nodes : List PlanNode) (states : List State) (place number : ℕ) (stands_for : Accepted → Type 0) : Type 0 where
   pub before : Accepted
-  pub stands : PlaysStand nodes player before []
+  pub stands : stands_for before
+  pub count : length before ≡ length nodes
   pub restored : IsRestoredTo nodes states place before
   pub number_is : number ≡ source_count (take place nodes)
 
--- a new player is at the first place
-pub begun : (nodes : List PlanNode) (states : List State) (player : Player) → PlaysStand nodes player (no_lines nodes) [] → IsOnTheWayTo nodes states 0 0 player
-begun nodes states player p = record { before = no_lines nodes; stands = p; restored = none_restored nodes states; number_is = refl }
+-- where no line was accepted, it is at the first place
+pub begun : (nodes : List PlanNode) (states : List State) (stands_for : Accepted → Type 0) → stands_for (no_lines nodes) → IsOnTheWayTo nodes states 0 0 stands_for
+begun nodes states stands_for stands = record { before = no_lines nodes; stands = stands; count = no_lines_count nodes; restored = none_restored nodes states; number_is = refl }
 
 count_more : (nodes : List PlanNode) (i : ℕ) (n : PlanNode) (b : Bool) → i < length nodes → n ≡ get_or nodes i n → is_source n.kind ≡ b → source_count (take (i + 1) nodes) ≡ source_count (take i nodes) + cond b 1 0
 count_more nodes i n b within at is =
     let one : counted n ≡ cond b 1 0 = ap {B = ℕ} (λ c. cond c 1 0) is in
     ap source_count (take_more nodes i n within ∙ ap (λ (m : PlanNode). take i nodes ++ m ∷ []) (sym at)) ∙ omega (arith, one, sum_by-append counted (take i nodes) (n ∷ []), sum_by-cons counted n [])
 
-module _ (nodes : List PlanNode) (states : List SourceState) (are : AreStates nodes states) (place number : ℕ) (old : Player) (w : IsOnTheWayTo nodes (states_in states) place number old) (n : PlanNode) (within : place < length nodes) (at : n ≡ get_or nodes place n) where
+module _ (nodes : List PlanNode) (states : List SourceState) (are : AreStates nodes states) (place number : ℕ) (old : Accepted → Type 0) (w : IsOnTheWayTo nodes (states_in states) place number old) (n : PlanNode) (within : place < length nodes) (at : n ≡ get_or nodes place n) where
   node_kind : (b : Bool) → is_source n.kind ≡ b → is_source (get_or nodes place n).kind ≡ b
   node_kind b is = ap (λ (m : PlanNode). is_source m.kind) (sym at) ∙ is
 
@@ -159,11 +146,12 @@ module _ (nodes : List PlanNode) (states : List SourceState) (are : AreStates no
       ∙ (ap lines_of (get_or-map state_in states number s (state_in s) some) ∙ ap (λ (t : SourceState). lines_of (state_in t)) (sym here)))
 
   -- it has come to it
-  pub with_source : (s : SourceState) (new : Player) → is_source n.kind ≡ true → s ≡ get_or states number s → PlaysStand nodes new (set w.before place (lines_of (state_in s))) [] → IsOnTheWayTo nodes (states_in states) (place + 1) (number + 1) new
-  with_source s new is here p = record {
+  pub with_source : (s : SourceState) (new : Accepted → Type 0) → is_source n.kind ≡ true → s ≡ get_or states number s → new (set w.before place (lines_of (state_in s))) → IsOnTheWayTo nodes (states_in states) (place + 1) (number + 1) new
+  with_source s new is here stands = record {
     before = set w.before place (lines_of (state_in s));
-    stands = p;
-    restored = source_restored nodes (states_in states) place w.before (lines_of (state_in s)) w.stands.judged.lines_count within (own_lines s is here) w.restored;
+    stands = stands;
+    count = length-set w.before place (lines_of (state_in s)) ∙ w.count;
+    restored = source_restored nodes (states_in states) place w.before (lines_of (state_in s)) w.count within (own_lines s is here) w.restored;
     number_is = let more = count_more nodes place n true within at is in omega (arith, more, w.number_is);
   }
 
@@ -172,10 +160,11 @@ module _ (nodes : List PlanNode) (states : List SourceState) (are : AreStates no
   with_other isnt = record {
     before = w.before;
     stands = w.stands;
+    count = w.count;
     restored = other_restored nodes (states_in states) place w.before (from_other nodes (states_in states) place n within (node_kind false isnt)) w.restored;
     number_is = let same = count_more nodes place n false within at isnt in omega (arith, same, w.number_is);
   }
 
 -- behind the last node all sources have come to their states
-pub ended_way : (nodes : List PlanNode) (states : List State) (place number : ℕ) (player : Player) → place ≡ length nodes → IsOnTheWayTo nodes states place number player → PlaysStand nodes player (lines_from nodes states) []
-ended_way nodes states place number player end w = all_restored nodes states player w.before [] (subst (λ (k : ℕ). IsRestoredTo nodes states k w.before) end w.restored) w.stands
+pub ended_way : (nodes : List PlanNode) (states : List State) (place number : ℕ) (stands_for : Accepted → Type 0) → place ≡ length nodes → IsOnTheWayTo nodes states place number stands_for → stands_for (lines_from nodes states)
+ended_way nodes states place number stands_for end w = subst stands_for (all_restored nodes states w.before w.count (subst (λ (k : ℕ). IsRestoredTo nodes states k w.before) end w.restored)) w.stands

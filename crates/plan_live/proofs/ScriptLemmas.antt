@@ -4,11 +4,14 @@ use Rattle.std.specs.Prelude.{nat_lt}
 use Rattle.std.specs.Io.KnownBytes.{Appends}
 use Rattle.std.proofs.Math.Seq.{take-append_seam}
 use Rattle.std.proofs.lemmas.Bool.{lt-ltb, le-ltb}
+use Rattle.cedr_guard.specs.declared.fault.GuardFault.{GuardFault}
+use Rattle.cedr_guard.specs.declared.fault.GuardFault.TheVariants as guard_fault
 use Rattle.cedr_guard.specs.declared.refusal.Refusal.{Refusal}
 use Rattle.cedr_guard.specs.declared.refusal.TheConstants.{FILE_LIMIT}
 use Rattle.cedr_guard.specs.Sources.{whole_lines, unfinished_line, first_refusal, limit_fault}
 use Rattle.cedr_io.specs.Asked.{AppendsFront}
 use Rattle.cedr_io.specs.declared.fault.OutsideFault.{OutsideFault}
+use Rattle.cedr_io.specs.declared.fault.OutsideFault.TheVariants as outside
 use Rattle.node_laws.specs.Lists.{Lists}
 use Rattle.cedr_plan.specs.declared.plan.PlanNode.{PlanNode}
 use Rattle.cedr_text.specs.declared.event_line.Shape.{Shape}
@@ -22,7 +25,7 @@ use Rattle.plan_live.specs.declared.player.Player.{Player}
 use Rattle.plan_live.specs.Scripts.{Accepted, ShapesHaveTypes, with_line, is_question, Played, asked, stopped, play_on, played_behind, front_after, played_after}
 use Rattle.plan_live.specs.Shown.{AreShown, AreShownFirst, IsShown}
 use Rattle.plan_live.specs.Plays.{PlaysAfter}
-use Rattle.plan_live.specs.Playing.{PlaysStand, PlaysLine, accepting, step_of, TakesStep, parts_played, PlaysAs}
+use Rattle.plan_live.specs.Playing.{PlaysStand, PlaysLine, accepting, step_of, told_fault, TakesStep, parts_played, PlaysAs}
 use Rattle.plan_live.proofs.LineLemmas.{own_shapes, own_types}
 use Rattle.plan_live.proofs.ShownLemmas.{appends_none, appends_along, front_along, front_none, front_all}
 
@@ -67,6 +70,16 @@ takes_line nodes player before shown step now old is taken = subst (λ (s : Resu
 pub line_fault : (fault : LineFault) (nodes : List PlanNode) (player : Player) (before : Accepted) (shown : Lists) (step : Result (Option Accepted) LineFault) (now : Result Accepted LineFault) (old : Option (List ℕ)) → step ≡ accepting now → now ≡ Err fault
     → TakesStep (Ok (Some fault)) nodes player before shown step old old
 line_fault fault nodes player before shown step now old is fails = (is ∙ ap accepting fails, refl)
+
+-- whatever came of it is told
+pub takes_said : (result : Result (Unit {0}) GuardFault) (nodes : List PlanNode) (player : Player) (before : Accepted) (shown : Lists) (step : Result (Option Accepted) LineFault) (now : Result Accepted LineFault) (old : Option (List ℕ)) → step ≡ accepting now
+    → PlaysLine result nodes player shown now → TakesStep (told_fault result) nodes player before shown step old old
+takes_said (Ok done) nodes player before shown step now old is taken = takes_line nodes player before shown step now old is taken
+takes_said (Err (guard_fault.Line fault)) nodes player before shown step now old is fails = line_fault fault nodes player before shown step now old is fails
+takes_said (Err guard_fault.OutOfMemory) nodes player before shown step now old is lacked = subst (λ (s : Result (Option Accepted) LineFault). TakesStep (Err outside.OutOfMemory) nodes player before shown s old old) (sym is) (none_written now) where
+  none_written : (now : Result Accepted LineFault) → TakesStep (Err outside.OutOfMemory) nodes player before shown (accepting now) old old
+  none_written (Ok lines) = refl
+  none_written (Err fault) = refl
 
 -- ---- lines over the limit
 

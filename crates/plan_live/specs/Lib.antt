@@ -2,6 +2,7 @@ pub mod Scripts
 pub mod Shown
 pub mod Plays
 pub mod Playing
+pub mod Said
 pub mod SoFar
 pub mod Resumed
 pub mod Restoring

@@ -16,6 +16,7 @@ use Rattle.cedr_guard.specs.Sources.{with_reading, whole_lines, unfinished_line,
 use Rattle.cedr_guard.specs.Standing.{Guards}
 use Rattle.cedr_io.specs.Asked.{AppendsFront}
 use Rattle.cedr_io.specs.declared.fault.OutsideFault.{OutsideFault}
+use Rattle.cedr_io.specs.declared.fault.OutsideFault.TheVariants as outside
 use Rattle.node_laws.specs.Lists.{Lists, list_at, with_more}
 use Rattle.cedr_net.specs.declared.net.SerialNet.{SerialNet}
 use Rattle.cedr_net.specs.Edges.{NothingWaits}
@@ -117,6 +118,12 @@ step_of nodes shapes before line =
     if nat_lt LINE_LIMIT (length line) then Err LineTooLong
     else if is_question (without_return line) then Ok None
     else accepting (with_line nodes shapes before (without_return line))
+
+-- the fault of a line, if it has one
+abbrev pub told_fault : Result (Unit {0}) GuardFault → Result (Option LineFault) OutsideFault
+told_fault (Ok done) = Ok None
+told_fault (Err (guard_fault.Line fault)) = Ok (Some fault)
+told_fault (Err guard_fault.OutOfMemory) = Err outside.OutOfMemory
 
 -- what came of a line, by its step: what a `?` shows was written, the lines were accepted with it, or it has
 -- that fault. Where playing broke off, a front of what a `?` shows was written, and at any other line nothing

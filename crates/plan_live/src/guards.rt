@@ -12,7 +12,7 @@ use cedr_text::Shape;
 use std::alloc::Global;
 
 /// The shape of each node of a plan. That of a source has its types.
-pub(crate) fn shapes_of(alloc: Global, nodes: &[PlanNode]) -> Result<Vec<Shape>, OutOfMemory>
+pub fn shapes_of(alloc: Global, nodes: &[PlanNode]) -> Result<Vec<Shape>, OutOfMemory>
     ensures { IfOk result (λ shapes. ShapesHaveTypes nodes.now shapes.items) }
 {
     let mut shapes = Vec::new(alloc);

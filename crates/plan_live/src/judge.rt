@@ -1,18 +1,22 @@
-ghost use Rattle.std.specs.Prelude.{◌≡◌, ◌≤◌, length, IfOk};
+ghost use Rattle.std.specs.Prelude.{◌≡◌, ◌<◌, ◌≤◌, List, length, slice_index_or, IfOk};
 ghost use Rattle.cedr_base.specs.Bytes.{line_feed};
+ghost use Rattle.cedr_guard.specs.Sources.{with_reading};
+ghost use Rattle.cedr_plan.specs.declared.plan.PlanNode.{PlanNode};
 ghost use Rattle.cedr_text.specs.Parts.{parts_of};
+ghost use Rattle.cedr_text.specs.Reading.{reading};
+ghost use Rattle.cedr_text.specs.declared.event_line.Shape.TheVariants.{AnyText};
 ghost use Rattle.plan_live.specs.Judged.{lines_behind, script_fault_at, JudgesScriptLine, JudgesAll, JudgesScript};
 ghost use Rattle.plan_live.specs.Playing.{GuardsStand, step_of, parts_played};
 ghost use Rattle.plan_live.specs.Resumed.{states_in, states_so_far};
-ghost use Rattle.plan_live.specs.Scripts.{Accepted, ShapesHaveTypes, played_after, with_line};
+ghost use Rattle.plan_live.specs.Scripts.{Accepted, ShapesHaveTypes, lines_at, played_after, with_lines};
 
 use crate::fault::ScriptFault;
 use crate::guards::{guards_of, judge_at, shapes_of};
-use crate::line::{event_of, is_question};
+use crate::line::{ScriptLine, read_script_line};
 use cedr_base::OutOfMemory;
 use cedr_guard::{FILE_LIMIT, Guard, GuardFault, Refusal, SourceState, limit_fault};
 use cedr_plan::{Plan, PlanNode, is_source};
-use cedr_text::{LINE_LIMIT, LineFault, Parts, Shape, without_return};
+use cedr_text::{Parts, Shape};
 use std::alloc::Global;
 
 /// Judges a script as [`play`](crate::play) does, without a network: it shows nothing at a `?`. It answers the states to
@@ -104,34 +108,26 @@ fn judge_script_line(
     requires stands { (before : Accepted) × GuardsStand nodes.now guards.old.items before }
     ensures { (before : Accepted) → GuardsStand nodes.now guards.old.items before → JudgesScriptLine result nodes.now guards.new.items (lines_behind before (step_of nodes.now shapes.now before line.now)) }
 {
-    if line.len() > LINE_LIMIT {
-        return Err(GuardFault::Line(LineFault::LineTooLong));
+    match read_script_line(nodes, line) {
+        Ok(ScriptLine::Nothing) => Ok(()),
+        Ok(ScriptLine::Question) => Ok(()),
+        Ok(ScriptLine::Event(place, event)) => judge_event(alloc, shapes, place, event, guards),
+        Err(fault) => Err(GuardFault::Line(fault)),
     }
-    let line = without_return(line);
-    if is_question(line) {
-        return Ok(());
-    }
-    judge_said(alloc, nodes, shapes, line, guards)
 }
 
-/// Judges a line that isn't `?`, without its line feed and the carriage return before that.
-fn judge_said(
+/// Judges an event line of the source at a place.
+fn judge_event(
     alloc: Global,
-    nodes: &[PlanNode],
     shapes: &[Shape],
-    line: &[u8],
+    place: usize,
+    event: &[u8],
     guards: &mut Vec<Guard>,
 ) -> Result<(), GuardFault>
-    requires types { ShapesHaveTypes nodes.now shapes.now }
-    requires stands { (before : Accepted) × GuardsStand nodes.now guards.old.items before }
-    ensures { (before : Accepted) → GuardsStand nodes.now guards.old.items before → JudgesScriptLine result nodes.now guards.new.items (with_line nodes.now shapes.now before line.now) }
+    requires shape { place < length shapes.now }
+    requires guard { place < length guards.old.items }
+    ensures { (nodes : List PlanNode) (before : Accepted) → GuardsStand nodes guards.old.items before → place < length nodes → JudgesScriptLine result nodes guards.new.items (with_lines before place (with_reading (lines_at before place) (reading (slice_index_or shapes.now place AnyText) event.now))) }
 {
-    if line.is_empty() {
-        return Ok(());
-    }
-    let Some((place, event)) = event_of(nodes, line) else {
-        return Err(GuardFault::Line(LineFault::BadForm));
-    };
     judge_at(alloc, guards, place, &shapes[place], event)?;
     Ok(())
 }

@@ -8,6 +8,8 @@
 //! `play_from` goes on from states of the sources (`specs/Resumed.antt`). `resumed_scripts` says that a script shows from
 //! the states that accepted lines came to what it shows behind these lines. `saved_scripts` says that the states that a
 //! script comes to may be saved, and that their text fits into a checkpoint.
+//!
+//! What takes a script's lines in another way reads each by `read_script_line` and comes to states by `restore_sources`.
 #![tactic(auto)]
 
 mod fault;
@@ -16,10 +18,15 @@ mod judge;
 mod law;
 mod line;
 mod player;
+mod restoring;
 mod script;
 mod state;
 
 pub use fault::ScriptFault;
+pub use guards::shapes_of;
 pub use judge::script_states;
 pub use law::{resumed_scripts, saved_scripts, shown_rows};
+pub use line::{ScriptLine, event_of, is_question, read_script_line};
+pub use restoring::{Restores, restore_sources};
 pub use script::{play, play_from};
+pub use state::state_messages;

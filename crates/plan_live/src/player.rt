@@ -1,7 +1,6 @@
-ghost use Rattle.std.specs.Prelude.{ℕ, ◌≡◌, ◌<◌, ◌++◌, [], List, IfOk, OnOk, length, slice_index_or, slice_set};
+ghost use Rattle.std.specs.Prelude.{ℕ, ◌≡◌, ◌<◌, ◌++◌, [], List, IfOk, OnOk, length, slice_index_or};
 ghost use Rattle.cedr_base.specs.Messages.{IsLegal};
 ghost use Rattle.cedr_guard.specs.Sources.{with_reading};
-ghost use Rattle.cedr_guard.specs.Spelt.{state_in, lines_of, IsFit};
 ghost use Rattle.cedr_guard.specs.Standing.{Guards};
 ghost use Rattle.cedr_io.specs.Counts.{Counts};
 ghost use Rattle.node_laws.specs.Lists.{Lists, list_at};
@@ -12,20 +11,21 @@ ghost use Rattle.cedr_plan.specs.declared.plan.PlanNode.{PlanNode};
 ghost use Rattle.cedr_text.specs.Reading.{reading};
 ghost use Rattle.cedr_text.specs.declared.event_line.EventLine.{EventLine};
 ghost use Rattle.cedr_text.specs.declared.event_line.Shape.TheVariants.{AnyText};
-ghost use Rattle.plan_live.specs.Scripts.{Accepted, ShapesHaveTypes, lines_at, no_lines, with_lines, with_line};
+ghost use Rattle.plan_live.specs.Scripts.{Accepted, ShapesHaveTypes, lines_at, no_lines, with_lines};
 ghost use Rattle.plan_live.specs.Resumed.{lines_from, states_in, AreStates};
 ghost use Rattle.plan_live.specs.Shown.{reach_text};
-ghost use Rattle.plan_live.specs.Playing.{PlaysStand, JudgesAt, IsSettledNet, IsFedOn, IsShownText, PlaysLine, Shows, TakesStep, step_of};
+ghost use Rattle.plan_live.specs.Playing.{PlaysStand, JudgesAt, IsSettledNet, IsFedOn, IsShownText, PlaysLine, Shows, TakesStep, step_of, told_fault};
 
 use crate::guards::{guards_of, judge_at};
-use crate::line::{event_of, is_question};
+use crate::line::{ScriptLine, read_script_line};
+use crate::restoring::{Restores, restore_sources};
 use crate::state::state_messages;
 use cedr_base::{Message, OutOfMemory, Time};
 use cedr_guard::{Guard, GuardFault, SourceState};
 use cedr_io::{OutsideFault, Sink, write_all};
 use cedr_net::SerialNet;
-use cedr_plan::{Plan, PlanNode, is_source};
-use cedr_text::{LINE_LIMIT, LineFault, Shape, without_return, write_rows, write_time};
+use cedr_plan::{Plan, PlanNode};
+use cedr_text::{LineFault, Shape, write_rows, write_time};
 use std::alloc::Global;
 
 fn settle(alloc: Global, net: &mut SerialNet) -> Result<(), OutOfMemory>
@@ -104,32 +104,8 @@ impl Player {
         ensures { IfOk result (λ player. PlaysStand plan.now.nodes.items player (lines_from plan.now.nodes.items (states_in states.now)) []) }
     {
         let mut player = Player::new(alloc, plan)?;
-        let mut number = 0usize;
-        for (place, node) in plan.nodes.iter().enumerate() {
-            if is_source(&node.kind) {
-                player.restore_source(alloc, place, &states[number])?;
-                number += 1;
-            }
-        }
+        restore_sources(alloc, plan.nodes.as_slice(), states, &mut player)?;
         Ok(player)
-    }
-
-    /// The source at a place, of which no line was accepted, comes to a state: its guard is restored, and the messages of
-    /// the state's lines go over the network.
-    fn restore_source(
-        &mut self,
-        alloc: Global,
-        place: usize,
-        state: &SourceState,
-    ) -> Result<(), OutOfMemory>
-        requires fit { IsFit (state_in state.now) }
-        requires stands { (nodes : List PlanNode) × (before : Accepted) × (shown : Lists) × PlaysStand nodes self.old before shown × (place < length nodes) × IsSourceAt nodes place × (lines_at before place ≡ []) }
-        ensures { OnOk result ((nodes : List PlanNode) (before : Accepted) (shown : Lists) → PlaysStand nodes self.old before shown → place < length nodes → IsSourceAt nodes place → lines_at before place ≡ [] → PlaysStand nodes self.new (slice_set before place (lines_of (state_in state.now))) shown) }
-    {
-        let guard = Guard::restore(alloc, state)?;
-        let messages = state_messages(alloc, state)?;
-        self.guards[place] = guard;
-        feed_on(alloc, &mut self.net, place, messages)
     }
 
     /// An event line of the source at a place: its messages go over the network.
@@ -147,27 +123,6 @@ impl Player {
         let messages = judge_at(alloc, &mut self.guards, place, &shapes[place], line)?;
         feed_on(alloc, &mut self.net, place, messages)?;
         Ok(())
-    }
-
-    /// A line that isn't `?`, without its line feed and the carriage return before that.
-    fn take_line(
-        &mut self,
-        alloc: Global,
-        nodes: &[PlanNode],
-        shapes: &[Shape],
-        line: &[u8],
-    ) -> Result<(), GuardFault>
-        requires stands { (before : Accepted) × (shown : Lists) × PlaysStand nodes.now self.old before shown }
-        requires types { ShapesHaveTypes nodes.now shapes.now }
-        ensures { (before : Accepted) (shown : Lists) → PlaysStand nodes.now self.old before shown → PlaysLine result nodes.now self.new shown (with_line nodes.now shapes.now before line.now) }
-    {
-        if line.is_empty() {
-            return Ok(());
-        }
-        let Some((place, event)) = event_of(nodes, line) else {
-            return Err(GuardFault::Line(LineFault::BadForm));
-        };
-        self.take_event(alloc, shapes, place, event)
     }
 
     /// Writes the rows of the output and the reach.
@@ -194,18 +149,45 @@ impl Player {
         ensures taken { (before : Accepted) (shown : Lists) → PlaysStand nodes.now self.old before shown → TakesStep result nodes.now self.new before shown (step_of nodes.now shapes.now before line.now) (K.written out.old) (K.written out.new) }
         ensures counted { Counts result (K.faults out.old) (K.faults out.new) }
     {
-        if line.len() > LINE_LIMIT {
-            return Ok(Some(LineFault::LineTooLong));
+        match read_script_line(nodes, line) {
+            Ok(ScriptLine::Nothing) => Ok(None),
+            Ok(ScriptLine::Question) => {
+                self.show(alloc, out)?;
+                Ok(None)
+            }
+            Ok(ScriptLine::Event(place, event)) => {
+                let taken = self.take_event(alloc, shapes, place, event);
+                told(taken)
+            }
+            Err(fault) => Ok(Some(fault)),
         }
-        let line = without_return(line);
-        if is_question(line) {
-            self.show(alloc, out)?;
-            return Ok(None);
-        }
-        match self.take_line(alloc, nodes, shapes, line) {
-            Ok(()) => Ok(None),
-            Err(GuardFault::Line(fault)) => Ok(Some(fault)),
-            Err(GuardFault::OutOfMemory) => Err(OutsideFault::OutOfMemory),
-        }
+    }
+}
+
+impl Restores for Player {
+    ghost stands = { λ nodes player before. PlaysStand nodes player before [] };
+
+    /// Its guard is restored, and the messages of the state's lines go over the network.
+    fn restore_source(
+        &mut self,
+        alloc: Global,
+        place: usize,
+        state: &SourceState,
+    ) -> Result<(), OutOfMemory> {
+        let guard = Guard::restore(alloc, state)?;
+        let messages = state_messages(alloc, state)?;
+        self.guards[place] = guard;
+        feed_on(alloc, &mut self.net, place, messages)
+    }
+}
+
+/// The fault of a line, if it has one.
+fn told(taken: Result<(), GuardFault>) -> Result<Option<LineFault>, OutsideFault>
+    ensures { result ≡ told_fault taken }
+{
+    match taken {
+        Ok(()) => Ok(None),
+        Err(GuardFault::Line(fault)) => Ok(Some(fault)),
+        Err(GuardFault::OutOfMemory) => Err(OutsideFault::OutOfMemory),
     }
 }

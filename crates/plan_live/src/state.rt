@@ -62,10 +62,7 @@ fn withdraw_events(
 
 /// The messages of the lines that a state spells: its insertions, then its retractions, then its guarantee. The payloads
 /// are shared, not copied.
-pub(crate) fn state_messages(
-    alloc: Global,
-    state: &SourceState,
-) -> Result<Vec<Message>, OutOfMemory>
+pub fn state_messages(alloc: Global, state: &SourceState) -> Result<Vec<Message>, OutOfMemory>
     requires { IsFit (state_in state.now) }
     ensures { IfOk result (λ messages. messages.items ≡ messages_behind [] (lines_of (state_in state.now))) }
 {

@@ -1,25 +1,40 @@
-use Rattle.std.proofs.Common.{List, ℕ, Ok, Err, ap, sym, ◌∙◌, subst}
-use Rattle.cedr_guard.specs.declared.fault.GuardFault.{GuardFault}
-use Rattle.cedr_text.specs.Lines.{without_return}
-use Rattle.plan_live.specs.Scripts.{with_line, is_question}
-use Rattle.plan_live.specs.Playing.{PlaysLine, step_of}
-use Rattle.plan_live.proofs.ScriptLemmas.{step_says, takes_line, line_fault}
+use Rattle.std.proofs.Common.{◌≡◌, List, ℕ, Option, None, Some, Result, Ok, Err, sym, subst, arith, refl}
+use Rattle.cedr_io.specs.declared.fault.OutsideFault.{OutsideFault}
+use Rattle.cedr_text.specs.declared.fault.LineFault.{LineFault}
+use Rattle.plan_live.specs.declared.line.ScriptLine.{ScriptLine}
+use Rattle.plan_live.specs.Scripts.{Accepted}
+use Rattle.plan_live.specs.Playing.{TakesStep, step_of}
+use Rattle.plan_live.specs.Said.{SaysLine}
+use Rattle.plan_live.proofs.LineLemmas.{shapes_count}
+use Rattle.plan_live.proofs.ScriptLemmas.{takes_said}
 use Rattle.plan_live.proofs.player.Player.take.Goals as goal
 
-pub returns-in-Ok-clause-taken : goal.returns-in-Ok-clause-taken
-returns-in-Ok-clause-taken g c = λ before shown p.
-    let nodes = c.args.nodes.now in
-    let shapes = c.args.shapes.now in
-    let line = c.args.line.now in
-    let says = step_says nodes shapes before line c.if-line-gt-LINE_LIMIT.false (sym (c.if-is_question.ensures ∙ ap is_question c.without_return-line.ensures)) in
-    takes_line nodes c.take_line.new.self before shown (step_of nodes shapes before line) (with_line nodes shapes before (without_return line)) (g.K.Sink.written c.args.out.now) says
-    (subst (λ (bytes : List ℕ). PlaysLine (Ok tt) nodes c.take_line.new.self shown (with_line nodes shapes before bytes)) c.without_return-line.ensures (c.in-Ok.ensures before shown p))
+pub returns-in-Ok-Nothing-clause-taken : goal.returns-in-Ok-Nothing-clause-taken
+returns-in-Ok-Nothing-clause-taken g c = λ before shown p.
+    let old = g.K.Sink.written c.args.out.now in
+    let said = subst (λ (s : ScriptLine). SaysLine (Ok s) c.args.nodes.now c.args.line.now) c.in-Ok-Nothing.field-0-is c.in-Ok-Nothing.ensures in
+    subst (λ (s : Result (Option Accepted) LineFault). TakesStep (Ok None) c.args.nodes.now c.args.self.now before shown s old old) (sym (said c.args.shapes.now before)) (p, refl)
 
-pub returns-in-Err-Line-clause-taken : goal.returns-in-Err-Line-clause-taken
-returns-in-Err-Line-clause-taken g c = λ before shown p.
+pub take_event-taken-requires-clause-shape : goal.take_event-taken-requires-clause-shape
+take_event-taken-requires-clause-shape g c =
+    let said = subst (λ (s : ScriptLine). SaysLine (Ok s) c.args.nodes.now c.args.line.now) c.in-Ok-Event.field-0-is c.in-Ok-Event.ensures in
+    omega (arith, said.within, shapes_count c.args.nodes.now c.args.shapes.now c.requires.types)
+
+pub take_event-taken-requires-clause-stands : goal.take_event-taken-requires-clause-stands
+take_event-taken-requires-clause-stands g c =
+    let r = c.requires.stands in
+    let said = subst (λ (s : ScriptLine). SaysLine (Ok s) c.args.nodes.now c.args.line.now) c.in-Ok-Event.field-0-is c.in-Ok-Event.ensures in
+    (c.args.nodes.now, r.0, r.1, r.2, said.within, said.source)
+
+pub returns-in-Ok-Event-clause-taken : goal.returns-in-Ok-Event-clause-taken
+returns-in-Ok-Event-clause-taken g c = λ before shown p.
     let nodes = c.args.nodes.now in
     let shapes = c.args.shapes.now in
-    let line = c.args.line.now in
-    let says = step_says nodes shapes before line c.if-line-gt-LINE_LIMIT.false (sym (c.if-is_question.ensures ∙ ap is_question c.without_return-line.ensures)) in
-    line_fault c.in-Err-Line.fault nodes c.take_line.new.self before shown (step_of nodes shapes before line) (with_line nodes shapes before (without_return line)) (g.K.Sink.written c.args.out.now) says
-    (ap (with_line nodes shapes before) (sym c.without_return-line.ensures) ∙ subst (λ (f : GuardFault). PlaysLine (Err f) nodes c.take_line.new.self shown (with_line nodes shapes before c.without_return-line.result.now)) c.in-Err-Line.field-0-is (c.in-Err-Line.ensures before shown p))
+    let said = subst (λ (s : ScriptLine). SaysLine (Ok s) c.args.nodes.now c.args.line.now) c.in-Ok-Event.field-0-is c.in-Ok-Event.ensures in
+    let new = c.take_event-taken.new.self in
+    let old = g.K.Sink.written c.args.out.now in
+    subst (λ (r : Result (Option LineFault) OutsideFault). TakesStep r nodes new before shown (step_of nodes shapes before c.args.line.now) old old) (sym c.told.ensures)
+    (takes_said c.take_event-taken.result nodes new before shown _ _ old (said.steps shapes before) (c.take_event-taken.ensures nodes before shown p said.within said.source))
+
+pub returns-in-Err-clause-taken : goal.returns-in-Err-clause-taken
+returns-in-Err-clause-taken g c = λ before shown p. (c.in-Err.ensures c.args.shapes.now before, refl)
