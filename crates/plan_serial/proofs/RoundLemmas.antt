@@ -39,6 +39,10 @@ behind_at [] k = refl
 behind_at (l ∷ left) zero = refl
 behind_at (l ∷ left) (suc k) = behind_at left k
 
+-- where no entry was left before a round, none is left after it
+pub none_after : (left left' : ByLine) → left' ≡ map behind_first left → ((k : ℕ) → entries_at left k ≡ []) → (k : ℕ) → entries_at left' k ≡ []
+none_after left left' taken none k = ap (λ (ls : ByLine). entries_at ls k) taken ∙ (behind_at left k ∙ ap behind_first (none k))
+
 some_before : (n : ℕ) (entries : List (List Message)) (entry : List Message) (more : List (List Message)) → drop n entries ≡ entry ∷ more → (first : List Message) × (rest : List (List Message)) × (entries ≡ first ∷ rest)
 some_before n [] entry more is = absurd (let none = sym (drop-nil n) ∙ is in cc)
 some_before n (e ∷ entries) entry more is = (e, entries, refl)

@@ -54,7 +54,7 @@ fn feed_each(
     requires { (nodes : List PlanNode) × (ports : List Lists) × (given : Lists) × NetStands nodes net.old ports given × MayBeFed nodes given remaining.old.items }
     ensures stands { OnOk result ((nodes : List PlanNode) (ports : List Lists) (given : Lists) → NetStands nodes net.old ports given → MayBeFed nodes given remaining.old.items → FeedsEach nodes net.new ports given remaining.old.items remaining.new.items) }
     ensures fed { IfOk result (λ fed. fed ≡ true → left_count remaining.new.items < left_count remaining.old.items) }
-    ensures none { IfOk result (λ fed. fed ≡ false → (k : ℕ) → entries_at remaining.new.items k ≡ []) }
+    ensures none { IfOk result (λ fed. fed ≡ false → (k : ℕ) → entries_at remaining.old.items k ≡ []) }
     ensures taken { OnOk result (remaining.new.items ≡ map behind_first remaining.old.items) }
 {
     let mut fed = false;
@@ -65,8 +65,8 @@ fn feed_each(
 }
 
 /// A round: feeds the next line of each source that has one, in the order of the plan, and then the network settles. All
-/// messages of a line are fed, and a line without a message takes its turn like any other. Whether a source had a line. Where memory runs out the network and
-/// what remains are only to be dropped.
+/// messages of a line are fed, and a line without a message takes its turn like any other. Whether a source had a line left
+/// before the round. Where memory runs out the network and what remains are only to be dropped.
 pub fn feed_round(
     alloc: Global,
     net: &mut SerialNet,
@@ -75,7 +75,7 @@ pub fn feed_round(
     requires { (nodes : List PlanNode) × (whole : ByLine) × (rounds : ℕ) × StandsAfterRounds nodes net.old remaining.old.items whole rounds }
     ensures round { OnOk result ((nodes : List PlanNode) (whole : ByLine) (rounds : ℕ) → StandsAfterRounds nodes net.old remaining.old.items whole rounds → StandsAfterRounds nodes net.new remaining.new.items whole (rounds + 1) × IsSettledAt nodes net.new) }
     ensures fed { IfOk result (λ fed. fed ≡ true → left_count remaining.new.items < left_count remaining.old.items) }
-    ensures none { IfOk result (λ fed. fed ≡ false → (k : ℕ) → entries_at remaining.new.items k ≡ []) }
+    ensures none { IfOk result (λ fed. fed ≡ false → (k : ℕ) → entries_at remaining.old.items k ≡ []) }
     ensures taken { OnOk result (remaining.new.items ≡ map behind_first remaining.old.items) }
 {
     let fed = feed_each(alloc, net, remaining)?;

@@ -1,5 +1,5 @@
-use Rattle.std.proofs.Common.{refl, length, ap, arith}
-use Rattle.plan_serial.specs.Rounds.{ByLine}
+use Rattle.std.proofs.Common.{◌≡◌, [], refl, length, ap, subst, arith}
+use Rattle.plan_serial.specs.Rounds.{ByLine, entries_at}
 use Rattle.plan_serial.proofs.FeedLemmas.{fed_either, none_either, none_left, fed_further, fed_each, taken_none, taken_more, taken_all}
 use Rattle.plan_serial.proofs.feeding.feed_each.Goals as goal
 
@@ -41,7 +41,8 @@ returns-clause-stands c = λ nodes ports given h may.
 pub returns-clause-none : goal.returns-clause-none
 returns-clause-none c = λ isnt k.
     let n = c.loop-place.invariant.none isnt in
-    none_left c.loop-place.remaining.items c.loop-place.place k (omega (arith, ap (λ (ls : ByLine). length ls) n.0, c.loop-place-test.false, c.len-place-end.ensures)) n.1
+    let none_now = none_left c.loop-place.remaining.items c.loop-place.place k (omega (arith, ap (λ (ls : ByLine). length ls) n.0, c.loop-place-test.false, c.len-place-end.ensures)) n.1 in
+    subst (λ (ls : ByLine). entries_at ls k ≡ []) n.0 none_now
 
 pub returns-clause-taken : goal.returns-clause-taken
 returns-clause-taken c = taken_all c.loop-place.place c.args.remaining.now.items c.loop-place.remaining.items (omega (arith, c.loop-place-test.false, c.loop-place.auto.place-end, c.len-place-end.ensures)) c.loop-place.invariant.taken
