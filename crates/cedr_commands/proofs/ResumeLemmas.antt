@@ -35,7 +35,7 @@ use Rattle.cedr_commands.specs.declared.outcome.Outcome.TheVariants as outcome
 use Rattle.cedr_commands.specs.Answers.{IsPlanOf, OfPlanAlone}
 use Rattle.cedr_commands.specs.Files.{IsFileFront}
 use Rattle.cedr_commands.specs.Outcomes.{CommandEnds}
-use Rattle.cedr_commands.specs.Refusals.{refusal_text}
+use Rattle.told_faults.specs.FaultTexts.{refusal_text}
 use Rattle.cedr_commands.specs.Resuming.{CanSavePlan, RefusesSaved, ResumesScript, ResumesSoFar}
 use Rattle.cedr_commands.specs.Seen.{FilesSeen, SinkSeen}
 use Rattle.cedr_commands.specs.Steps.{Says, OpensPlan}

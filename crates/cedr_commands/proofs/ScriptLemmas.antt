@@ -18,7 +18,7 @@ use Rattle.cedr_commands.specs.declared.outcome.Outcome.TheVariants as outcome
 use Rattle.cedr_commands.specs.Answers.{IsPlanOf}
 use Rattle.cedr_commands.specs.Files.{IsFileFront}
 use Rattle.cedr_commands.specs.Outcomes.{CommandEnds}
-use Rattle.cedr_commands.specs.Refusals.{refusal_text}
+use Rattle.told_faults.specs.FaultTexts.{refusal_text}
 use Rattle.cedr_commands.specs.Seen.{FilesSeen, SinkSeen}
 use Rattle.cedr_commands.specs.Steps.{Says, OpensPlan}
 use Rattle.cedr_commands.proofs.EndingLemmas.{opened_plan}

@@ -36,7 +36,7 @@ use Rattle.cedr_table.specs.Operators.{Tables}
 use Rattle.cedr_commands.specs.declared.command.Job.{Job}
 use Rattle.cedr_commands.specs.declared.command.Job.TheVariants.{History, Check, Serial, Run, Pool, Parts, Stream, Audit, Live, Make, Save, Resume}
 use Rattle.cedr_commands.specs.Commands.{Command}
-use Rattle.cedr_commands.specs.Refusals.{refusal_text}
+use Rattle.told_faults.specs.FaultTexts.{refusal_text}
 use Rattle.cedr_commands.specs.Resuming.{SavesScript, RefusesSaved, ResumesScript, ResumesSoFar, RefusesResumed, RefusesBytesOf}
 use Rattle.cedr_save.specs.Saving.{first_unsaved}
 

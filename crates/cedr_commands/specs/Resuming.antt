@@ -11,7 +11,7 @@ use Rattle.plan_live.specs.Judged.{ComesToStates, HasScriptFault}
 use Rattle.plan_live.specs.Resumed.{lines_from}
 use Rattle.plan_live.specs.Scripts.{ShapesHaveTypes, played_after}
 use Rattle.plan_live.specs.SoFar.{texts_now}
-use Rattle.cedr_commands.specs.Refusals.{refusal_text}
+use Rattle.told_faults.specs.FaultTexts.{refusal_text}
 
 -- the plan can be saved
 abbrev pub CanSavePlan : List PlanNode → Type 0

@@ -24,7 +24,7 @@ use Rattle.cedr_commands.specs.declared.command.Job.TheVariants.{Serial, Run, Po
 use Rattle.cedr_commands.specs.declared.outcome.Outcome.{Outcome}
 use Rattle.cedr_commands.specs.declared.outcome.Outcome.TheVariants as outcome
 use Rattle.cedr_commands.specs.Answers.{Contents, IsNoPlan, OfPlanAlone, RefusesSources, GivesPlan, BeginsPlan}
-use Rattle.cedr_commands.specs.Refusals.{refusal_text}
+use Rattle.told_faults.specs.FaultTexts.{refusal_text}
 use Rattle.cedr_commands.specs.Seen.{FilesSeen, SinkSeen, NoneRose}
 
 -- ---- texts

@@ -1,10 +1,10 @@
 ghost use Rattle.std.specs.Prelude.{◌≡◌, ◌++◌, OnOk};
-ghost use Rattle.cedr_commands.specs.Refusals.{kept_text, refusal_text, plan_fault_text, unsaved_text, checkpoint_fault_text, fault_at};
+ghost use Rattle.cedr_commands.specs.Refusals.{plan_fault_text, unsaved_text, checkpoint_fault_text, fault_at};
 
 use cedr_base::OutOfMemory;
 use cedr_guard::{GuardFault, Refusal};
 use cedr_plan::PlanKind;
-use cedr_text::{LineFault, write_number, write_time};
+use cedr_text::write_number;
 
 /// Why a file wasn't judged to its end.
 #[derive(Clone, Copy)]
@@ -23,47 +23,6 @@ impl JudgeFault {
             GuardFault::OutOfMemory => JudgeFault::OutOfMemory,
         }
     }
-}
-
-/// Appends what is reported on standard error of a refused file.
-pub(crate) fn write_refusal(
-    file: &[u8],
-    refusal: &Refusal,
-    text: &mut Vec<u8>,
-) -> Result<(), OutOfMemory>
-    ensures { OnOk result (text.new.items ≡ text.old.items ++ refusal_text file.now refusal.now) }
-{
-    text.extend_from_slice(b"events ")?;
-    text.extend_from_slice(file)?;
-    text.extend_from_slice(b" line ")?;
-    write_number(refusal.line, text)?;
-    text.extend_from_slice(b" fault ")?;
-    write_number(refusal.fault.number(), text)?;
-    write_kept(&refusal.fault, text)?;
-    text.push(b'\n')?;
-    Ok(())
-}
-
-/// Appends the numbers that a fault carries.
-fn write_kept(fault: &LineFault, text: &mut Vec<u8>) -> Result<(), OutOfMemory>
-    ensures { OnOk result (text.new.items ≡ text.old.items ++ kept_text fault.now) }
-{
-    match fault {
-        LineFault::BadEnd { begin, end } => {
-            text.extend_from_slice(b" begin ")?;
-            write_time(*begin, text)?;
-            text.extend_from_slice(b" end ")?;
-            write_time(*end, text)?;
-        }
-        LineFault::BeforeGuarantee { sync, mark } => {
-            text.extend_from_slice(b" sync ")?;
-            write_time(*sync, text)?;
-            text.extend_from_slice(b" mark ")?;
-            write_time(*mark, text)?;
-        }
-        _ => {}
-    }
-    Ok(())
 }
 
 /// Appends what is reported on standard error of a refused plan.

@@ -1,18 +1,18 @@
 ghost use Rattle.std.specs.Prelude.{◌≡◌, ◌<◌, ◌++◌, IfOk, OnOk};
 ghost use Rattle.std.specs.List.{slice_get};
 ghost use Rattle.cedr_io.specs.Counts.{last_count};
-ghost use Rattle.cedr_commands.specs.Refusals.{refusal_text};
+ghost use Rattle.told_faults.specs.FaultTexts.{refusal_text};
 ghost use Rattle.cedr_commands.specs.Seen.{seen_sink};
 ghost use Rattle.cedr_commands.specs.Steps.{Says, WritesText, named_text, faulty_text};
 
 use crate::outcome::Outcome;
-use crate::refusal::write_refusal;
 use cedr_base::OutOfMemory;
 use cedr_guard::Refusal;
 use cedr_io::{OutsideFault, Sink, write_all};
 use cedr_plan::PlanNode;
 use plan_answer::FaultySource;
 use std::alloc::Global;
+use told_faults::write_refusal;
 
 /// Writes the whole text of a command.
 pub fn write_text<K: Sink>(out: &mut K, text: &[u8]) -> Outcome

@@ -1,7 +1,7 @@
 use Rattle.std.proofs.Common.{[], Err, refl, subst, inl}
 use Rattle.cedr_commands.specs.declared.command.Job.TheVariants.{History}
 use Rattle.cedr_commands.specs.Events.{AnswersHistory}
-use Rattle.cedr_commands.specs.Refusals.{refusal_text}
+use Rattle.told_faults.specs.FaultTexts.{refusal_text}
 use Rattle.cedr_commands.specs.Seen.{seen_files, seen_sink}
 use Rattle.cedr_commands.proofs.EndingLemmas.{kept_itself, ends_written, ends_said, asks_one}
 use Rattle.cedr_commands.proofs.FileLemmas.{given_history, refused_history}
