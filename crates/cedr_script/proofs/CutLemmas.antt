@@ -84,7 +84,7 @@ one_raw (b ∷ c ∷ cs) none some =
     onto_raw b (c ∷ cs) (c ∷ cs) [] parts.0 (one_raw (c ∷ cs) parts.1 (omega arith))
 
 -- the line that has begun ends where a line feed comes
-raw_ended : (begun piece : List ℕ) (end : ℕ) (more : List ℕ) → has_line_feed begun ≡ false → IsLineEnd piece end → raw_lines (begun ++ (piece ++ more)) ≡ (begun ++ take end piece) ∷ raw_lines (drop (end + 1) piece ++ more)
+pub raw_ended : (begun piece : List ℕ) (end : ℕ) (more : List ℕ) → has_line_feed begun ≡ false → IsLineEnd piece end → raw_lines (begun ++ (piece ++ more)) ≡ (begun ++ take end piece) ∷ raw_lines (drop (end + 1) piece ++ more)
 raw_ended begun piece end more none ends =
     let place : suc end ≡ end + 1 = omega arith in
     joined_raw begun (piece ++ more) (take end piece) (raw_lines (drop (suc end) piece ++ more)) none (line_ends piece end ends more)

@@ -8,7 +8,7 @@ pub grows_none : (log : Option (List WireStep)) → LogGrows log log []
 grows_none None = tt
 grows_none (Some steps) = sym (append-nil steps)
 
-grows_along : (a b c : Option (List WireStep)) (xs ys : List WireStep) → LogGrows a b xs → LogGrows b c ys → LogGrows a c (xs ++ ys)
+pub grows_along : (a b c : Option (List WireStep)) (xs ys : List WireStep) → LogGrows a b xs → LogGrows b c ys → LogGrows a c (xs ++ ys)
 grows_along None b c xs ys one two = tt
 grows_along (Some x) None c xs ys one two = absurd one
 grows_along (Some x) (Some y) None xs ys one two = absurd two
@@ -20,7 +20,7 @@ writes_more (wire_step.Came b ∷ xs) bytes are = absurd are
 writes_more (wire_step.Refused ∷ xs) bytes are = absurd are
 writes_more (wire_step.Went b ∷ xs) bytes are = writes_more xs bytes are
 
-went-append : (xs ys : List WireStep) → went (xs ++ ys) ≡ went xs ++ went ys
+pub went-append : (xs ys : List WireStep) → went (xs ++ ys) ≡ went xs ++ went ys
 went-append [] ys = refl
 went-append (wire_step.Came b ∷ xs) ys = went-append xs ys
 went-append (wire_step.Refused ∷ xs) ys = went-append xs ys
@@ -39,14 +39,14 @@ sends_more a b c bytes more s grows = record {
   all = went-append s.steps (wire_step.Went more ∷ []) ∙ (ap (λ (l : List ℕ). l ++ (more ++ [])) s.all ∙ ap (λ (l : List ℕ). bytes ++ l) (append-nil more));
 }
 
-came-append : (xs ys : List WireStep) → came (xs ++ ys) ≡ came xs ++ came ys
+pub came-append : (xs ys : List WireStep) → came (xs ++ ys) ≡ came xs ++ came ys
 came-append [] ys = refl
 came-append (wire_step.Came b ∷ xs) ys = ap (λ (l : List ℕ). b ++ l) (came-append xs ys) ∙ sym (append_assoc b (came xs) (came ys))
 came-append (wire_step.Refused ∷ xs) ys = came-append xs ys
 came-append (wire_step.Went b ∷ xs) ys = came-append xs ys
 
 -- of writes nothing came
-none_came : (xs : List WireStep) → AreWrites xs → came xs ≡ []
+pub none_came : (xs : List WireStep) → AreWrites xs → came xs ≡ []
 none_came [] are = refl
 none_came (wire_step.Came b ∷ xs) are = absurd are
 none_came (wire_step.Refused ∷ xs) are = absurd are

@@ -46,13 +46,15 @@ impl<S: Source, K: Sink> LoggedWire<S, K> {
 }
 
 impl<S: Source, K: Sink> Wire for LoggedWire<S, K> {
-    ghost use Rattle.std.specs.Prelude.{Some};
+    ghost use Rattle.std.specs.Prelude.{Some, []};
 
     ghost rest = { λ wire. S.rest wire.source };
 
     ghost written = { λ wire. K.written wire.sink };
 
     ghost log = { λ wire. Some wire.log.items };
+
+    ghost loans = { λ wire. [] };
 
     ghost refused_reads = { λ wire. S.faults wire.source };
 

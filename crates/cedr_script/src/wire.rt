@@ -1,4 +1,5 @@
 ghost use Rattle.std.specs.Prelude.{◌≡◌, ◌<◌, ◌≤◌, ℕ, List, Option, length, IfOk, OnOk, OnErr};
+ghost use Rattle.std.specs.Borrow.{GName};
 ghost use Rattle.std.specs.Io.KnownBytes.{Keeps, ReadConsumes, WriteAppends, Appends};
 ghost use Rattle.cedr_io.specs.Counts.{Counts};
 ghost use Rattle.cedr_script.specs.declared.step.WireStep.{WireStep};
@@ -18,6 +19,9 @@ pub trait Wire {
     /// What came and what went, one after the other, where it is known.
     ghost log: { Self → Option (List WireStep) };
 
+    /// The names of the `&mut` that it holds: each call leaves them as they are.
+    ghost loans: { Self → List GName };
+
     /// How many reads were refused. It stays at its last value, that of a `u64`.
     ghost refused_reads: { Self → ℕ };
 
@@ -33,7 +37,8 @@ pub trait Wire {
         ensures kept { Keeps (written self.old) (written self.new) }
         ensures logged { LogsRead result (log self.old) (log self.new) buf.new }
         ensures counted { Counts result (refused_reads self.old) (refused_reads self.new) }
-        ensures writes { refused_writes self.new ≡ refused_writes self.old };
+        ensures writes { refused_writes self.new ≡ refused_writes self.old }
+        ensures loans { loans self.new ≡ loans self.old };
 
     /// Takes the first bytes of `piece`, and answers how many, at least 1. A refused write takes none.
     fn write(&mut self, piece: &[u8]) -> Result<usize, OutsideFault>
@@ -44,7 +49,8 @@ pub trait Wire {
         ensures kept { Keeps (rest self.old) (rest self.new) }
         ensures logged { LogsWrite result (log self.old) (log self.new) piece.now }
         ensures counted { Counts result (refused_writes self.old) (refused_writes self.new) }
-        ensures reads { refused_reads self.new ≡ refused_reads self.old };
+        ensures reads { refused_reads self.new ≡ refused_reads self.old }
+        ensures loans { loans self.new ≡ loans self.old };
 }
 
 /// Writes all of the bytes, in as many pieces as the wire takes them in. After a refusal it has taken a front of them, and the
@@ -56,6 +62,7 @@ pub fn send_all<W: Wire>(wire: &mut W, bytes: &[u8]) -> Result<(), OutsideFault>
     ensures kept { Keeps (W.rest wire.old) (W.rest wire.new) }
     ensures counted { Counts result (W.refused_writes wire.old) (W.refused_writes wire.new) }
     ensures reads { W.refused_reads wire.new ≡ W.refused_reads wire.old }
+    ensures loans { W.loans wire.new ≡ W.loans wire.old }
 {
     let mut done = 0;
     while done < bytes.len() {

@@ -17,6 +17,7 @@ loop-done-init g c =
       kept = Keeps-refl (g.W.Wire.rest wire);
       counted = refl;
       reads = refl;
+      loans = refl;
     }
 
 pub loop-done-preserved : goal.loop-done-preserved
@@ -35,4 +36,5 @@ loop-done-preserved g c =
       kept = Keeps-trans (g.W.Wire.rest first) (g.W.Wire.rest before) (g.W.Wire.rest after) was.kept call.kept;
       counted = call.counted ∙ was.counted;
       reads = call.reads ∙ was.reads;
+      loans = call.loans ∙ was.loans;
     }

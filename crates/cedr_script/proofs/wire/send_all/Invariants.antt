@@ -11,6 +11,7 @@ invariant-loop-done g l = record {
   kept : Keeps (g.W.Wire.rest l.initial.wire) (g.W.Wire.rest l.wire);
   counted : g.W.Wire.refused_writes l.wire ≡ g.W.Wire.refused_writes l.initial.wire;
   reads : g.W.Wire.refused_reads l.wire ≡ g.W.Wire.refused_reads l.initial.wire;
+  loans : g.W.Wire.loans l.wire ≡ g.W.Wire.loans l.initial.wire;
 }
 
 abbrev pub decreases-loop-done : goal.decreases-loop-done
