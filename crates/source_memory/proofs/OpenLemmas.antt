@@ -20,14 +20,14 @@ use Rattle.cedr_guard.specs.Spelt.{State, state_row, row_of_id, events_among, by
 use Rattle.cedr_guard.specs.States.{as_it_is, known_of}
 use Rattle.cedr_guard.proofs.EventLemmas.{guarantee_of-append, ended, event_and, event-push}
 use Rattle.cedr_guard.proofs.StateLemmas.{lives_as, as_living, some_row}
-use Rattle.cedr_guard.proofs.SpeltLemmas.{IdsAscend, AllAbove, ascend_from, ascend_state, known_lines, found_known, can_restore, spelt_event, spelt_mark, accepted-append}
+use Rattle.cedr_guard.proofs.SpeltLemmas.{IdsAscend, AllAbove, ascend_state, known_lines, found_known, can_restore, spelt_event, spelt_mark, accepted-append}
 use Rattle.cedr_guard.proofs.StateHistories.{fit_accepted}
 use Rattle.open_events.specs.Endings.{still_open}
 use Rattle.open_events.specs.Events.{open_row}
 use Rattle.source_memory.specs.declared.guard.OpenGuard.{OpenGuard}
 use Rattle.source_memory.specs.Opened.{Recalls}
-use Rattle.source_memory.specs.Remembered.{event_is_over, left_events, without_over, remembered_lines, kept_with}
-use Rattle.source_memory.proofs.MemoryLemmas.{fit_left, remembers_left}
+use Rattle.source_memory.specs.Remembered.{event_is_over, left_events, remembered_lines, kept_with}
+use Rattle.source_memory.proofs.MemoryLemmas.{remembers_left}
 
 -- ---- what tests say
 
@@ -432,28 +432,22 @@ among_left mark events i e rows up within at over were q =
     ∙ (sym (over_left_at mark (eqb e.id q) (state_row e) (row_of_id q (take i events)) (lt-ltb e.end mark over) (λ here. subst (λ (n : ℕ). row_of_id n (take i events) ≡ None) (eqb-true e.id q here) (known_new events i e up within at)))
     ∙ sym (ap (λ (o : Option Row). still_open mark (option_map as_it_is o)) (known_more events i e up within at q)))
 
-still_as_at : (mark : ℕ) (row : Row) (b : Bool) → nat_lt row.end mark ≡ b → option_map as_it_is (cond b None (Some row)) ≡ still_open mark (Some (as_it_is row))
-still_as_at mark row true is = sym (ap (λ (t : Bool). cond t None (Some (as_it_is row))) (ap (λ (n : ℕ). nat_lt n mark) (end_at row (row_lives row)) ∙ is))
-still_as_at mark row false is = sym (ap (λ (t : Bool). cond t None (Some (as_it_is row))) (ap (λ (n : ℕ). nat_lt n mark) (end_at row (row_lives row)) ∙ is))
-
-still_as : (mark : ℕ) (found : Option Row) → option_map as_it_is (still_open mark found) ≡ still_open mark (option_map as_it_is found)
-still_as mark None = refl
-still_as mark (Some row) = still_as_at mark row (nat_lt row.end mark) refl
-
--- a guard that has what is open of a state stands for what is remembered of it
-pub recalls_state : (guard : OpenGuard) (state : State) → IsFit state → guard.mark ≡ state.mark → OpenAmong state.mark state.events (open_row guard.events) → Recalls guard (lines_of (without_over state))
+-- a guard that has what is open of a state stands for what is remembered of the lines that spell it
+pub recalls_state : (guard : OpenGuard) (state : State) → IsFit state → guard.mark ≡ state.mark → OpenAmong state.mark state.events (open_row guard.events) → Recalls guard (remembered_lines (lines_of state))
 recalls_state guard state fit mark among =
-    let left = without_over state in
-    let fit_now = fit_left state fit in
-    let can = can_restore left fit_now in
-    let same : guarantee_of (lines_of left) ≡ state.mark = spelt_mark left.events left.mark can fit_now.time in
-    let knows : (q : ℕ) → known_of q (lines_of left) ≡ still_open state.mark (known_among q state.events) =
-    λ q. ap (option_map as_it_is) (spelt_event left.events left.mark can fit_now.time q ∙ found_left state.mark q state.events (ascend_from state.events fit.ascend)) ∙ still_as state.mark (row_of_id q state.events) in
+    let lines = lines_of state in
+    let can = can_restore state fit in
+    let accepted = fit_accepted state fit in
+    let left = remembers_left lines accepted in
+    let spelt : guarantee_of lines ≡ state.mark = spelt_mark state.events state.mark can fit.time in
+    let same : guarantee_of (remembered_lines lines) ≡ state.mark = ap (λ (s : State). s.mark) left.state ∙ spelt in
+    let knows : (q : ℕ) → known_of q (remembered_lines lines) ≡ still_open state.mark (known_among q state.events) =
+    λ q. known_left lines accepted q ∙ (ap (λ (n : ℕ). still_open n (known_of q lines)) spelt ∙ ap (λ (found : Option Row). still_open state.mark (option_map as_it_is found)) (spelt_event state.events state.mark can fit.time q)) in
     record {
       mark = mark ∙ sym same;
       events = λ q. among q ∙ sym (knows q);
       none_over = λ q r is. subst (λ (n : ℕ). n ≤ r.end) (sym same) (open_only state.mark (known_among q state.events) r (sym (knows q) ∙ is));
-      accepted = fit_accepted left fit_now;
+      accepted = left.accepted;
     }
 
 -- no event of a guard before its first line is over

@@ -10,7 +10,7 @@ ghost use Rattle.cedr_guard.specs.Standing.{Judges};
 ghost use Rattle.cedr_guard.specs.States.{as_it_is};
 ghost use Rattle.open_events.specs.Events.{open_row};
 ghost use Rattle.source_memory.specs.Opened.{Recalls};
-ghost use Rattle.source_memory.specs.Remembered.{kept_with, without_over};
+ghost use Rattle.source_memory.specs.Remembered.{remembered_lines, kept_with};
 
 use crate::fault::{guarantee_fault, retraction_fault, revision_fault};
 use cedr_base::{Change, Interval, Message, OutOfMemory, Payload, Row, Time};
@@ -75,11 +75,11 @@ impl OpenGuard {
         }
     }
 
-    /// A guard that judges as one whose lines have come to what is remembered of this state. The payloads are shared, not
-    /// copied. O(n log n) in the events.
+    /// A guard that judges by what is remembered of the lines that spell this state. The payloads are shared, not copied.
+    /// O(n log n) in the events.
     pub fn restore(alloc: Global, state: &SourceState) -> Result<OpenGuard, OutOfMemory>
         requires { IsFit (state_in state.now) }
-        ensures { IfOk result (λ guard. Recalls guard (lines_of (without_over (state_in state.now)))) }
+        ensures { IfOk result (λ guard. Recalls guard (remembered_lines (lines_of (state_in state.now)))) }
     {
         let mark = state.mark;
         let mut events = OpenEvents::new(alloc);

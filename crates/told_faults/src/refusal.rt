@@ -7,11 +7,7 @@ use cedr_text::{LineFault, write_number, write_time};
 
 /// Appends what is told of a file whose line has a fault: `events FILE line N fault K`, the numbers that the fault carries, and
 /// a line feed. Where memory runs out some of the text may stand there.
-pub fn write_refusal(
-    file: &[u8],
-    refusal: &Refusal,
-    text: &mut Vec<u8>,
-) -> Result<(), OutOfMemory>
+pub fn write_refusal(file: &[u8], refusal: &Refusal, text: &mut Vec<u8>) -> Result<(), OutOfMemory>
     ensures { OnOk result (text.new.items ≡ text.old.items ++ refusal_text file.now refusal.now) }
 {
     text.extend_from_slice(b"events ")?;
