@@ -1,0 +1,13 @@
+mod AlikeLemmas
+mod CutScripts
+mod CutSources
+mod CutSteps
+mod FollowerLemmas
+mod HeldLemmas
+mod PieceLemmas
+mod PlayerLemmas
+mod RecallLemmas
+mod SendLemmas
+mod ShapesAlike
+mod SiftLemmas
+mod StateLemmas
