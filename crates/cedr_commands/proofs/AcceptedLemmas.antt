@@ -1,5 +1,5 @@
 -- What is accepted isn't refused.
-use Rattle.std.proofs.Common.{◌≡◌, ℕ, ◌+◌, ◌<◌, List, [], ◌∷◌, ◌++◌, Bool, true, false, cond, length, take, Option, None, Some, Result, Ok, Err, refl, ap, sym, ◌∙◌, subst, arith}
+use Rattle.std.proofs.Common.{◌≡◌, ℕ, ◌+◌, List, [], ◌∷◌, ◌++◌, Bool, true, false, cond, length, take, Option, None, Some, Result, Ok, Err, refl, ap, sym, ◌∙◌, subst}
 use Rattle.std.specs.Prelude.{nat_lt, if◌then◌else◌}
 use Rattle.cedr_base.specs.declared.change.Message.{Message}
 use Rattle.cedr_base.specs.declared.field.FieldType.{FieldType}
@@ -22,7 +22,6 @@ use Rattle.cedr_text.specs.Shapes.{ShapeHasTypes}
 use Rattle.node_laws.specs.Lists.{Lists}
 use Rattle.plan_answer.specs.Queries.{AreAcceptedSources, IsAcceptedSource, source_nodes}
 use Rattle.plan_answer.specs.Sources.{AllHaveGiven, HasGiven, fault_here, faulty_from, file_of}
-use Rattle.plan_answer.specs.declared.faulty.FaultySource.{FaultySource}
 use Rattle.plan_live.proofs.ShapeLemmas.{readings_alike}
 
 -- ---- judging

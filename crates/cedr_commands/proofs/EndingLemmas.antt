@@ -18,7 +18,7 @@ use Rattle.plan_serial.specs.Rounds.{ByLine, all_messages}
 use Rattle.plan_serial.specs.Feeding.{AnswersInRounds}
 use Rattle.plan_serial.specs.Sources.{AreReadByLine}
 use Rattle.cedr_commands.specs.declared.command.Job.{Job}
-use Rattle.cedr_commands.specs.declared.command.Job.TheVariants.{History, Check, Serial, Run, Pool, Parts, Stream, Audit, Live, Make, Save, Resume}
+use Rattle.cedr_commands.specs.declared.command.Job.TheVariants.{History, Check, Serial, Run, Pool, Parts, Stream, Audit, Live, Make, Save, Resume, Follow, FollowFrom}
 use Rattle.cedr_commands.specs.declared.outcome.Outcome.{Outcome}
 use Rattle.cedr_commands.specs.declared.outcome.Outcome.TheVariants as outcome
 use Rattle.cedr_commands.specs.declared.status.Status.{Status}
@@ -168,6 +168,8 @@ by_job P Live reads serial run pool parts audit stream = absurd reads
 by_job P (Make n) reads serial run pool parts audit stream = absurd reads
 by_job P Save reads serial run pool parts audit stream = absurd reads
 by_job P Resume reads serial run pool parts audit stream = absurd reads
+by_job P Follow reads serial run pool parts audit stream = absurd reads
+by_job P FollowFrom reads serial run pool parts audit stream = absurd reads
 
 pub named_one : (job : Job) (content : List ℕ → Option (List ℕ)) (told : List ℕ → List ℕ) (file checkpoint script : List ℕ) → ReadsSources job → AreTold content told (named_files (record { job = job; file = file; checkpoint = checkpoint; script = script })) → AreTold content told (file ∷ [])
 named_one job content told file checkpoint script reads =
@@ -284,6 +286,8 @@ ends_in_turns Live reads other unasked nodes left out out' o h = absurd reads
 ends_in_turns (Make n) reads other unasked nodes left out out' o h = absurd reads
 ends_in_turns Save reads other unasked nodes left out out' o h = absurd reads
 ends_in_turns Resume reads other unasked nodes left out out' o h = absurd reads
+ends_in_turns Follow reads other unasked nodes left out out' o h = absurd reads
+ends_in_turns FollowFrom reads other unasked nodes left out out' o h = absurd reads
 
 -- they were, and what the command gives of them was written, or was begun
 pub plan_given : (job : Job) (nodes : List PlanNode) (left : ByLine) (files files' : FilesSeen) (out out' : SinkSeen) (o : Outcome) → ((told : List ℕ → List ℕ) → AreTold files.content told (source_files nodes) → AreReadByLine told nodes left []) → files'.faults ≡ files.faults

@@ -3,6 +3,7 @@ pub mod EventLemmas
 pub mod FileLemmas
 pub mod SayingLemmas
 pub mod AcceptedLemmas
+pub mod AloneLemmas
 pub mod EndingLemmas
 pub mod ScriptLemmas
 pub mod ResumeLemmas

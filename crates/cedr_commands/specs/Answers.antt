@@ -34,7 +34,7 @@ use Rattle.plan_answer.specs.Sources.{source_files, AreTold, AllHaveGiven, fault
 use Rattle.cedr_text.specs.Shapes.{ShapeHasTypes}
 use Rattle.cedr_table.specs.Operators.{Tables}
 use Rattle.cedr_commands.specs.declared.command.Job.{Job}
-use Rattle.cedr_commands.specs.declared.command.Job.TheVariants.{History, Check, Serial, Run, Pool, Parts, Stream, Audit, Live, Make, Save, Resume}
+use Rattle.cedr_commands.specs.declared.command.Job.TheVariants.{History, Check, Serial, Run, Pool, Parts, Stream, Audit, Live, Make, Save, Resume, Follow, FollowFrom}
 use Rattle.cedr_commands.specs.Commands.{Command}
 use Rattle.told_faults.specs.FaultTexts.{refusal_text}
 use Rattle.cedr_commands.specs.Resuming.{SavesScript, RefusesSaved, ResumesScript, ResumesSoFar, RefusesResumed, RefusesBytesOf}
@@ -217,7 +217,7 @@ pub record GivesSummary (n : ℕ) (text : List ℕ) : Type 0 where
 
 -- ---- each command
 
--- what a command writes where nothing stands in its way
+-- what a command writes where nothing stands in its way; of what `follow` writes the crate `cedr_follow` tells
 abbrev pub Gives : Contents → (List ℕ → List ℕ) → Command → List ℕ → Type 0
 Gives content told command text = gives command.job where
   gives : Job → Type 0
@@ -232,6 +232,8 @@ Gives content told command text = gives command.job where
   gives Live = OfPlanAlone (told command.file) (λ nodes. IsPlayed nodes (told command.script) text None)
   gives (Make n) = GivesSummary n text
   gives Save = OfPlanAlone (told command.file) (λ nodes. SavesScript nodes (told command.script) text)
+  gives Follow = ⊥
+  gives FollowFrom = ⊥
   gives Resume = OfPlanAlone (told command.file) (λ nodes. ResumesScript nodes (told command.checkpoint) (told command.script) text None)
 
 -- what it wrote, and what is said of it, where some line isn't accepted
@@ -249,6 +251,8 @@ Refuses content told command text said = refuses command.job where
   refuses Live = OfPlanAlone (told command.file) (λ nodes. RefusesScript command.script (told command.script) nodes text said)
   refuses (Make n) = ⊥
   refuses Save = (text ≡ []) × OfPlanAlone (told command.file) (λ nodes. RefusesSaved command.script (told command.script) nodes said)
+  refuses Follow = ⊥
+  refuses FollowFrom = ⊥
   refuses Resume = OfPlanAlone (told command.file) (λ nodes. RefusesResumed command.script (told command.checkpoint) (told command.script) nodes text said)
 
 -- a text of which a front is written where writing or memory fails
@@ -274,6 +278,8 @@ RefusesSaving told command node = refuses command.job where
   refuses : Job → Type 0
   refuses Save = OfPlanAlone (told command.file) (λ nodes. first_unsaved 0 nodes ≡ Some node)
   refuses Resume = OfPlanAlone (told command.file) (λ nodes. first_unsaved 0 nodes ≡ Some node)
+  refuses Follow = OfPlanAlone (told command.file) (λ nodes. first_unsaved 0 nodes ≡ Some node)
+  refuses FollowFrom = OfPlanAlone (told command.file) (λ nodes. first_unsaved 0 nodes ≡ Some node)
   refuses job = ⊥
 
 -- its plan can be saved, and its checkpoint is none of it, for this line
@@ -281,4 +287,5 @@ abbrev pub RefusesCheckpoint : (List ℕ → List ℕ) → Command → ℕ → T
 RefusesCheckpoint told command line = refuses command.job where
   refuses : Job → Type 0
   refuses Resume = OfPlanAlone (told command.file) (λ nodes. RefusesBytesOf nodes (told command.checkpoint) line)
+  refuses FollowFrom = OfPlanAlone (told command.file) (λ nodes. RefusesBytesOf nodes (told command.checkpoint) line)
   refuses job = ⊥

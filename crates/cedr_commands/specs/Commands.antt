@@ -3,7 +3,7 @@ use Rattle.std.specs.Prelude.{ℕ, ◌≡◌, ◌≢◌, ◌<◌, ◌≤◌, Lis
 use Rattle.std.specs.Str.{bytes_eq}
 use Rattle.cedr_text.specs.Numbers.{whole_number}
 use Rattle.cedr_commands.specs.declared.command.Job.{Job}
-use Rattle.cedr_commands.specs.declared.command.Job.TheVariants.{History, Check, Serial, Run, Pool, Parts, Stream, Audit, Live, Make, Save, Resume}
+use Rattle.cedr_commands.specs.declared.command.Job.TheVariants.{History, Check, Serial, Run, Pool, Parts, Stream, Audit, Live, Make, Save, Resume, Follow, FollowFrom}
 
 -- what to do, with which file, from which checkpoint, and with which script
 pub record Command : Type 0 where
@@ -64,18 +64,30 @@ abbrev pub with_parts : Option ℕ → List ℕ → Option Command
 with_parts None plan = None
 with_parts (Some n) plan = Some (record { job = Parts n; file = plan; checkpoint = []; script = [] })
 
+-- the command of a word, which takes a plan, a checkpoint and a script
+abbrev pub checkpoint_job : List ℕ → Option Job
+checkpoint_job word =
+    if bytes_eq word (codes "resume") then Some Resume
+    else if bytes_eq word (codes "follow") then Some FollowFrom
+    else None
+
+-- the command that does a job with these
+abbrev pub with_checkpoint : Option Job → List ℕ → List ℕ → List ℕ → Option Command
+with_checkpoint None plan checkpoint script = None
+with_checkpoint (Some job) plan checkpoint script = Some (record { job = job; file = plan; checkpoint = checkpoint; script = script })
+
 -- `history FILE`, `check PLAN`, `serial PLAN`, `run PLAN`, `stream PLAN`, `audit PLAN`, `live PLAN SCRIPT`, `make N`, `pool N PLAN`,
--- `parts N PLAN`, `save PLAN SCRIPT`, `resume PLAN CHECKPOINT SCRIPT`
+-- `parts N PLAN`, `save PLAN SCRIPT`, `resume PLAN CHECKPOINT SCRIPT`, `follow PLAN SCRIPT`, `follow PLAN CHECKPOINT SCRIPT`
 abbrev pub command_of : List (List ℕ) → Option Command
 command_of (word ∷ file ∷ []) = if bytes_eq word (codes "make") then with_events (events_of file) else with_file (job_of word) file
 command_of (word ∷ first ∷ second ∷ []) =
     if bytes_eq word (codes "live") then Some (record { job = Live; file = first; checkpoint = []; script = second })
     else if bytes_eq word (codes "save") then Some (record { job = Save; file = first; checkpoint = []; script = second })
+    else if bytes_eq word (codes "follow") then Some (record { job = Follow; file = first; checkpoint = []; script = second })
     else if bytes_eq word (codes "pool") then with_threads (threads_of first) second
     else if bytes_eq word (codes "parts") then with_parts (part_count first) second
     else None
-command_of (word ∷ first ∷ second ∷ third ∷ []) =
-    if bytes_eq word (codes "resume") then Some (record { job = Resume; file = first; checkpoint = second; script = third }) else None
+command_of (word ∷ first ∷ second ∷ third ∷ []) = with_checkpoint (checkpoint_job word) first second third
 command_of words = None
 
 -- the number of a job is in its range: a workload has from 1 to 100,000 events a source, a pool from 1 to 16 threads, and a plan
@@ -86,10 +98,18 @@ IsNumbered (Pool n) = (0 < n) × (n ≤ 16)
 IsNumbered (Parts n) = (0 < n) × (n ≤ 16)
 IsNumbered job = Unit {0}
 
--- the words match none of `run PLAN`, `stream PLAN` and `pool N PLAN`
+-- a job that is ended by its own text: `stream` may wait, and `follow` writes and tells as its script goes on
+abbrev pub StandsAlone : Job → Type 0
+StandsAlone Stream = ⊥
+StandsAlone Follow = ⊥
+StandsAlone FollowFrom = ⊥
+StandsAlone job = Unit {0}
+
+-- the words match none of `run PLAN`, `stream PLAN`, `pool N PLAN` and `follow PLAN .. SCRIPT`
 abbrev pub IsAlone : List (List ℕ) → Type 0
 IsAlone (command ∷ plan ∷ []) = (command ≢ codes "run") × (command ≢ codes "stream")
-IsAlone (command ∷ count ∷ plan ∷ []) = command ≡ codes "pool" → threads_of count ≡ None
+IsAlone (command ∷ first ∷ second ∷ []) = (command ≡ codes "pool" → threads_of first ≡ None) × (command ≢ codes "follow")
+IsAlone (command ∷ plan ∷ checkpoint ∷ script ∷ []) = command ≢ codes "follow"
 IsAlone words = Unit {0}
 
 -- the files that a command names
@@ -99,5 +119,7 @@ named_files command = files_of command.job command.file command.checkpoint comma
   files_of Live file checkpoint script = file ∷ script ∷ []
   files_of Save file checkpoint script = file ∷ script ∷ []
   files_of Resume file checkpoint script = file ∷ checkpoint ∷ script ∷ []
+  files_of Follow file checkpoint script = file ∷ script ∷ []
+  files_of FollowFrom file checkpoint script = file ∷ checkpoint ∷ script ∷ []
   files_of (Make n) file checkpoint script = []
   files_of job file checkpoint script = file ∷ []

@@ -8,7 +8,7 @@ use Rattle.cedr_save.specs.Checkpoints.{plan_sources, IsCheckpoint}
 use Rattle.plan_answer.specs.Sources.{AsksFirst, AreTold, source_files}
 use Rattle.cedr_text.specs.Texts.{line_feed}
 use Rattle.cedr_commands.specs.declared.command.Job.{Job}
-use Rattle.cedr_commands.specs.declared.command.Job.TheVariants.{Serial, Run, Pool, Parts, Stream, Audit, Live, Save, Resume}
+use Rattle.cedr_commands.specs.declared.command.Job.TheVariants.{Serial, Run, Pool, Parts, Stream, Audit, Live, Save, Resume, Follow, FollowFrom}
 use Rattle.cedr_commands.specs.declared.outcome.Outcome.{Outcome}
 use Rattle.cedr_commands.specs.declared.outcome.Outcome.TheVariants as outcome
 use Rattle.cedr_commands.specs.declared.status.Status.{Status}
@@ -23,7 +23,7 @@ use Rattle.cedr_commands.specs.Seen.{FilesSeen, SinkSeen, NoneRose, BreaksOff}
 
 -- the text where the words match no command
 abbrev pub usage_text : List ℕ
-usage_text = codes "usage: cedr history FILE | check PLAN | serial PLAN | run PLAN | stream PLAN | audit PLAN | live PLAN SCRIPT | make N | pool N PLAN | parts N PLAN | save PLAN SCRIPT | resume PLAN CHECKPOINT SCRIPT" ++ line_feed ∷ []
+usage_text = codes "usage: cedr history FILE | check PLAN | serial PLAN | run PLAN | stream PLAN | audit PLAN | live PLAN SCRIPT | make N | pool N PLAN | parts N PLAN | save PLAN SCRIPT | resume PLAN CHECKPOINT SCRIPT | follow PLAN SCRIPT | follow PLAN CHECKPOINT SCRIPT" ++ line_feed ∷ []
 
 -- the text where a file wasn't found, or a read was refused
 abbrev pub read_text : List ℕ
@@ -124,7 +124,7 @@ abbrev pub HoldsCheckpoint : FilesSeen → List ℕ → List PlanNode → Type 0
 HoldsCheckpoint files checkpoint nodes = (told : List ℕ → List ℕ) → AreTold files.content told (checkpoint ∷ []) → (states : List State) × IsCheckpoint (plan_sources nodes) states (told checkpoint)
 
 -- The named files alone, or where the command reads the sources of a plan those too. A script is asked for only behind an
--- accepted plan, and to save or resume only behind one that can be saved; a checkpoint too, and behind it the script only where it
+-- accepted plan, and to save, resume or follow only behind one that can be saved; a checkpoint too, and behind it the script only where it
 -- is a checkpoint of the plan.
 abbrev pub AsksOnly : Command → FilesSeen → FilesSeen → Type 0
 AsksOnly command files files' = asks command.job where
@@ -132,6 +132,8 @@ AsksOnly command files files' = asks command.job where
   asks Live = AsksFirst files.asked files'.asked (command.file ∷ []) ⊎ AsksBehind files files' command.file (λ nodes. Unit {0}) (command.script ∷ [])
   asks Save = AsksFirst files.asked files'.asked (command.file ∷ []) ⊎ AsksBehind files files' command.file CanSavePlan (command.script ∷ [])
   asks Resume = AsksFirst files.asked files'.asked (command.file ∷ []) ⊎ (AsksBehind files files' command.file CanSavePlan (command.checkpoint ∷ []) ⊎ AsksBehind files files' command.file (λ nodes. CanSavePlan nodes × HoldsCheckpoint files command.checkpoint nodes) (command.checkpoint ∷ command.script ∷ []))
+  asks Follow = AsksFirst files.asked files'.asked (command.file ∷ []) ⊎ AsksBehind files files' command.file CanSavePlan (command.script ∷ [])
+  asks FollowFrom = AsksFirst files.asked files'.asked (command.file ∷ []) ⊎ (AsksBehind files files' command.file CanSavePlan (command.checkpoint ∷ []) ⊎ AsksBehind files files' command.file (λ nodes. CanSavePlan nodes × HoldsCheckpoint files command.checkpoint nodes) (command.checkpoint ∷ command.script ∷ []))
   asks Serial = AsksFirst files.asked files'.asked (named_files command) ⊎ AsksPlan files files' command.file
   asks Run = AsksFirst files.asked files'.asked (named_files command) ⊎ AsksPlan files files' command.file
   asks (Pool n) = AsksFirst files.asked files'.asked (named_files command) ⊎ AsksPlan files files' command.file

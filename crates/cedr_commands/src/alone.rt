@@ -1,8 +1,7 @@
-ghost use Rattle.std.specs.Prelude.{◌≡◌, ◌≢◌, ◌<◌, IfSome, map, option_map};
+ghost use Rattle.std.specs.Prelude.{◌≡◌, ◌<◌, IfSome, map, option_map};
 ghost use Rattle.std.specs.String.{string_bytes};
 ghost use Rattle.cedr_io.specs.Counts.{last_count};
-ghost use Rattle.cedr_commands.specs.declared.command.Job.TheVariants.{Stream};
-ghost use Rattle.cedr_commands.specs.Commands.{Command, command_of, IsAlone, IsNumbered};
+ghost use Rattle.cedr_commands.specs.Commands.{Command, command_of, IsAlone, IsNumbered, StandsAlone};
 ghost use Rattle.cedr_commands.specs.Seen.{seen_files, seen_sink};
 ghost use Rattle.cedr_commands.specs.Ending.{Ends};
 
@@ -13,8 +12,8 @@ use crate::status::Status;
 use cedr_io::{Files, Sink};
 use std::alloc::Global;
 
-/// Carries out the command that the words name, where it is none of `run PLAN`, `stream PLAN` and `pool N PLAN`, and answers how
-/// it ended. It starts no thread and waits for nobody.
+/// Carries out the command that the words name, where it is none of `run PLAN`, `stream PLAN`, `pool N PLAN` and
+/// `follow PLAN .. SCRIPT`, and answers how it ended. It starts no thread and waits for nobody.
 pub fn run_alone<F: Files, K: Sink, E: Sink>(
     alloc: Global,
     words: &[String],
@@ -45,7 +44,7 @@ pub fn run_named<F: Files, K: Sink, E: Sink>(
     requires files_count { F.faults files.old < last_count }
     requires out_counts { K.faults out.old < last_count }
     requires numbered { IfSome named (λ n. IsNumbered n.0) }
-    requires alone { IfSome named (λ n. n.0 ≢ Stream) }
+    requires whole { IfSome named (λ n. StandsAlone n.0) }
     ensures { Ends (option_map (λ n. record { job = n.0; file = n.1.now; checkpoint = n.2.now; script = n.3.now }) named.entry)
         (seen_files F.content F.faults F.asked files.old) (seen_files F.content F.faults F.asked files.new)
         (seen_sink K.written K.faults out.old) (seen_sink K.written K.faults out.new)

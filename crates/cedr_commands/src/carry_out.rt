@@ -1,7 +1,6 @@
-ghost use Rattle.std.specs.Prelude.{◌≡◌, ◌≢◌, ◌<◌, List, ℕ};
+ghost use Rattle.std.specs.Prelude.{◌≡◌, ◌<◌, List, ℕ};
 ghost use Rattle.cedr_io.specs.Counts.{last_count};
-ghost use Rattle.cedr_commands.specs.declared.command.Job.TheVariants.{Stream};
-ghost use Rattle.cedr_commands.specs.Commands.{Command, IsNumbered};
+ghost use Rattle.cedr_commands.specs.Commands.{Command, IsNumbered, StandsAlone};
 ghost use Rattle.cedr_commands.specs.Outcomes.{CommandEnds, AsksOnly};
 ghost use Rattle.cedr_commands.specs.Seen.{seen_files, seen_sink};
 
@@ -17,7 +16,7 @@ use crate::sources::on_sources;
 use cedr_io::{Files, Sink};
 use std::alloc::Global;
 
-/// Does what a command asks for with its files: any command but `stream`, which may wait.
+/// Does what a command asks for with its files: any command but `stream`, which may wait, and `follow`, which goes on.
 pub(crate) fn carry_out<F: Files, K: Sink>(
     alloc: Global,
     job: Job,
@@ -30,7 +29,7 @@ pub(crate) fn carry_out<F: Files, K: Sink>(
     requires files_count { F.faults files.old < last_count }
     requires out_counts { K.faults out.old < last_count }
     requires job { IsNumbered job }
-    requires alone { job ≢ Stream }
+    requires whole { StandsAlone job }
     ensures ends { CommandEnds (record { job = job; file = file.now; checkpoint = checkpoint.now; script = script.now })
         (seen_files F.content F.faults F.asked files.old) (seen_files F.content F.faults F.asked files.new)
         (seen_sink K.written K.faults out.old) (seen_sink K.written K.faults out.new) result }

@@ -3,7 +3,7 @@ ghost use Rattle.std.specs.Int.{IsInRange};
 ghost use Rattle.std.specs.Option.{SomeIff};
 ghost use Rattle.std.specs.String.{string_bytes};
 ghost use Rattle.cedr_text.specs.Numbers.{whole_number};
-ghost use Rattle.cedr_commands.specs.Commands.{Command, IsNumbered, command_of, job_of, number_up_to};
+ghost use Rattle.cedr_commands.specs.Commands.{Command, IsNumbered, checkpoint_job, command_of, job_of, number_up_to};
 
 /// What a command does.
 #[derive(Clone, Copy, PartialEq, Eq, Debug)]
@@ -32,6 +32,10 @@ pub enum Job {
     Save,
     /// Plays a script over a plan, from a checkpoint.
     Resume,
+    /// Follows a script over a plan, and writes the messages of the answer as they come.
+    Follow,
+    /// The same, from a checkpoint.
+    FollowFrom,
 }
 
 /// The command of a word, which takes one file.
@@ -45,6 +49,17 @@ fn named_job(word: &str) -> Option<Job>
         "run" => Some(Job::Run),
         "stream" => Some(Job::Stream),
         "audit" => Some(Job::Audit),
+        _ => None,
+    }
+}
+
+/// The command of a word, which takes a plan, a checkpoint and a script.
+fn job_from_checkpoint(word: &str) -> Option<Job>
+    ensures { result ≡ checkpoint_job word.now }
+{
+    match word {
+        "resume" => Some(Job::Resume),
+        "follow" => Some(Job::FollowFrom),
         _ => None,
     }
 }
@@ -105,6 +120,7 @@ pub fn named_command(words: &[String]) -> Option<(Job, &str, &str, &str)>
         [word, first, second] => match word.as_str() {
             "live" => Some((Job::Live, first.as_str(), "", second.as_str())),
             "save" => Some((Job::Save, first.as_str(), "", second.as_str())),
+            "follow" => Some((Job::Follow, first.as_str(), "", second.as_str())),
             "pool" => {
                 let threads = count(2, 16, first.as_bytes())?;
                 Some((Job::Pool(threads), second.as_str(), "", ""))
@@ -115,12 +131,10 @@ pub fn named_command(words: &[String]) -> Option<(Job, &str, &str, &str)>
             }
             _ => None,
         },
-        [word, plan, checkpoint, script] if word.as_str() == "resume" => Some((
-            Job::Resume,
-            plan.as_str(),
-            checkpoint.as_str(),
-            script.as_str(),
-        )),
+        [word, plan, checkpoint, script] => {
+            let job = job_from_checkpoint(word.as_str())?;
+            Some((job, plan.as_str(), checkpoint.as_str(), script.as_str()))
+        }
         _ => None,
     }
 }

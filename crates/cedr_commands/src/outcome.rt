@@ -53,7 +53,7 @@ impl Outcome {
         match self {
             Outcome::Done => {}
             Outcome::Usage => text.extend_from_slice(
-                b"usage: cedr history FILE | check PLAN | serial PLAN | run PLAN | stream PLAN | audit PLAN | live PLAN SCRIPT | make N | pool N PLAN | parts N PLAN | save PLAN SCRIPT | resume PLAN CHECKPOINT SCRIPT\n",
+                b"usage: cedr history FILE | check PLAN | serial PLAN | run PLAN | stream PLAN | audit PLAN | live PLAN SCRIPT | make N | pool N PLAN | parts N PLAN | save PLAN SCRIPT | resume PLAN CHECKPOINT SCRIPT | follow PLAN SCRIPT | follow PLAN CHECKPOINT SCRIPT\n",
             )?,
             Outcome::Events(said) => return Ok(said),
             Outcome::BadPlan(kind, node) => write_plan_fault(kind, node, &mut text)?,

@@ -39,11 +39,7 @@ pub fn open_plan<F: Files>(alloc: Global, file: &[u8], files: &mut F) -> Result<
 }
 
 /// The plan that a file describes, where it can be saved, or how the command ends without one.
-pub(crate) fn open_saved<F: Files>(
-    alloc: Global,
-    file: &[u8],
-    files: &mut F,
-) -> Result<Plan, Outcome>
+pub fn open_saved<F: Files>(alloc: Global, file: &[u8], files: &mut F) -> Result<Plan, Outcome>
     requires { F.faults files.old < last_count }
     ensures plan { IfOk result IsPlan }
     ensures can { IfOk result (λ plan. CanSavePlan plan.nodes.items) }

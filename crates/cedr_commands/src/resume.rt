@@ -20,7 +20,7 @@ use plan_live::{play_from, resumed_scripts};
 use std::alloc::Global;
 
 /// The states that a checkpoint of a plan spells, or how the command ends without them.
-fn open_checkpoint<F: Files>(
+pub fn open_checkpoint<F: Files>(
     alloc: Global,
     plan: &Plan,
     checkpoint: &[u8],

@@ -2,9 +2,8 @@ use Rattle.std.proofs.Common.{ℕ, ◌≡◌, ◌≤◌, ◌++◌, List, length,
 use Rattle.cedr_guard.specs.Spelt.{State}
 use Rattle.cedr_save.specs.Checkpoints.{plan_sources, checkpoint_text, IsCheckpoint}
 use Rattle.cedr_save.specs.declared.reader.TheConstants.{CHECKPOINT_LIMIT}
-use Rattle.cedr_text.specs.declared.event_line.Shape.{Shape}
 use Rattle.plan_live.specs.Resumed.{lines_from, states_so_far}
-use Rattle.plan_live.specs.Scripts.{Played, ShapesHaveTypes, no_lines, played, played_after}
+use Rattle.plan_live.specs.Scripts.{Played, no_lines, played, played_after}
 use Rattle.plan_live.specs.SoFar.{texts_now}
 use Rattle.plan_live.proofs.ShapeLemmas.{played_alike}
 use Rattle.cedr_commands.proofs.ResumeLemmas.{all_can}
