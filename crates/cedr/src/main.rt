@@ -36,6 +36,13 @@ cedr save PLAN SCRIPT     cedr save plan.json day.txt > saved.txt
 cedr resume PLAN CHECKPOINT SCRIPT  cedr resume plan.json saved.txt next_day.txt
     writes what live writes for the script, behind all that the checkpoint was saved of.
     A plan with a finite memory, or with a finite block other than 0, can't be saved.
+cedr follow PLAN SCRIPT   cedr follow plan.json /dev/stdin
+    takes the script's lines as they come, for as long as they do, and writes what each
+    one changes, as stream does, and =,TIME where nothing before TIME changes any more.
+    A faulty line is told and changes nothing; the status is 3 then, at the script's end.
+    What is over is forgotten. The plan is one that can be saved.
+cedr follow PLAN CHECKPOINT SCRIPT  cedr follow plan.json saved.txt /dev/stdin
+    writes the same behind all that the checkpoint was saved of.
 cedr serial PLAN          cedr serial plan.json
     writes what run writes, on one thread.
 cedr audit PLAN           cedr audit plan.json
@@ -61,7 +68,7 @@ An event file has lines of four kinds:
 
 Exit status: 0 done, 1 the command line matches no command, 2 the plan has a fault,
 3 the events have a fault, 4 a read fault, 5 a write fault, 6 out of memory, 7 what resume
-was given is no checkpoint of the plan.
+or follow was given is no checkpoint of the plan.
 
 The faults of a line, of which the least is reported:
      1 the line is too long
@@ -90,7 +97,7 @@ The faults of a plan, of which the first is reported:
     12 types differ
     13 there isn't exactly one output
     14 a node is never used
-    15 a level can't be saved, for save and resume alone
+    15 a level can't be saved, for save, resume and follow alone
 ";
 
 const VERSION: &str = "cedr 0.1.0\n";

@@ -1,14 +1,14 @@
 -- How `run`, `stream` and `pool` end, by how the run of their plan ends.
-use Rattle.std.proofs.Common.{◌≡◌, ◌≢◌, ℕ, ◌⊎◌, inl, inr, List, [], ◌++◌, false, length, take, Option, None, Some, Err, refl, ap, sym, ◌∙◌, subst, arith}
-use Rattle.std.specs.Io.KnownBytes.{Appends, Keeps}
-use Rattle.std.proofs.lemmas.List.{append-nil, take_all}
+use Rattle.std.proofs.Common.{◌≡◌, ◌≢◌, ℕ, ◌⊎◌, inl, inr, List, [], ◌++◌, false, length, take, Option, Some, Err, refl, ap, sym, ◌∙◌, subst, arith}
+use Rattle.std.specs.Io.KnownBytes.{Keeps}
+use Rattle.std.proofs.lemmas.List.{take_all}
 use Rattle.cedr_edge.specs.Ends.{Carried}
 use Rattle.cedr_plan.specs.declared.plan.PlanNode.{PlanNode}
 use Rattle.plan_answer.specs.Sources.{AreTold, AsksFirst, source_files}
 use Rattle.plan_edges.specs.Wires.{carried, ports_of}
 use Rattle.cedr_worker.specs.declared.ran.Ran.{Ran}
 use Rattle.cedr_commands.specs.declared.command.Job.{Job}
-use Rattle.cedr_commands.specs.declared.command.Job.TheVariants.{History, Check, Serial, Run, Pool, Parts, Stream, Audit, Live, Make, Save, Resume}
+use Rattle.cedr_commands.specs.declared.command.Job.TheVariants.{History, Check, Serial, Run, Pool, Parts, Stream, Audit, Live, Make, Save, Resume, Follow, FollowFrom}
 use Rattle.cedr_commands.specs.declared.outcome.Outcome.{Outcome}
 use Rattle.cedr_commands.specs.declared.outcome.Outcome.TheVariants as outcome
 use Rattle.cedr_commands.specs.declared.status.Status.{Status}
@@ -61,6 +61,8 @@ by_threaded P Live is run pool stream = absurd is
 by_threaded P (Make n) is run pool stream = absurd is
 by_threaded P Save is run pool stream = absurd is
 by_threaded P Resume is run pool stream = absurd is
+by_threaded P Follow is run pool stream = absurd is
+by_threaded P FollowFrom is run pool stream = absurd is
 
 -- what is written at the end of a run is what a command answers that isn't `stream`
 pub answers_at_end : (job : Job) → IsThreaded job → job ≢ Stream → (told : List ℕ → List ℕ) (nodes : List PlanNode) (edges : List Carried) (ran : List Ran) (text : List ℕ) → AnswersRun told nodes edges ran text → AnswersBy job told nodes edges ran text × BeginsBy job told nodes edges ran text

@@ -44,7 +44,7 @@ use Rattle.plan_runs.specs.Partials.{AllBeginTables, BeginsTable}
 use Rattle.node_laws.proofs.Additions.{only_adds}
 use Rattle.plan_runs.proofs.PartialOutput.{output_adds, output_ascends}
 use Rattle.cedr_commands.specs.declared.command.Job.{Job}
-use Rattle.cedr_commands.specs.declared.command.Job.TheVariants.{History, Check, Serial, Run, Pool, Parts, Stream, Audit, Live, Make, Save, Resume}
+use Rattle.cedr_commands.specs.declared.command.Job.TheVariants.{History, Check, Serial, Run, Pool, Parts, Stream, Audit, Live, Make, Save, Resume, Follow, FollowFrom}
 use Rattle.cedr_commands.specs.Answers.{AddsInOrder, AllHaveBegun, HasBegun, StreamsSoFar}
 use Rattle.cedr_commands.specs.Seen.{FilesSeen, SinkSeen}
 use Rattle.cedr_run.specs.Strong.{AddsGood, AllHaveGood, StreamsPlan, StreamsStrong, WroteGood, WroteStrong}
@@ -261,3 +261,5 @@ streams_strong_by Live files file checkpoint script out out' streams = tt
 streams_strong_by (Make n) files file checkpoint script out out' streams = tt
 streams_strong_by Save files file checkpoint script out out' streams = tt
 streams_strong_by Resume files file checkpoint script out out' streams = tt
+streams_strong_by Follow files file checkpoint script out out' streams = tt
+streams_strong_by FollowFrom files file checkpoint script out out' streams = tt

@@ -5,12 +5,14 @@ ghost use Rattle.cedr_commands.specs.declared.command.Job.TheVariants.{Stream};
 ghost use Rattle.cedr_commands.specs.Commands.{Command, command_of};
 ghost use Rattle.cedr_commands.specs.Seen.{seen_files, seen_sink};
 ghost use Rattle.cedr_commands.specs.Ending.{Ends};
+ghost use Rattle.cedr_follow.specs.FollowEnds.{EndsCommand};
 ghost use Rattle.cedr_run.specs.Strong.{StreamsPlan, StreamsStrong};
 ghost use Rattle.cedr_run.specs.Threads.{AreBare, HasRun, IsThreaded};
 
 use crate::ending::Ending;
 use crate::threads::{Threaded, on_threads};
 use cedr_commands::{Job, Status, named_command, run_named};
+use cedr_follow::{run_follow, run_follow_from};
 use cedr_io::{Files, Gate, Sink};
 use cedr_parts::run_parts;
 use std::alloc::Global;
@@ -40,7 +42,7 @@ where
     F::Source: Drop + 'static,
     requires files_count { F.faults files.old < last_count }
     requires out_counts { K.faults out.old < last_count }
-    ensures ends { Ends (command_of (map string_bytes words.now))
+    ensures ends { EndsCommand (command_of (map string_bytes words.now))
         (seen_files F.content F.faults F.asked files.old) (seen_files F.content F.faults F.asked files.new)
         (seen_sink K.written K.faults out.old) (seen_sink K.written K.faults out.new)
         (seen_sink E.written E.faults err.old) (seen_sink E.written E.faults err.new) result.status }
@@ -58,6 +60,22 @@ where
         }
         Some((Job::Parts(count), file, _, _)) => {
             let status = run_parts(&rt, alloc, count, file.as_bytes(), files, out, err);
+            bare(alloc, status)
+        }
+        Some((Job::Follow, file, _, script)) => {
+            let status = run_follow(alloc, file.as_bytes(), script.as_bytes(), files, out, err);
+            bare(alloc, status)
+        }
+        Some((Job::FollowFrom, file, checkpoint, script)) => {
+            let status = run_follow_from(
+                alloc,
+                file.as_bytes(),
+                checkpoint.as_bytes(),
+                script.as_bytes(),
+                files,
+                out,
+                err,
+            );
             bare(alloc, status)
         }
         named => bare(alloc, run_named(alloc, named, files, out, err)),
