@@ -65,7 +65,7 @@ ROWS = b"0,300,oven-2,a\n60,420,oven-10,b\n300,840,oven-2,a\n420,inf,\"x, $y$\",
 # The options, the answer, and how what is said ends. The status is 1.
 REFUSED = [
     ("--by 0 -o a.svg", b"+,1,2,a\n",
-     "standard input line 1: this is a change, as stream writes it, and what can be drawn are the rows that run writes"),
+     "standard input line 1: this is a change, as stream and follow write it, and what can be drawn are the rows that run writes"),
     ("--by 0 -o a.svg", b"1,2,a\n. 7\n",
      "standard input line 2: this is a mark, as live writes it, and what can be drawn are the rows that run writes"),
     ("--by 0 -o a.svg", b"1,2,a\n\n", "standard input line 2: this isn't a row BEGIN,END,FIELD.."),

@@ -4,7 +4,7 @@
 - For each mistake (those about checkpoints are in checkpoint_mistakes.py) the tool hands on what the program writes, byte by byte, and its status, and says the lines that are
   written by hand.
 - It finds the fault of each plan, of each line and of each checkpoint that the other checks have, with its place, and says of
-  each more than the fault's name. For random files the faults are those of reference.py.
+  each more than the fault's name. For random files, and for random scripts that are followed, the faults are those of reference.py.
 - Its commands are those of the table in docs/program.md, and what docs/faults.md shows of it is what it says.
 - A stand-in for the program shows what it says of memory, of signals and of how far a file is read, and that it hands
   on standard input and many bytes as they are.
@@ -25,6 +25,7 @@ from pathlib import Path
 
 sys.dont_write_bytecode = True
 
+import asked
 import cases
 import checkpoint_cases
 import checkpoint_mistakes
@@ -32,6 +33,7 @@ import doc_tables
 import mistakes
 import plan_cases
 import random_files
+import random_networks
 import reference
 from program import ROOT, built_program
 
@@ -50,6 +52,8 @@ SHOWN_CALL = re.compile(r"```sh\ntools/cedr-explain ([^\n]*)\n```\n\n```text\n(.
 FIRST_PLAN = re.compile(r"```json\n(.*?)```", re.DOTALL)
 PAGE_EVENTS = "+,1,10,20,a\n=,5\n+,2,4,20,b\n"
 EVENTS = re.compile(rb"events e.csv line (\d+) fault (\d+)")
+FOLLOWED = re.compile(rb"events b.txt line (\d+) fault (\d+)")
+FOLLOWED_ODD = 0.2
 
 # Each stand-in has a name, what it does as a script, the words that the tool is called with, and the status and the
 # lines that must come.
@@ -73,6 +77,17 @@ STAND_INS = [
      ["  Each file can be opened now: plan.json. A read of one was refused, or it is there only since then."]),
     ("half of a file", "exec 3< orders.csv; head -c 55 <&3 > /dev/null; sleep 1",
      ["--progress=0.3", "run", "plan.json"], 0, ["orders 50 % of 110 bytes; payments isn't open; memory "]),
+    ("a faulty line that is explained before the next one comes", 'echo "events script.txt line 1 fault 6" >&2; sleep 1; '
+     'echo "events script.txt line 2 fault 7" >&2; exit 3', ["follow", "plan.json", "script.txt"], 3,
+     ["events script.txt line 1 fault 6", "  script.txt:1: An earlier line inserted its ID. ", "events script.txt line 2 fault 7",
+      "  script.txt:2: No earlier line inserted its ID. "]),
+    ("many faulty lines", 'for line in $(seq 25); do echo "events script.txt line $line fault 6" >&2; done; exit 3',
+     ["follow", "plan.json", "script.txt"], 3,
+     ["  script.txt:20: ", "  These were 20 faulty lines. Further ones are told, and not explained."]),
+    ("a script that is a pipe", 'echo "events /dev/stdin line 1 fault 9 sync 1 mark 2" >&2; exit 3', ["follow", "plan.json", "/dev/stdin"],
+     3, ["  /dev/stdin:1: It changes something before the guarantee. The line can't be shown, since /dev/stdin is a pipe"]),
+    ("a read that is refused behind a faulty line", 'echo "events script.txt line 1 fault 6" >&2; echo "read fault" >&2; exit 4',
+     ["follow", "plan.json", "script.txt"], 4, ["  script.txt:1: ", "  Each file can be opened now: plan.json, script.txt. "]),
     # from here on the files are others than the program read
     ("a line before that has too few fields",
      "printf '+,1,5\\n-,1,5\\n' > orders.csv; echo 'events orders line 2 fault 8 begin 5 end 6' >&2; exit 3",
@@ -179,7 +194,8 @@ def check_good(folder: Folder, differences: Differences) -> int:
     folder.fill({name: text.encode() for name, text in mistakes.FILES.items()})
     lines = ["run plan.json", "stream plan.json", "pool 2 plan.json", "serial plan.json", "audit plan.json",
              "check plan.json", "live plan.json script.txt", "save plan.json script.txt",
-             "resume plan.json saved.txt next.txt", "history orders.csv", "make 3", "--version"]
+             "resume plan.json saved.txt next.txt", "follow plan.json script.txt", "follow plan.json saved.txt next.txt",
+             "history orders.csv", "make 3", "--version"]
     for words in map(str.split, lines):
         plain, came = folder.plain(words), folder.run(words)
         differences.expect(came == plain and plain[0] == 0 and not plain[2], f"the words {words}", (plain, came))
@@ -330,8 +346,37 @@ def check_checkpoints(folder: Path, differences: Differences) -> int:
     return count
 
 
+def check_followed(folder: Path, differences: Differences) -> int:
+    """The same of each faulty line of random scripts that are followed, some of them behind a checkpoint."""
+    count = 0
+    for seed in range(RANDOM):
+        rng = random.Random(seed)
+        files = random_networks.random_script(rng, FOLLOWED_ODD, random_networks.SavedMaker)
+        lines = files["x.txt"].split(b"\n")
+        first = rng.randrange(len(lines)) if seed % 2 else 0
+        files["a.txt"], files["b.txt"] = b"".join(line + b"\n" for line in lines[:first]), b"\n".join(lines[first:])
+        saved = asked.read(["save", "plan.json", "a.txt"], files.get)
+        names = ["c.txt"] if saved.text else []
+        files["c.txt"] = saved.text
+        for name in ("b.txt", "c.txt"):
+            (folder / name).write_bytes(files[name])
+        sources = {one: types for one, (_, types) in Plan(files["plan.json"]).sources().items()}
+        place = events.Place(str(folder / "b.txt"), script=sources, is_followed=True,
+                             checkpoint=str(folder / "c.txt") if names else "")
+        for line in asked.read(["follow", "plan.json", *names, "b.txt"], files.get).err.splitlines():
+            number, fault = map(int, FOLLOWED.match(line).groups())
+            said = list(events.explained(place, number, fault))
+            is_said = not said[0].endswith(f"{event_line.FAULTS[fault]}") and "another one by now" not in said[0]
+            differences.expect(is_said, f"{line.decode()}, seed {seed}, followed", said)
+            count += 1
+    return count
+
+
 def check_commands(differences: Differences) -> None:
-    wanted = {one.name: one.words for one in doc_tables.commands() if one.words}
+    wanted = {}
+    for one in doc_tables.commands():
+        if one.words:
+            wanted.setdefault(one.name, []).append(one.words)
     differences.expect(wanted == commands.COMMANDS, "the commands of docs/program.md", wanted)
     alone = tuple(one.name for one in doc_tables.commands() if not one.words)
     differences.expect(alone == commands.ALONE, "the commands without words", alone)
@@ -348,9 +393,11 @@ def main() -> int:
         stand_ins = check_stand_ins(folder, differences) + check_status_kept(folder, differences)
         lines = check_lines(folder.path, differences)
         checkpoints = check_checkpoints(folder.path, differences)
+        followed = check_followed(folder.path, differences)
     plans = check_plans(differences)
     print(f"explained: {known} mistakes, {good} commands without one, {shown} of docs/, {stand_ins} with a stand-in "
-          f"for the program, {plans} plans, {lines} faulty lines and {checkpoints} checkpoints of the other checks: "
+          f"for the program, {plans} plans, {lines} faulty lines and {checkpoints} checkpoints of the other checks, {followed} faulty "
+          "lines of scripts that are followed: "
           f"{differences.count} differences")
     return 1 if differences.count else 0
 

@@ -348,7 +348,8 @@ def fill(folder: Path, files: dict) -> None:
 
 def check_answers(differences: Differences, folder: Path) -> int:
     """Dates, other commands, and what the program refuses."""
-    fill(folder, {"reports.csv": '+,1,10,20,"a, ""b""",5\n+,2,12,inf,c,6\n-,2,15\n', "s.txt": "reports,+,1,10,20,a,5\n?\nreports,=,30\n?\n"})
+    fill(folder, {"reports.csv": '+,1,10,20,"a, ""b""",5\n+,2,12,inf,c,6\n-,2,15\n', "s.txt": "reports,+,1,10,20,a,5\n?\nreports,=,30\n?\n",
+                  "c.txt": "checkpoint,1\nsource,reports,30\n1,10,40,a,5\nend\n", "n.txt": "reports,-,1,35\n", "f.txt": "reports,\n"})
     header, row = b"begin,end,machine,load\n", b'10,20,"a, ""b""",5\n'
     text_of = GOOD.encode()
     day = b"unit day\nepoch 2026-03-02\n" + text_of
@@ -359,6 +360,12 @@ def check_answers(differences: Differences, folder: Path) -> int:
         (["ask", "-", "live", "s.txt"], text_of, (0, header + b"10,20,a,5\n. 0\n10,20,a,5\n. 30\n", b"")),
         (["ask", "-", "live", "s.txt"], day, (0, header + b"2026-03-12T00:00:00Z,2026-03-22T00:00:00Z,a,5\n. 2026-03-02T00:00:00Z\n"
                                               b"2026-03-12T00:00:00Z,2026-03-22T00:00:00Z,a,5\n. 2026-04-01T00:00:00Z\n", b"")),
+        (["ask", "-", "follow", "s.txt"], text_of, (0, b"change,new_end," + header + b"+,,10,20,a,5\n=,,30,,,\n", b"")),
+        (["ask", "-", "follow", "s.txt"], day, (0, b"change,new_end," + header + b"+,,2026-03-12T00:00:00Z,2026-03-22T00:00:00Z,a,5\n"
+                                                b"=,,2026-04-01T00:00:00Z,,,\n", b"")),
+        (["ask", "-", "follow", "c.txt", "n.txt"], text_of, (0, b"change,new_end," + header + b"-,35,10,40,a,5\n", b"")),
+        (["ask", "-", "follow", "c.txt", "f.txt"], text_of,
+         (3, b"change,new_end," + header, b"f.txt:1: Nothing stands behind `reports,`. An event line of that source must.\n> 1 | reports,\n")),
         (["ask", "-", "save", "s.txt"], text_of, (0, b"checkpoint,1\nsource,reports,30\n1,10,20,a,5\nend\n", b"")),
         (["ask", "-", "stream"], text_of.replace(b"output reports", b"output reports strong"),
          (0, b"change,new_end," + header + b"+,,12,15,c,6\n+,," + row, b"")),

@@ -25,8 +25,14 @@ class Spot(NamedTuple):
     last: int = -1
 
 
-def explained(file: str, sources: dict, number: int, script: str) -> Iterator[str]:
-    """Sentences about the bad line of this number. The sources have their types by their names."""
+class Beside(NamedTuple):
+    """What was called with the checkpoint: the script and the command."""
+    script: str
+    command: str
+
+
+def explained(file: str, sources: dict, number: int, script: str, command: str = "resume") -> Iterator[str]:
+    """Sentences about the bad line of this number, told by a command. The sources have their types by their names."""
     if not is_regular(file):
         yield f"{file}:{number}: {BARE} The line can't be shown, since {file} is a pipe and can't be read again."
         return
@@ -39,7 +45,7 @@ def explained(file: str, sources: dict, number: int, script: str) -> Iterator[st
         if number > len(lines):
             yield from too_short(file, lines)
         else:
-            yield from bad_line(file, sources, number, lines, script)
+            yield from bad_line(file, sources, number, lines, Beside(script, command))
         lines = [line.removesuffix(b"\n") for line in lines]
         yield from (f"{'>' if place == number else ' '} {place:>{len(str(number + 1))}} | {excerpt(line)}"
                     for place, line in list(enumerate(lines, 1))[max(0, number - 2):])
@@ -66,11 +72,11 @@ def too_short(file: str, lines: list) -> Iterator[str]:
                "off, or isn't written to its end. Save it anew.")
 
 
-def bad_line(file: str, sources: dict, number: int, lines: list, script: str) -> Iterator[str]:
+def bad_line(file: str, sources: dict, number: int, lines: list, beside: Beside) -> Iterator[str]:
     line = lines[number - 1].removesuffix(b"\n")
     spot = spot_behind(lines[: number - 1])
     try:
-        check(line, spot, sources, script, number)
+        check(line, spot, sources, beside, number)
         found = [f"{BARE} The file may be another one by now: as it is, nothing is wrong with this line."]
     except LineFault as fault:
         found = list(fault.sentences)
@@ -89,11 +95,11 @@ def spot_behind(lines: list) -> Spot:
     return Spot(begun, END + b"\n" in lines[-1:], last)
 
 
-def check(line: bytes, spot: Spot, sources: dict, script: str, number: int) -> None:
+def check(line: bytes, spot: Spot, sources: dict, beside: Beside, number: int) -> None:
     """Raises what is wrong with a line at this spot."""
     names = list(sources)
     if number == 1:
-        check_head(line, names, script)
+        check_head(line, names, beside)
     elif spot.has_ended:
         raise LineFault(0, "Behind the line `end` nothing may stand, not even an empty line.")
     elif line.endswith(b"\r"):
@@ -118,7 +124,7 @@ def next_line(names: list) -> str:
     return f"the next source, `source,{names[0]},MARK`," if names else "the last line, `end`,"
 
 
-def check_head(line: bytes, names: list, script: str) -> None:
+def check_head(line: bytes, names: list, beside: Beside) -> None:
     if line == HEAD:
         return
     told = f"The first line of a checkpoint is `{HEAD.decode()}`, and not {shown(line)}."
@@ -126,8 +132,9 @@ def check_head(line: bytes, names: list, script: str) -> None:
         told = f"A carriage return stands at its end. {ANEW}"
     elif line.startswith(b"\xef\xbb\xbf"):
         told += " The file begins with a byte order mark, which no checkpoint has."
-    elif begins_checkpoint(script):
-        told += f" `{script}` begins with it: the checkpoint stands before the script, `cedr resume PLAN CHECKPOINT SCRIPT`."
+    elif begins_checkpoint(beside.script):
+        told += (f" `{beside.script}` begins with it: the checkpoint stands before the script, "
+                 f"`cedr {beside.command} PLAN CHECKPOINT SCRIPT`.")
     elif line[:2] in [kind + b"," for kind in FORMS] or line == b"?" or line.partition(b",")[0].decode("latin-1") in names:
         told += " This is a script or an event file; `cedr save PLAN SCRIPT` makes a checkpoint of a script."
     raise LineFault(0, told)

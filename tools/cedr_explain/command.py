@@ -29,6 +29,7 @@ HELP = """usage: cedr-explain [--progress[=SECONDS]] COMMAND WORD..
 Runs `cedr COMMAND WORD..`, hands on all that it writes, and ends with its status. Where it
 refuses, sentences follow its line on standard error: what was wrong, where it stands, and
 what would be right. Where a plan is accepted, its members that say nothing are named.
+Of a script that is followed the first 20 faulty lines are explained, each when it comes.
 
     cedr-explain check plan.json
     cedr-explain run plan.json > answer.csv
@@ -56,6 +57,8 @@ EVENTS_FAULT = re.compile(rb"events (.*) line %b fault %b" % (NUMBER, NUMBER) + 
 CHECKPOINT_FAULT = re.compile(rb"checkpoint line %b" % NUMBER)
 # So many letters of a plan's line are shown before and behind the place of a fault.
 SEEN_BEFORE, SEEN_BEHIND = 50, 50
+# So many faulty lines of a script that is followed are explained.
+MOST_FOLLOWED = 20
 # Where standard error is closed there is nobody to tell, and the program is run all the same.
 ERRORS = sys.stderr.buffer if sys.stderr else open(os.devnull, "wb")
 HERE = Path(__file__).resolve().parent.parent
@@ -144,7 +147,8 @@ def followed(process: subprocess.Popen, call: Call, seconds: float | None) -> by
     signal.signal(signal.SIGINT, signal.SIG_IGN)  # the terminal sends it to the program too, whose end is waited for
     signal.signal(signal.SIGTERM, lambda *_: process.terminate())
     progress = Progress(guarded(lambda: files_of(call)) or {}, ERRORS) if seconds else None
-    copier = threading.Thread(target=handed_on, args=(process.stderr, told, progress))
+    follows = FollowedFaults(call) if call.follows() else None
+    copier = threading.Thread(target=handed_on, args=(process.stderr, told, progress, follows))
     copier.start()
     while True:
         try:
@@ -159,8 +163,9 @@ def followed(process: subprocess.Popen, call: Call, seconds: float | None) -> by
     return b"".join(told)
 
 
-def handed_on(stream, told: list, progress: Progress | None) -> None:
-    """Hands on what the program writes to standard error up to its end, and gathers it in `told`."""
+def handed_on(stream, told: list, progress: Progress | None, follows: FollowedFaults | None) -> None:
+    """Hands on what the program writes to standard error up to its end, and gathers it in `told`, but for the faults of a script that
+    is followed. These are explained as they come."""
     while True:
         piece = os.read(stream.fileno(), 65_536)
         if not piece:
@@ -169,6 +174,32 @@ def handed_on(stream, told: list, progress: Progress | None) -> None:
         if progress:
             progress.end()
         written(piece)
+        if follows:
+            told[:] = [follows.left_of(b"".join(told))]
+
+
+class FollowedFaults:
+    """The faulty lines of a script that is followed, each explained when it is told."""
+
+    def __init__(self, call: Call, indent: str = "  ") -> None:
+        self.call, self.plan, self.count, self.indent = call, guarded(lambda: read_plan(call)), 0, indent
+        name = re.escape(os.fsencode(call.events()))
+        self.form = re.compile(rb"events %b line %b fault %b%b\n" % (name, NUMBER, NUMBER, CARRIED))
+
+    def left_of(self, told: bytes) -> bytes:
+        """Explains the whole lines at the front, and answers what stands behind them."""
+        while line := self.form.match(told):
+            told = told[line.end():]
+            guarded(lambda found=line[0]: tell(self.sentences(found.rstrip(b"\n")), self.indent))
+        return told
+
+    def sentences(self, line: bytes) -> Iterator[str]:
+        """For each line that is shown the script is read once more, so that ends after some."""
+        self.count += 1
+        if self.count <= MOST_FOLLOWED:
+            yield from of_events(self.call, self.plan, line)
+        if self.count == MOST_FOLLOWED:
+            yield f"These were {MOST_FOLLOWED} faulty lines. Further ones are told, and not explained."
 
 
 def files_of(call: Call) -> dict:
@@ -277,7 +308,7 @@ def of_checkpoint(call: Call, plan: Plan | None, line: bytes) -> Iterator[str]:
         yield f"{checkpoint.BARE} The plan can't be read again, so no more can be said."
         return
     sources = {name: types for name, (_, types) in plan.sources().items()}
-    yield from checkpoint.explained(call.checkpoint(), sources, int(reported[1]), call.events())
+    yield from checkpoint.explained(call.checkpoint(), sources, int(reported[1]), call.events(), call.command)
 
 
 def place_of(call: Call, plan: Plan | None, name: str) -> events.Place | None:
@@ -289,6 +320,6 @@ def place_of(call: Call, plan: Plan | None, name: str) -> events.Place | None:
     sources = plan.sources()
     if call.has_script():
         return events.Place(call.events(), script={one: types for one, (_, types) in sources.items()},
-                            checkpoint=call.checkpoint() or "")
+                            checkpoint=call.checkpoint() or "", is_followed=call.follows())
     file, types = sources.get(name, (None, None))
     return None if file is None else events.Place(file, name, types)

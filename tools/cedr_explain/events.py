@@ -3,8 +3,10 @@
 The file is read again line by line, and no more of it is kept than is told. A pipe can't be read again."""
 from __future__ import annotations
 
+import math
 import os
 import stat
+from itertools import count, takewhile
 from typing import Iterator, NamedTuple
 
 from cedr_explain.event_line import (BAD_END, BAD_FORM, FAULTS, FILE_BYTES, IDS, KNOWN_ID, LARGE_FILE, LINE_BYTES,
@@ -21,13 +23,17 @@ class Place(NamedTuple):
 
     `source` is the name of the source, where one file is read for it; `types` are None for a file without a plan. Where
     the file is a script, `script` has the types of the plan's sources by their names, and `checkpoint` is the file of the
-    checkpoint that it goes on from, if there is one.
+    checkpoint that it goes on from, if there is one. A script that `is_followed` goes on behind a faulty line, and has no limit.
     """
     file: str
     source: str = ""
     types: list | None = None
     script: dict | None = None
     checkpoint: str = ""
+    is_followed: bool = False
+
+    def limit(self) -> float:
+        return math.inf if self.is_followed else FILE_BYTES
 
 
 class Raw(NamedTuple):
@@ -57,7 +63,7 @@ def is_regular(file: str) -> bool:
 
 
 def of_file(place: Place, number: int, fault: int) -> Iterator[str]:
-    near = list(lines_of(place.file, number - 1, number + 1))
+    near = list(lines_of(place, number - 1, number + 1))
     line = next((raw for raw in near if raw.number == number), Raw(number, b"", False))
     found = Judged(place, line)
     if found.fault != fault:
@@ -78,12 +84,12 @@ def excerpt(data: bytes) -> str:
     return shown(data[:-1] if data.endswith(b"\r") else data, "", SHOWN_BYTES)
 
 
-def lines_of(file: str, first: int, last: int) -> Iterator[Raw]:
+def lines_of(place: Place, first: int, last: float) -> Iterator[Raw]:
     """The lines of these numbers, of the bytes that a file may have; of a long one only as much as shows that it is."""
-    left = FILE_BYTES
-    with open(file, "rb") as events:
-        is_larger = os.fstat(events.fileno()).st_size > FILE_BYTES
-        for number in range(1, last + 1):
+    left = place.limit()
+    with open(place.file, "rb") as events:
+        is_larger = os.fstat(events.fileno()).st_size > left
+        for number in takewhile(lambda one: one <= last, count(1)):
             data = events.readline(min(left, LINE_BYTES + 2))
             left -= len(data)
             kept = data
@@ -137,7 +143,8 @@ class Judged:
             raise LineFault(LARGE_FILE, f"The file has {size:,} bytes, and {limit}. {SPLITTING}")
         line = read_line(self.event_text(), self.types, self.raw.number == 1 and self.place.script is None)
         if line.kind in (b"+", b"~", b"-"):
-            self.judge_event(line, Trace(self.place, self.source, self.raw.number, line.identity))
+            trace_of = FollowedTrace if self.place.is_followed else Trace
+            self.judge_event(line, trace_of(self.place, self.source, self.raw.number, line.identity))
 
     def event_text(self) -> bytes:
         """The event line: of a script's line what stands behind the name of its source."""
@@ -174,6 +181,10 @@ class Judged:
                             f"Its ID, {identity}, was inserted before, by {trace.inserted}. Each insertion has an "
                             "ID of its own, even where that event was withdrawn. A line "
                             f"`~,{identity},BEGIN,END,FIELD..` gives that event another begin, end and other fields.")
+        if line.kind != b"+" and trace.over:
+            raise LineFault(UNKNOWN_ID,
+                            f"The event {identity} is over: by {trace.over}. A script that is followed forgets such an event, and "
+                            f"no line changes it any more. A line `+,{identity},BEGIN,END,FIELD..` makes a new event of that ID.")
         if line.kind != b"+" and not trace.inserted:
             later = f" Line {trace.inserted_later} does: it must stand before." if trace.inserted_later else ""
             also = " or that the checkpoint has" if self.place.checkpoint else ""
@@ -218,13 +229,14 @@ class Trace:
 
     def __init__(self, place: Place, source: str, before: int, identity: int) -> None:
         self.identity = identity
-        self.inserted = self.version = self.ended = self.marked = ""
+        self.inserted = self.version = self.ended = self.marked = self.over = ""
+        self.types = (place.script or {}).get(source)
         self.begin = self.end = self.mark = self.inserted_later = 0
         if place.checkpoint:
             self.go_on(place.checkpoint, source.encode())
         name = source.encode() + b"," if place.script is not None else b""
         digits = b"%d" % identity
-        for raw in lines_of(place.file, 1, FILE_BYTES):
+        for raw in lines_of(place, 1, place.limit()):
             # most lines are about other events, and are passed over by a look for its digits
             if (digits in raw.data or b"=" in raw.data) and raw.data.startswith(name):
                 self.take(raw.number, raw.data[len(name):], raw.number < before)
@@ -280,6 +292,48 @@ class Trace:
         if line.kind == b"+" or self.begin == self.end:
             return line.begin
         return min(line.begin, self.begin)
+
+
+class FollowedTrace(Trace):
+    """The same of a script that is followed: a faulty line of it says nothing, and an event that is over is forgotten. `over` says
+    by what it is."""
+
+    def take(self, number: int, data: bytes, is_before: bool) -> None:
+        try:
+            line = read_line(data, self.types, False)
+        except LineFault:
+            return
+        if line.kind == b"=" and is_before:
+            self.guarantee(number, line.end)
+        elif line.identity == self.identity and line.kind and (is_before or line.kind == b"+"):
+            self.follow(number, line, is_before)
+
+    def follow(self, number: int, line: Line, is_before: bool) -> None:
+        """Takes a line about the event that is in form, where it has no fault."""
+        is_known = line.kind == b"+" and not self.inserted or line.kind != b"+" and bool(self.inserted)
+        has_end = line.kind != b"-" or self.begin <= line.end < self.end
+        if not is_known or not has_end or self.sync_of(line) < self.mark:
+            return
+        if not is_before:
+            self.inserted_later = number
+            return
+        if line.kind == b"+":
+            self.inserted = self.over = ""
+        self.event(number, line.kind, [line.end] if line.kind == b"-" else [line.begin, line.end])
+
+    def guarantee(self, number: int, time: int) -> None:
+        super().guarantee(number, time)
+        self.forget()
+
+    def go_on(self, file: str, source: bytes) -> None:
+        super().go_on(file, source)
+        self.forget()
+
+    def forget(self) -> None:
+        """An event that ends below the guarantee isn't known any more."""
+        if self.inserted and self.end < self.mark:
+            self.over = f"{self.ended} it ends at {time_text(self.end)}, and {self.marked}, is above that"
+            self.inserted, self.begin, self.end = "", 0, 0
 
 
 def number_of(text: bytes) -> int:

@@ -16,7 +16,7 @@ VERSIONS = (1, 2)
 # The faults of a plan by number.
 TOO_LONG, BAD_JSON, MISSING_PART, UNKNOWN_OP, TOO_MANY, BAD_NUMBER, BAD_LEVEL = range(1, 8)
 TWICE_NAMED, UNKNOWN_NODE, TOO_WIDE, BAD_COLUMN, TYPE_DIFFERS, NOT_ONE_OUTPUT, UNUSED = range(8, 15)
-# An accepted plan has this one for `save` and `resume`.
+# An accepted plan has this one for `save`, `resume` and `follow`.
 UNSAVED = 15
 
 # What a fault is where more can't be said, since the plan can't be read again.

@@ -4,12 +4,13 @@ from __future__ import annotations
 from typing import Iterator
 
 import cedr_explain.advice as advice
-from cedr_explain.commands import ALONE, COMMANDS, MOST
+from cedr_explain.commands import ALONE, COMMANDS, MOST, kinds_of
 
 SAID_FOR_COMMANDS = {
     "help": "--help", "-h": "--help", "-help": "--help", "-?": "--help", "version": "--version", "-v": "--version",
     "-V": "--version", "exec": "run", "answer": "run", "execute": "run", "query": "run", "validate": "check",
-    "test": "check", "lint": "check", "show": "history", "cat": "history", "watch": "stream", "tail": "stream",
+    "test": "check", "lint": "check", "show": "history", "cat": "history", "watch": "stream", "tail": "follow",
+    "listen": "follow", "serve": "follow", "daemon": "follow",
     "checkpoint": "save", "snapshot": "save", "store": "save", "restore": "resume", "continue": "resume", "load": "resume",
     "parallel": "parts", "cores": "parts", "part": "parts", "shards": "parts", "threads": "pool", "bench": "make",
 }
@@ -45,16 +46,16 @@ def of_unknown(words: list) -> Iterator[str]:
 
 def of_command(command: str, given: list) -> Iterator[str]:
     """What is wrong with the words behind a command."""
-    kinds = COMMANDS[command]
-    form = f"`cedr {' '.join([command, *kinds])}`"
-    if len(given) != len(kinds):
+    kinds = kinds_of(command, len(given))
+    form = " or ".join(f"`cedr {' '.join([command, *words])}`" for words in COMMANDS[command])
+    if kinds is None:
         told = "no word" if not given else "one word" if len(given) == 1 else f"{len(given)} words"
         yield f"Behind `{command}` {'stands' if len(given) < 2 else 'stand'} {told}; it is called as {form}."
         options = [word for word in given if word.startswith("-") and word != "-"]
         if options:
             yield (f"`{options[0]}` would be an option, and the program has none but `--help` and `--version`, which "
                    "stand alone.")
-        elif len(given) > len(kinds):
+        elif len(given) > max(map(len, COMMANDS[command])):
             yield "A name with a blank in it stands between quotes."
         return
     yield from (f"The word `{shown(word)}` isn't UTF-8." for word in given if not is_utf8(word))

@@ -13,7 +13,7 @@ import cedr_explain.command as explained
 import cedr_explain.language as language
 import cedr_explain.outside as outside
 import cedr_explain.usage as usage
-from cedr_explain.commands import COMMANDS, Call
+from cedr_explain.commands import COMMANDS, Call, kinds_of
 from cedr_explain.plan import Plan as Document
 from cedr_plan.plan import Plan
 from cedr_plan.refused import (BAD_CHECKPOINT, BAD_EVENTS, BAD_PLAN, DONE, NO_MEMORY, NO_PROGRAM, UNREAD, UNSTARTED,
@@ -22,9 +22,10 @@ from cedr_plan.refused import (BAD_CHECKPOINT, BAD_EVENTS, BAD_PLAN, DONE, NO_ME
 # What the commands write that answer a plan: rows, changes of rows, or something that is handed on as it is.
 FRONT = {"run": ("begin", "end"), "pool": ("begin", "end"), "parts": ("begin", "end"), "serial": ("begin", "end"),
          "audit": ("begin", "end"), "live": ("begin", "end"), "resume": ("begin", "end"),
-         "stream": ("change", "new_end", "begin", "end"), "save": ()}
+         "stream": ("change", "new_end", "begin", "end"), "follow": ("change", "new_end", "begin", "end"), "save": ()}
 FORGOTTEN = b"--"
 SHOWN = b". "
+PROMISE = b"=,"
 
 
 class Asked(NamedTuple):
@@ -39,9 +40,10 @@ class Asked(NamedTuple):
 
     def call(self, document: str) -> list:
         """The words for the program, with the document in the place of the plan."""
-        kinds, given = COMMANDS.get(self.command(), ()), list(self.words[1:])
-        if self.command() not in FRONT or len(given) != len(kinds) - 1:
-            forms = ", ".join(" ".join([one, *(kind for kind in COMMANDS[one] if kind != "PLAN")]) for one in FRONT)
+        given = list(self.words[1:])
+        kinds = kinds_of(self.command(), len(given) + 1)
+        if self.command() not in FRONT or kinds is None:
+            forms = ", ".join(" ".join([one, *(kind for kind in words if kind != "PLAN")]) for one in FRONT for words in COMMANDS[one])
             raise Failed(USAGE, f"cedr-plan: `{' '.join(self.words)}` is no command that answers a plan. They are {forms}.")
         return [self.command(), *(document if kind == "PLAN" else given.pop(0) for kind in kinds)]
 
@@ -65,14 +67,28 @@ def with_program(asked: Asked, command: str, write) -> int:
             process = subprocess.Popen([program, *words], stdout=subprocess.PIPE, stderr=subprocess.PIPE)
         except OSError as error:
             raise Failed(UNSTARTED, f"cedr-plan: {program} can't be started: {error.strerror}") from None
-        told = handed_on(process, write)
+        call = Call(words)
+        told = handed_on(process, write, Faults(call) if call.follows() else None)
         return status_of(asked, words, process.returncode, told)
 
 
-def handed_on(process: subprocess.Popen, write) -> list:
-    """Hands on each line of standard output as it comes, and answers the lines of standard error."""
+class Faults(explained.FollowedFaults):
+    """The faulty lines of a script that is followed. One that isn't explained any more is told as the program does."""
+
+    def __init__(self, call: Call) -> None:
+        super().__init__(call, "")
+
+    def sentences(self, line: bytes) -> Iterator[str]:
+        yield from super().sentences(line)
+        if self.count > explained.MOST_FOLLOWED:
+            yield os.fsdecode(line)
+
+
+def handed_on(process: subprocess.Popen, write, follows: Faults | None) -> list:
+    """Hands on each line of standard output as it comes, and answers the lines of standard error, but for those faults that are
+    explained as they come."""
     told = []
-    reader = threading.Thread(target=lambda: told.extend(process.stderr.read().split(b"\n")[:-1]))
+    reader = threading.Thread(target=lambda: told.extend(gathered(process.stderr.fileno(), follows)))
     reader.start()
     try:
         for line in process.stdout:
@@ -84,9 +100,16 @@ def handed_on(process: subprocess.Popen, write) -> list:
         process.stdout.close()
         process.wait()
         reader.join()
-    if not process.returncode:
+    if process.returncode in (DONE, BAD_EVENTS if follows else DONE):
         write(None)
     return told
+
+
+def gathered(stream: int, follows: Faults | None) -> list:
+    told = b""
+    while piece := os.read(stream, 65_536):
+        told = follows.left_of(told + piece) if follows else told + piece
+    return told.split(b"\n")[:-1]
 
 
 def status_of(asked: Asked, words: list, status: int, told: list) -> int:
@@ -94,7 +117,8 @@ def status_of(asked: Asked, words: list, status: int, told: list) -> int:
     lines = list(refusal(asked, words, status, told)) if status else []
     if lines:
         raise Failed(status if status > 0 else 128 - status, *lines)
-    return DONE
+    # of a script that is followed each faulty line was told when it came
+    return status if status == BAD_EVENTS else DONE
 
 
 def put(data: bytes) -> None:
@@ -111,7 +135,9 @@ class Rows:
 
     def __init__(self, asked: Asked) -> None:
         self.calendar, self.front = asked.plan.calendar, FRONT.get(asked.command(), ())
-        self.header = csv_line([*self.front, *(".".join(one.name) for one in asked.plan.output_columns())]) if self.front else b""
+        names = [".".join(one.name) for one in asked.plan.output_columns()]
+        self.header = csv_line([*self.front, *names]) if self.front else b""
+        self.width = len(self.front) + len(names)
         self.is_list = False
 
     def write(self, line: bytes | None) -> None:
@@ -126,6 +152,8 @@ class Rows:
             return line
         if line.startswith(SHOWN):
             return SHOWN + self.date(line[len(SHOWN):])
+        if line.startswith(PROMISE):
+            return b"=,," + self.date(line[len(PROMISE):]) + b"," * (self.width - len(b"=,,"))
         if line.startswith(b"+,"):
             line = b"+,," + line[2:]
         *times, rest = line.split(b",", len(self.front))if line.count(b",") >= len(self.front) else [*line.split(b","), None]

@@ -30,15 +30,15 @@ check FILE    asks the program for the types of each node, and writes them behin
 ask FILE [COMMAND WORD..]
               runs the program and writes its answer as a CSV with a header; times are dates
               where the text has a `unit` and an `epoch`. COMMAND is `run`, or one of pool N,
-              parts N, serial, audit, stream, live SCRIPT, save SCRIPT and resume CHECKPOINT
-              SCRIPT
+              parts N, serial, audit, stream, live SCRIPT, save SCRIPT, resume CHECKPOINT
+              SCRIPT, follow SCRIPT and follow CHECKPOINT SCRIPT
 --help        prints this text
 
 FILE is `-` for standard input. The words are read by lark: apt-get install
 python3-lark. The program is the one that the variable CEDR names, else the one that was built
 or installed with this tool, else `cedr` on the path. What is refused is told on standard
-error with its file, line and column, and nothing is written then, but by stream, live and
-resume, which write as they go.
+error with its file, line and column, and nothing is written then, but by stream, live,
+resume and follow, which write as they go.
 
 Exit status: that of the program (2: the text or the document is refused; 3: a line of an
 event file has a fault; 4: a file can't be read; 5: a write was refused; 1: the words match no
