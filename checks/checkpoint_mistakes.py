@@ -1,8 +1,8 @@
-"""The same as mistakes.py of those who save and resume: files that aren't checkpoints, plans that can't be saved, and faults of
-scripts that go on from a checkpoint.
+"""The same as mistakes.py of those who save, resume and follow: files that aren't checkpoints, plans that can't be saved, and faults
+of scripts that go on from a checkpoint or are followed.
 
 What `cedr-explain` says of each is written by hand, from docs/program.md and docs/faults.md."""
-from mistakes import Mistake
+from mistakes import Mistake, in_words
 
 RESUME = "resume plan.json saved.txt next.txt"
 ANEW = "`cedr save` makes a checkpoint of a script, and each of its lines has one spelling."
@@ -28,6 +28,12 @@ def in_script(name: str, words: str, told: str, old: str, new: str, *lines: str)
     """A mistake in next.txt, or in script.txt for `save`."""
     file = words.split()[-1]
     return Mistake(name, words, 3, f"events {file} {told}", [*lines], file, old, new)
+
+
+def followed(name: str, told: str, text: str, *lines: str) -> Mistake:
+    """A mistake in a script that is followed, behind the insertion of one event."""
+    return Mistake(name, "follow plan.json script.txt", 3, f"events script.txt {told}", [*lines], "script.txt", "",
+                   f"orders,+,1,1000,1001,A1,250\n{text}")
 
 
 def of_its_own(identity: int) -> str:
@@ -139,4 +145,35 @@ IN_SCRIPTS = [
     Mistake("a checkpoint that isn't there", "resume plan.json saves.txt next.txt", 4, "read fault",
             ["The checkpoint, `saves.txt`, can't be read: there is no such file. Perhaps `saved.txt` is meant."]),
 ]
-ALL = [*AT_HEAD, *AT_SOURCES, *AT_EVENTS, *AT_ENDS, *IN_PLANS, *IN_SCRIPTS]
+OVER = "A script that is followed forgets such an event, and no line changes it any more."
+IN_FOLLOWED = [
+    followed("a retraction of an event that is over", "line 3 fault 7", "orders,=,1002\norders,-,1,1000\n",
+             "script.txt:3: The event 1 is over: by line 1 it ends at 1001, and line 2, `=,1002`, is above that. "
+             f"{OVER} A line `+,1,BEGIN,END,FIELD..` makes a new event of that ID.",
+             "  2 | orders,=,1002", "> 3 | orders,-,1,1000"),
+    followed("a revision of what was withdrawn before the guarantee", "line 4 fault 7",
+             "orders,-,1,1000\norders,=,1001\norders,~,1,2000,2001,A1,250\n",
+             "script.txt:4: The event 1 is over: by line 2 it ends at 1000, and line 3, `=,1001`, is above that. "
+             f"{OVER} A line `+,1,BEGIN,END,FIELD..` makes a new event of that ID."),
+    followed("an ID that is used anew, twice", "line 4 fault 6",
+             "orders,=,1002\norders,+,1,1002,1003,A2,40\norders,+,1,1004,1005,A3,700\n",
+             f"script.txt:4: Its ID, 1, was inserted before, by line 3. {of_its_own(1)}"),
+    followed("no source, in a script that is followed", "line 2 fault 2", "order,=,1002\norders,-,1,1000\n",
+             "script.txt:2: A line of a script is `?` alone, or the name of a source, a comma and an event line of it. `order` is no "
+             "source. The plan's sources are orders, payments."),
+    Mistake("an event of the checkpoint that is over", "follow plan.json saved.txt next.txt", 3, "events next.txt line 2 fault 7",
+            ["next.txt:2: The event 1 is over: by line 3 of `saved.txt` it ends at 1001, and line 1, `=,1002`, is above that. "
+             f"{OVER} A line `+,1,BEGIN,END,FIELD..` makes a new event of that ID."],
+            "next.txt", "", "orders,=,1002\norders,-,1,1000\n"),
+    in_plan("a level with a memory, to be followed", "follow plan.json script.txt", 7, '"level":"strong"', LEVEL, '3600}}]}',
+            f'The level\'s `memory` is 3600. In a plan that is saved each memory is "inf". {WHY}'),
+    Mistake("the script before the checkpoint, to be followed", "follow plan.json next.txt saved.txt", 7, "checkpoint line 1",
+            ["next.txt:1: The first line of a checkpoint is `checkpoint,1`, and not `orders,+,3,3000,3001,A3,700`. `saved.txt` "
+             "begins with it: the checkpoint stands before the script, `cedr follow PLAN CHECKPOINT SCRIPT`."]),
+    Mistake("a script to follow that isn't there", "follow plan.json scripts.txt", 4, "read fault",
+            ["The script, `scripts.txt`, can't be read: there is no such file. Perhaps `script.txt` is meant."]),
+    in_words("no script to follow", "follow plan.json",
+             "Behind `follow` stands one word; it is called as `cedr follow PLAN SCRIPT` or `cedr follow PLAN CHECKPOINT SCRIPT`."),
+    in_words("a word of another tool for following", "tail plan.json script.txt", "`tail` is no command. Perhaps `follow` is meant."),
+]
+ALL = [*AT_HEAD, *AT_SOURCES, *AT_EVENTS, *AT_ENDS, *IN_PLANS, *IN_SCRIPTS, *IN_FOLLOWED]

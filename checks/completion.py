@@ -164,6 +164,11 @@ TRIED = [
     (["cedr", "resume", "plan.json", "plan.t"], ["plan.txt"]),
     (["cedr", "resume", "plan.json", "plan.txt", "ev"], ["events.csv"]),
     (["cedr", "resume", "plan.json", "plan.txt", "events.csv", "ev"], []),
+    (["cedr", "fo"], ["follow"]),
+    (["cedr", "follow", "sec"], ["second plan.json"]),
+    (["cedr", "follow", "plan.json", "ev"], ["events.csv"]),
+    (["cedr", "follow", "plan.json", "plan.txt", "ev"], ["events.csv"]),
+    (["cedr", "follow", "plan.json", "plan.txt", "events.csv", "ev"], []),
     (["cedr", "pool", "16"], ["16"]),
     (["cedr", "pool", "4", "pl"], ["plan.json"]),
     (["cedr", "make", "1"], []),
@@ -179,9 +184,18 @@ TRIED = [
     (["cedr-plan", "ask", "events.csv", "hist"], []),
     (["cedr-plan", "ask", "events.csv", "pool", "16"], ["16"]),
     (["cedr-plan", "ask", "events.csv", "resume", "plan.json", "ev"], ["events.csv"]),
+    (["cedr-plan", "ask", "events.csv", "follow", "plan.t"], ["plan.txt"]),
     (["cedr-plan", "ask", "events.csv", "run", "ev"], []),
     (["cedr-plan", "check", "events.csv", "ev"], []),
 ]
+
+
+def by_name() -> list:
+    """The commands, each once: what is said of its first form, and the words of its longest one. In the others files stand where
+    files stand in that."""
+    first = {one.name: one for one in reversed(commands())}
+    longest = {one.name: one for one in sorted(commands(), key=lambda one: len(one.words))}
+    return [first[name]._replace(words=longest[name].words) for name in dict.fromkeys(one.name for one in commands())]
 
 
 def kinds(command: Command) -> str:
@@ -197,18 +211,18 @@ def about(command: Command) -> str:
 
 
 def bash_text() -> str:
-    words = "\n".join(f"    {one.name}) echo '{kinds(one)}' ;;" for one in commands())
-    return of_plan(BASH_TEXT).replace("@WORDS@", words).replace("@NAMES@", " ".join(one.name for one in commands()))
+    words = "\n".join(f"    {one.name}) echo '{kinds(one)}' ;;" for one in by_name())
+    return of_plan(BASH_TEXT).replace("@WORDS@", words).replace("@NAMES@", " ".join(one.name for one in by_name()))
 
 
 def of_plan(text: str) -> str:
-    asked = " ".join(one.name for one in commands() if one.name not in NOT_ASKED)
+    asked = " ".join(one.name for one in by_name() if one.name not in NOT_ASKED)
     return text.replace("@OF_PLAN@", OF_PLAN).replace("@ASKED@", asked)
 
 
 def zsh_text() -> str:
-    lines = "\n".join(f"    '{one.name}:{about(one)}'" for one in commands())
-    words = "\n".join(f"    {one.name} '{kinds(one)}'" for one in commands())
+    lines = "\n".join(f"    '{one.name}:{about(one)}'" for one in by_name())
+    words = "\n".join(f"    {one.name} '{kinds(one)}'" for one in by_name())
     return of_plan(ZSH_TEXT).replace("@COMMANDS@", lines).replace("@WORDS@", words)
 
 
@@ -294,7 +308,7 @@ def main() -> int:
         for name in FILES:
             Path(folder, name).touch()
         tried = [check_bash(Path(folder), differ), check_zsh(Path(folder), Path(home), differ)]
-    summary = f"completion: of {len(commands())} commands, {', '.join(tried)}: {len(differ)} differences"
+    summary = f"completion: of {len(by_name())} commands, {', '.join(tried)}: {len(differ)} differences"
     print("\n".join([*differ, summary]))
     return 1 if differ else 0
 

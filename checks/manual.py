@@ -158,7 +158,7 @@ def levels() -> str:
 
 def page() -> str:
     version = VERSION.search((ROOT / "crates/cedr/src/main.rt").read_text())[1]
-    plans, program = "docs/plans.md", "docs/program.md"
+    plans, program, followed = "docs/plans.md", "docs/program.md", "## A script that is followed"
     parts = [
         titled("SYNOPSIS", synopsis()),
         titled("DESCRIPTION", told(paragraphs("README.md", "# CEDR")[:1])),
@@ -179,6 +179,8 @@ def page() -> str:
         titled("CHECKPOINTS",
                told(paragraphs(program, "## Checkpoints")[:2]), entries(table(program, "## Checkpoints")),
                told(paragraphs(program, "## Checkpoints")[4:])),
+        titled("A SCRIPT THAT IS FOLLOWED",
+               told(paragraphs(program, followed)[:2]), entries(table(program, followed)), told(paragraphs(program, followed)[2:])),
         titled("THE ORDER OF ROWS", told(paragraphs(program, "## The order of rows"))),
         titled("EXIT STATUS", statuses()),
         titled("FAULTS OF A LINE", line_faults()),

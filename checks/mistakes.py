@@ -28,7 +28,8 @@ WHOLE = "It must be a whole number from 0 to 4,611,686,018,427,387,903, in digit
 SPAN = "It must be a whole number from 1 to 1,099,511,627,776"
 MANY = "9" * 5_000
 USAGE = ("usage: cedr history FILE | check PLAN | serial PLAN | run PLAN | stream PLAN | audit PLAN | "
-         "live PLAN SCRIPT | make N | pool N PLAN | parts N PLAN | save PLAN SCRIPT | resume PLAN CHECKPOINT SCRIPT")
+         "live PLAN SCRIPT | make N | pool N PLAN | parts N PLAN | save PLAN SCRIPT | resume PLAN CHECKPOINT SCRIPT | "
+         "follow PLAN SCRIPT | follow PLAN CHECKPOINT SCRIPT")
 
 
 class Mistake(NamedTuple):

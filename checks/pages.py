@@ -5,7 +5,9 @@ import re
 from itertools import zip_longest
 from pathlib import Path
 
+import network_texts
 import picture
+import reference
 from network_cases import NetworkCase
 from program import Case
 
@@ -22,12 +24,18 @@ PLAN = re.compile(r"`(\S+\.json)`:\n\n```json\n(.*?)```", re.DOTALL)
 AFTER = re.compile(r"refused as it says, (after the two lines [^:]*):")
 FAULT = re.compile(r"^\| (\d), [^|]*\| `([^`]*)`(?: and ([\d,]*) letters)? \| `([^`]*)` \|$", re.MULTILINE)
 TYPED = re.compile(r"With the plan\n\n```json\n(.*?)```\n\n`run` refuses the line `(.*?)` of `e.csv` as `(.*?)`", re.DOTALL)
-UNSAVED = re.compile(r"```json\n([^`]*)```\n\n`save` and `resume` end with `(.*?)`")
+UNSAVED = re.compile(r"```json\n([^`]*)```\n\n`save`, `resume` and `follow` end with `(.*?)`")
+FOLLOWED = re.compile(r"With the plan\n\n```json\n([^`]*)```\n\nthe script `(.*?)`\n\n```text\n(.*?)```\n\ngives the changes\n\n"
+                      r"```text\n(.*?)```[^`]*```text\n(.*?)```", re.DOTALL)
+OVER = re.compile(r"after the lines ((?:`[^`]*`,? *(?:and )?\n?(?:and )?)+), of which the last one makes both events be over:")
+OVER_ROW = re.compile(r"^\| `([^`]*)` \| (?:`(line [^`]*)`|accepted) \| (?:`(line [^`]*)`|accepted) \|$", re.MULTILINE)
 CHECKPOINT = re.compile(r"this is a checkpoint:\n\n```text\n(.*?)```", re.DOTALL)
 SPOILT = re.compile(r"^\| [^|]* \| `([^`]*)` becomes (?:`([^`]*)`|nothing) \| `(checkpoint line \d+)` \|$", re.MULTILINE)
 LARGE = re.compile(r"A file of ([\d,]*) lines of `=,` and ([\d,]*) zeros, and a letter more, is refused as `(.*?)`")
 LINK = re.compile(r"\]\(([^)#]*)(?:#([^)]*))?\)")
 HEADING = re.compile(r"^#+ (.*)$", re.MULTILINE)
+UNSAVED_WORDS = [["save", "plan.json", "x.txt"], ["resume", "plan.json", "c.txt", "x.txt"], ["follow", "plan.json", "x.txt"],
+                 ["follow", "plan.json", "c.txt", "x.txt"]]
 LEVELS = ["strong.json", "middle.json", "weak.json"]
 
 
@@ -93,6 +101,7 @@ def faults(page: str):
     plan, line, told = TYPED.search(page).groups()
     yield refused("5", {"plan.json": plan.encode(), "e.csv": line.encode()}, ["run", "plan.json"], told)
     yield from checkpoint_faults(page, {"plan.json": plan.encode()})
+    yield from followed_faults(page)
     lines, zeros, told = LARGE.search(page).groups()
     data = ("=," + "0" * number_of(zeros) + "\n") * number_of(lines) + "x"
     yield refused("10", {"e.csv": data.encode()}, ["history", "e.csv"], told)
@@ -101,7 +110,7 @@ def faults(page: str):
 def checkpoint_faults(page: str, files: dict):
     """A plan that can't be saved, and each row of the table of checkpoints, in which slashes stand for line feeds."""
     plan, told = UNSAVED.search(page).groups()
-    for words in (["save", "plan.json", "x.txt"], ["resume", "plan.json", "c.txt", "x.txt"]):
+    for words in UNSAVED_WORDS:
         yield refused("15", {"plan.json": plan.encode()}, words, told, 2)
     text, changes = CHECKPOINT.search(page)[1], SPOILT.findall(page)
     if len(changes) != len(re.findall(r"`checkpoint line \d+` \|$", page, re.MULTILINE)):
@@ -113,6 +122,28 @@ def checkpoint_faults(page: str, files: dict):
         if text.count(old) != 1:
             raise PageError(f"{old} doesn't stand once in the checkpoint of the page")
         yield refused(f"{told} for {new}", {**files, "c.txt": text.replace(old, new).encode()}, words, told, 7)
+
+
+def followed_faults(page: str):
+    """The script whose faulty lines end nothing, and each row of the table of lines about events that are over."""
+    plan, name, script, out, err = FOLLOWED.search(page).groups()
+    files, words = {"plan.json": plan.encode()}, ["follow", "plan.json", name]
+    yield NetworkCase(f"{name} of docs/faults.md", {**files, name: script.encode()}, words, 3, out.encode(), err.encode())
+    before, rows = TEXT.findall(OVER.search(page)[1]), OVER_ROW.findall(page)
+    if (len(before), len(rows)) != (4, 7):
+        raise PageError("the lines about events that are over aren't in form")
+    for line, of_file, of_script in rows:
+        lines = [*before, line]
+        yield over({"e.csv": "".join(f"{one}\n" for one in lines).encode()}, ["history", "e.csv"], of_file)
+        yield over({**files, name: "".join(f"e,{one}\n" for one in lines).encode()}, words, of_script)
+
+
+def over(files: dict, words: list, told: str) -> NetworkCase:
+    """A line that has the fault which the page tells, or none. What is written is what the reference writes."""
+    name = words[-1]
+    out = reference.history(name, files[name])[1] if words[0] == "history" else network_texts.answer(words, files.get)[1]
+    err = f"events {name} {told}\n".encode() if told else b""
+    return NetworkCase(f"{told or 'an accepted line'} of {words[0]}, as docs/faults.md has it", files, words, 3 if told else 0, out, err)
 
 
 def refused(number: str, files: dict, words: list, told: str, status: int = 3) -> NetworkCase:

@@ -11,6 +11,7 @@ _cedr_words() {
     live) echo 'PLAN SCRIPT' ;;
     save) echo 'PLAN SCRIPT' ;;
     resume) echo 'PLAN CHECKPOINT SCRIPT' ;;
+    follow) echo 'PLAN CHECKPOINT SCRIPT' ;;
     serial) echo 'PLAN' ;;
     audit) echo 'PLAN' ;;
     check) echo 'PLAN' ;;
@@ -47,7 +48,7 @@ _cedr() {
     _cedr_kind "${kinds[COMP_CWORD - at - 1]-}"
     return
   fi
-  offered='run stream pool parts live save resume serial audit check history make --help --version'
+  offered='run stream pool parts live save resume follow serial audit check history make --help --version'
   if [[ ${COMP_WORDS[0]##*/} == cedr-explain ]]; then offered+=' --progress'; fi
   mapfile -t COMPREPLY < <(compgen -W "$offered" -- "$word")
 }
@@ -60,7 +61,7 @@ _cedr_plan() {
     1:*) mapfile -t COMPREPLY < <(compgen -W 'compile words check ask --help' -- "$word") ;;
     2:words) _cedr_kind PLAN ;;
     2:compile | 2:check | 2:ask) _cedr_kind FILE ;;
-    3:ask) mapfile -t COMPREPLY < <(compgen -W 'run stream pool parts live save resume serial audit' -- "$word") ;;
+    3:ask) mapfile -t COMPREPLY < <(compgen -W 'run stream pool parts live save resume follow serial audit' -- "$word") ;;
     *:ask)
       kinds=$(_cedr_words "${COMP_WORDS[3]}") || return
       read -ra kinds <<< "${kinds/PLAN/}"
