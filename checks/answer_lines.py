@@ -7,6 +7,7 @@ from reference import Fault, fields_of, time_of
 
 LIST_MARK = b"--\n"
 REACH_MARK = b". "
+PROMISE = b"=,"
 
 
 class Unlawful(Exception):
@@ -49,6 +50,11 @@ def mark_of(line: bytes) -> int:
     if not line.startswith(REACH_MARK):
         raise ValueError
     return time_of(line.removeprefix(REACH_MARK).removesuffix(b"\n"))
+
+
+@reading
+def promise_of(line: bytes) -> int:
+    return time_of(line.removeprefix(PROMISE).removesuffix(b"\n"))
 
 
 @reading

@@ -11,11 +11,12 @@ from collections import Counter
 
 import made
 from aligner import aligned
-from answer_lines import LIST_MARK, REACH_MARK, Unlawful, change_of, forgotten_of, lines_of, mark_of, row_of
+from answer_lines import (LIST_MARK, PROMISE, REACH_MARK, Unlawful, change_of, forgotten_of, lines_of, mark_of,
+                          promise_of, row_of)
 from asked import ON_THREADS, Asked
-from messages import Add, Cut, End, apply, in_one_list, in_order, is_change, sync, table_of
+from messages import Add, Cut, End, Mark, apply, in_one_list, in_order, is_change, sync, table_of
 from network import fed_in_rounds
-from network_texts import forgotten_text, rows_text
+from network_texts import forgotten_text, message_text, rows_text
 from query_reference import by_place, output_place, port_standing, query, standing
 from reference import change_text, time_text
 
@@ -27,6 +28,8 @@ def expected(read: Asked, out: bytes) -> bytes:
     try:
         if read.command == "live":
             return live(read.plan, read.fed, lines_of(out))
+        if read.command == "follow":
+            return followed(read, lines_of(out))
         if read.command == "stream" and read.fed and read.status:
             return stream_front(read.plan, read.fed, out)
         return b"" if read.status else whole_answer(read, out)
@@ -109,13 +112,19 @@ def led_to(lines: list, types: list) -> Counter:
     """The table that change lines lead to, each of which may follow behind those before it."""
     table = Counter()
     for line in lines:
-        change = change_of(line, types)
-        if change_text(change) != line:
-            raise Unlawful(f"this change is written as {change_text(change)}: {line}")
-        if isinstance(change, Cut) and not table[change.row]:
-            raise Unlawful(f"no such row is there: {line}")
-        apply(table, change)
+        take_change(table, line, types)
     return table
+
+
+def take_change(table: Counter, line: bytes, types: list):
+    """Applies the change of a line, which may follow behind those that led to the table."""
+    change = change_of(line, types)
+    if change_text(change) != line:
+        raise Unlawful(f"this change is written as {change_text(change)}: {line}")
+    if isinstance(change, Cut) and not table[change.row]:
+        raise Unlawful(f"no such row is there: {line}")
+    apply(table, change)
+    return change
 
 
 def stream_front(plan: list, fed: list, out: bytes) -> bytes:
@@ -144,6 +153,53 @@ def live(plan: list, steps: list, lines: list) -> bytes:
             source, messages = step
             lists[source] += messages
     return text
+
+
+def followed(read: Asked, lines: list) -> bytes:
+    """The changes and the guarantees that the output gives behind what it gave before. Where they are free, those that were
+    written, if they lead to what the output has then and none breaks a guarantee before it."""
+    if not read.plan:
+        return b""
+    plan, before = read.plan, fed_lists(read.plan, read.before)
+    behind = [old + new for old, new in zip(before, fed_lists(read.plan, read.fed))]
+    output = plan[output_place(plan)]
+    sources = [by_place(plan, lists).get(output.inputs[0]) for lists in (before, behind)]
+    if sources[1] is not None:
+        first, whole = (aligned(output.block, output.memory, messages)[1] for messages in sources)
+        return b"".join(map(message_text, whole[len(first) :]))
+    (rows, mark), standing_then = output_standing(plan, before), output_standing(plan, behind)
+    rows = Counter(rows)
+    for line in lines:
+        mark = take_line(rows, mark, line, output.types)
+    if (rows, mark) != standing_then:
+        raise Unlawful(f"the lines lead to the guarantee {mark} and the rows {rows_text(in_order(rows))}")
+    return b"".join(lines)
+
+
+def fed_lists(plan: list, steps: list) -> list:
+    """The messages of each source, in these steps."""
+    lists = [[] for node in plan if node.op == "source"]
+    for source, messages in steps:
+        lists[source] += messages
+    return lists
+
+
+def output_standing(plan: list, lists: list) -> tuple[Counter, int]:
+    """The rows that the output of a plan without finite memories has given, and its guarantee."""
+    output = plan[output_place(plan)]
+    return port_standing(output, output.inputs[0], by_place(plan, lists), standing(plan, lists))
+
+
+def take_line(rows: Counter, mark: int, line: bytes, types: list) -> int:
+    """Applies a line of a stream with guarantees, and answers the guarantee behind it."""
+    if line.startswith(PROMISE):
+        time = promise_of(line)
+        if time <= mark or message_text(Mark(time)) != line:
+            raise Unlawful(f"this guarantee says nothing behind {mark}: {line}")
+        return time
+    if sync(take_change(rows, line, types)) < mark:
+        raise Unlawful(f"this line breaks the guarantee {mark}: {line}")
+    return mark
 
 
 def shown_text(plan: list, lists: list, lines: list) -> bytes:

@@ -14,7 +14,8 @@ READ_FAULT = b"read fault\n"
 EMPTY = object()
 ON_SOURCES = ("serial", "run", "audit", "stream")
 ON_THREADS = ("run", "stream")
-ON_SCRIPTS = ("live", "save", "resume")
+ON_SCRIPTS = ("live", "save", "resume", "follow")
+OPERANDS = {"live": (2,), "save": (2,), "resume": (3,), "follow": (2, 3), **dict.fromkeys(ON_SOURCES, (1,))}
 FEW = re.compile("[0-9]{1,2}")
 MOST = 16
 
@@ -24,7 +25,7 @@ class Asked(NamedTuple):
 
     What is fed is for each source the list of its lines, each as the list of its messages; an empty line isn't in it.
     For `live` it is the list of the script's steps, each `?` or a source with the messages of its line. For `save` nothing is fed,
-    and the text is the checkpoint.
+    and the text is the checkpoint. For `follow` it is the steps of the good lines, and `before` those of its checkpoint.
     """
 
     command: str
@@ -33,6 +34,7 @@ class Asked(NamedTuple):
     plan: list = []
     fed: list = []
     text: bytes = b""
+    before: list = []
 
 
 def is_few(word: str) -> bool:
@@ -50,7 +52,7 @@ def read(words: list, find) -> Asked:
         return read(["serial", operands[1]], find)
     if command == "make" and len(operands) == 1 and made.is_size(operands[0]):
         return Asked(command, 0, b"", made.plan(), [made.lines(int(operands[0]), source) for source in (0, 1)])
-    if len(operands) != {"live": 2, "save": 2, "resume": 3, **dict.fromkeys(ON_SOURCES, 1)}.get(command):
+    if len(operands) not in OPERANDS.get(command, ()):
         return Asked(command, 1, USAGE)
     data = find(operands[0])
     if data is None:
@@ -87,7 +89,7 @@ def source_line(types: list):
 
 
 def read_live(plan: list, name: str, find) -> Asked:
-    return read_script(plan, name, find, [reference.Judge(node.types) for node in sources_of(plan)])
+    return read_script(plan, name, find, new_judges(plan))
 
 
 def read_script(plan: list, name: str, find, judges: list) -> Asked:
@@ -95,15 +97,14 @@ def read_script(plan: list, name: str, find, judges: list) -> Asked:
     data = find(name)
     if data is None:
         return Asked("live", 4, READ_FAULT, plan)
-    by_name = {node.name.encode(): (place, judge) for place, (node, judge) in enumerate(zip(sources_of(plan), judges))}
-    steps, told = reference.judged(data, lambda line: script_step(line, by_name))
+    steps, told = reference.judged(data, script_line(plan, judges))
     steps = [step for step in steps if step]
     return Asked("live", 3 if told else 0, f"events {name} {told}\n".encode() if told else b"", plan, steps)
 
 
 def read_saved(plan: list, name: str, find) -> Asked:
     """The checkpoint to which a script comes."""
-    judges = [reference.Judge(node.types) for node in sources_of(plan)]
+    judges = new_judges(plan)
     read_so = read_script(plan, name, find, judges)
     text = b"" if read_so.status else checkpoint_reference.text(checkpoint_reference.sources_of(plan), judges)
     return Asked("save", read_so.status, read_so.err, plan, [], text)
@@ -122,9 +123,37 @@ def read_resumed(plan: list, checkpoint: str, name: str, find) -> Asked:
     return read_so._replace(fed=before + read_so.fed)
 
 
+def read_followed(plan: list, *names) -> Asked:
+    """A script of any length, perhaps behind a checkpoint. Each faulty line is told, and changes nothing."""
+    *checkpoints, name, find = names
+    data = find(checkpoints[0]) if checkpoints else checkpoint_reference.text(checkpoint_reference.sources_of(plan), new_judges(plan))
+    if data is None:
+        return Asked("follow", 4, READ_FAULT)
+    line, judges = checkpoint_reference.read(checkpoint_reference.sources_of(plan), data)
+    if line is not None:
+        return Asked("follow", 7, f"checkpoint line {line}\n".encode())
+    data = find(name)
+    if data is None:
+        return Asked("follow", 4, READ_FAULT)
+    before = [(place, restored(judge)) for place, judge in enumerate(judges)]
+    steps, told = reference.followed(data, script_line(plan, list(map(reference.OpenJudge.behind, judges))))
+    err = "".join(f"events {name} {one}\n" for one in told).encode()
+    return Asked("follow", 3 if told else 0, err, plan, [step for step in steps if step not in ("", "?")], before=before)
+
+
 def restored(judge: reference.Judge) -> list:
     """The messages that lead to the state of a judge."""
     return [Add(row) for row in judge.rows_left()] + ([Mark(judge.mark)] if judge.mark else [])
+
+
+def new_judges(plan: list) -> list:
+    return [reference.Judge(node.types) for node in sources_of(plan)]
+
+
+def script_line(plan: list, judges: list):
+    """What a script's line is judged by, with these judges of the sources."""
+    by_name = {node.name.encode(): (place, judge) for place, (node, judge) in enumerate(zip(sources_of(plan), judges))}
+    return lambda line: script_step(line, by_name)
 
 
 def script_step(line: bytes, judges: dict):
@@ -139,4 +168,4 @@ def script_step(line: bytes, judges: dict):
     return source, judge.take_event(event)
 
 
-READERS = {"live": read_live, "save": read_saved, "resume": read_resumed}
+READERS = {"live": read_live, "save": read_saved, "resume": read_resumed, "follow": read_followed}

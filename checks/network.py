@@ -70,7 +70,7 @@ class Network:
         self.waiting = {(place, port): deque() for place, node in enumerate(plan) for port in range(len(node.inputs))}
         self.sources = [place for place, node in enumerate(plan) if node.op == "source"]
         self.output = next(place for place, node in enumerate(plan) if node.op == "output")
-        self.changes = []
+        self.given = []
 
     def feed(self, source: int, messages: list) -> None:
         """Messages of a source wait on each port that reads it."""
@@ -83,7 +83,7 @@ class Network:
             sent = self.working[place].take(port, self.waiting[waiting].popleft())
             self.send(place, sent)
             if place == self.output:
-                self.changes += [one for one in sent if is_change(one)]
+                self.given += sent
 
     def next_waiting(self):
         """The first node with a message that waits, in the order of the plan, and its first port with one."""
@@ -94,6 +94,11 @@ class Network:
             for port, input_place in enumerate(node.node.inputs):
                 if input_place == place:
                     self.waiting[reader, port].extend(messages)
+
+    @property
+    def changes(self) -> list:
+        """The changes among what the output gave."""
+        return [one for one in self.given if is_change(one)]
 
     def answer(self) -> list:
         return in_order(self.working[self.output].table)

@@ -289,7 +289,8 @@ NO_COMMAND = [["run"], ["serial"], ["audit"], ["stream"], ["live"], ["make"], ["
               ["pool", "plan.json", "3"], ["pool", "3", "plan.json", "x"], ["Pool", "3", "plan.json"],
               ["run", "3", "plan.json"], *(["pool", word, "plan.json"] for word in NO_POOLS), ["parts"], ["parts", "3"],
               ["parts", "plan.json"], ["parts", "plan.json", "3"], ["parts", "3", "plan.json", "x"],
-              *(["parts", word, "plan.json"] for word in NO_POOLS)]
+              *(["parts", word, "plan.json"] for word in NO_POOLS), ["follow"], ["follow", "plan.json"],
+              ["follow", "plan.json", "c.txt", "x.txt", "x"]]
 
 
 def asking(name: str, command: str):

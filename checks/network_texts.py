@@ -2,6 +2,7 @@
 import asked
 import made
 from network import Network, fed_in_rounds, fed_on_threads
+from messages import Mark, is_change
 from reference import change_text, row_text, time_text
 
 
@@ -12,6 +13,8 @@ def answer(words: list, find) -> tuple[int, bytes, bytes]:
         return read.status, read.text, read.err
     if read.command == "live":
         return read.status, live(read.plan, read.fed), read.err
+    if read.command == "follow":
+        return read.status, follow(read.plan, read.before, read.fed), read.err
     if read.status:
         return read.status, b"", read.err
     network = (fed_on_threads if read.command in asked.ON_THREADS else fed_in_rounds)(read.plan, read.fed)
@@ -58,6 +61,26 @@ def live(plan: list, steps: list) -> bytes:
             network.feed(*step)
             network.settle()
     return text
+
+
+def follow(plan: list, before: list, steps: list) -> bytes:
+    """What the output gives for these steps, behind what it gave before."""
+    network = Network(plan) if plan else None
+    for step in before:
+        network.feed(*step)
+        network.settle()
+    first = len(network.given) if network else 0
+    for step in steps:
+        network.feed(*step)
+        network.settle()
+    return b"".join(map(message_text, network.given[first:])) if network else b""
+
+
+def message_text(message) -> bytes:
+    """The line of a change or of a guarantee. An end has none."""
+    if is_change(message):
+        return change_text(message)
+    return b"=,%s\n" % time_text(message.time).encode() if isinstance(message, Mark) else b""
 
 
 TEXTS = {"serial": result, "run": result, "audit": audit, "stream": stream, "make": summary}

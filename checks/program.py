@@ -10,7 +10,8 @@ from typing import NamedTuple
 SHOWN = 5
 SECONDS = 60
 USAGE = (b"usage: cedr history FILE | check PLAN | serial PLAN | run PLAN | stream PLAN | audit PLAN | "
-         b"live PLAN SCRIPT | make N | pool N PLAN | parts N PLAN | save PLAN SCRIPT | resume PLAN CHECKPOINT SCRIPT\n")
+         b"live PLAN SCRIPT | make N | pool N PLAN | parts N PLAN | save PLAN SCRIPT | resume PLAN CHECKPOINT SCRIPT | "
+         b"follow PLAN SCRIPT | follow PLAN CHECKPOINT SCRIPT\n")
 
 
 ROOT = Path(__file__).resolve().parent.parent

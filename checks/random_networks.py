@@ -155,12 +155,12 @@ def remembering_network(rng: random.Random) -> dict:
             return files
 
 
-def source_makers(rng: random.Random, sources: list) -> list:
+def source_makers(rng: random.Random, sources: list, maker: type = SourceFile) -> list:
     """A maker of lines for each source, with few values and with times in one range, which may be the last there is."""
     span = rng.choice([8, 20, 40])
     base = rng.choice([0] * 7 + [FOREVER - 2 * span])
     values = {"text": rng.choices(TEXTS, k=3), "int": rng.choices(NUMBERS, k=3)}
-    return [SourceFile(rng, node.types, span, base, values) for node in sources]
+    return [maker(rng, node.types, span, base, values) for node in sources]
 
 
 def small_answer(plan: list, contents: list):

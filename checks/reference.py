@@ -41,6 +41,18 @@ def judged(data: bytes, take) -> tuple[list, str]:
     return answers, ""
 
 
+def followed(data: bytes, take) -> tuple[list, list]:
+    """What `take` answers for each good line of a script of any size, and what is told of each faulty one."""
+    *lines, rest = data.split(b"\n")
+    answers, told = [], []
+    for number, line in enumerate([*lines, rest] if rest else lines, 1):
+        try:
+            answers.append(take(line))
+        except Fault as fault:
+            told.append(f"line {number} fault {fault.number}{fault.carried}")
+    return answers, told
+
+
 class Judge:
     """The events, which are by id, and the guarantee that the lines of a source leave.
 
@@ -126,6 +138,26 @@ class Judge:
 
     def rows_left(self) -> list:
         return [row for row in self.events.values() if row.begin < row.end]
+
+
+class OpenJudge(Judge):
+    """A judge that forgets the events that are over: after a guarantee that rose, those that end below it."""
+
+    @classmethod
+    def behind(cls, judge: Judge) -> "OpenJudge":
+        """One that goes on from what another one has come to."""
+        made = cls(judge.types)
+        made.events, made.mark = dict(judge.events), judge.mark
+        made.forget()
+        return made
+
+    def promise(self, time: int) -> list:
+        messages = super().promise(time)
+        self.forget()
+        return messages
+
+    def forget(self) -> None:
+        self.events = {identity: row for identity, row in self.events.items() if row.end >= self.mark}
 
 
 def without_return(line: bytes) -> bytes:
