@@ -1,4 +1,4 @@
-ghost use Rattle.std.specs.Prelude.{◌≡◌, true, map};
+ghost use Rattle.std.specs.Prelude.{◌≡◌, ◌≢◌, true, map, codes};
 ghost use Rattle.std.specs.String.{string_bytes};
 ghost use Rattle.cedr_commands.specs.Commands.{IsAlone};
 
@@ -86,13 +86,35 @@ fn goes_on(words: &[String]) -> bool {
     }
 }
 
-/// Whether the words match none of `run PLAN`, `stream PLAN` and `pool N PLAN`, whatever N is.
+/// Whether a command with one word behind it isn't one on threads.
+fn is_alone_with_one(command: &str) -> bool
+    ensures { result ≡ true → (command.now ≢ codes "run") × (command.now ≢ codes "stream") }
+{
+    command != "run" && command != "stream"
+}
+
+/// Whether a command with two words behind it is neither one on threads, whatever the first word is, nor one that follows a script.
+fn is_alone_with_two(command: &str) -> bool
+    ensures { result ≡ true → (command.now ≢ codes "pool") × (command.now ≢ codes "follow") }
+{
+    command != "pool" && command != "follow"
+}
+
+/// Whether a command with three words behind it isn't one that follows a script.
+fn is_alone_with_three(command: &str) -> bool
+    ensures { result ≡ true → command.now ≢ codes "follow" }
+{
+    command != "follow"
+}
+
+/// Whether the words match none of `run PLAN`, `stream PLAN`, `pool N PLAN`, whatever N is, and `follow PLAN .. SCRIPT`.
 fn is_alone(words: &[String]) -> bool
     ensures { result ≡ true → IsAlone (map string_bytes words.now) }
 {
     match words {
-        [command, _] => command.as_str() != "run" && command.as_str() != "stream",
-        [command, _, _] => command.as_str() != "pool",
+        [command, _] => is_alone_with_one(command),
+        [command, _, _] => is_alone_with_two(command),
+        [command, _, _, _] => is_alone_with_three(command),
         _ => true,
     }
 }
